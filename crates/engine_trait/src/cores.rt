@@ -1,0 +1,150 @@
+ghost use Rattle.std.specs.Prelude.{◌≡◌, ◌%◌, ◌<◌, ◌≤◌, IfOk, length};
+ghost use Rattle.std.specs.List.{All};
+ghost use Rattle.tag_memory.specs.Ram.{IsPlace, ram_bytes};
+ghost use Rattle.turn_steps.specs.Effects.{IsSound};
+ghost use Rattle.turn_steps.specs.Looks.{looked};
+ghost use Rattle.turn_steps.specs.Services.{args_on};
+ghost use Rattle.engine_trait.specs.Machine.{CoreState, fresh_core, hart_at, stop_at, stopping};
+ghost use Rattle.engine_trait.specs.Runs.{is_ready};
+ghost use Rattle.engine_trait.specs.Turn.{carried_at, core_effected, core_served, end_of};
+
+use crate::ends::{Stop, TurnEnd};
+use policy_trait::{Answer, Args, Outs};
+use rv_step::Fault;
+use std::marker::Model;
+use tag_memory::{Hart, Ram};
+use turn_steps::{Done, Feed, Look, answer_to, arguments_of, carry_out, look_ahead, write_words};
+
+/// Harts, their stops, and memory, for any type of tags: what every engine stands on. Contracts see it as a `CoreState`.
+#[derive(Drop)]
+pub struct Core<T: Copy> {
+    harts: Vec<Hart<T>>,
+    stops: [Option<Stop>; 8],
+    ram: Ram<T>,
+}
+
+impl<T: Copy> Model for Core<T> {
+    ghost use Rattle.engine_trait.specs.Machine.{CoreState, IsCore};
+
+    ghost Value = { CoreState T };
+
+    ghost view = { λ c. record { harts = c.harts.items; stops = c.stops; ram = c.ram } };
+
+    ghost invariant = { λ c. IsCore (record { harts = c.harts.items; stops = c.stops; ram = c.ram }) };
+}
+
+impl<T: Copy> Core<T> {
+    /// These harts over this memory, none stopped.
+    pub fn new(ram: Ram<T>, harts: Vec<Hart<T>>) -> Core<T>
+        requires { length harts.items ≤ 8 }
+        ensures { result ≡ fresh_core harts.items ram }
+    {
+        Core {
+            harts,
+            stops: [None; 8],
+            ram,
+        }
+    }
+
+    /// How many harts there are, at most 8.
+    pub fn harts(&self) -> u32
+        ensures harts { result ≡ length self.now.harts }
+        ensures few { result ≤ 8 }
+    {
+        self.harts.len() as u32
+    }
+
+    /// Memory.
+    pub fn ram(&self) -> &Ram<T>
+        ensures { result.now ≡ self.now.ram }
+    {
+        &self.ram
+    }
+
+    /// The hart of this number.
+    pub fn hart(&self, h: u32) -> &Hart<T>
+        requires { h < length self.now.harts }
+        ensures { result.now ≡ hart_at self.now h }
+    {
+        &self.harts[h as usize]
+    }
+
+    /// Why the hart stopped, if it did.
+    pub fn stop(&self, h: u32) -> Option<Stop>
+        requires { h < length self.now.harts }
+        ensures { result ≡ stop_at self.now h }
+    {
+        let _harts = &self.harts;
+        self.stops[h as usize]
+    }
+
+    /// What the hart is about to do, or the first of the checks that fails.
+    pub fn look(&self, h: u32) -> Result<Look<T>, Fault>
+        requires { h < length self.now.harts }
+        ensures value { result ≡ looked (hart_at self.now h) self.now.ram }
+        ensures safe { IfOk result (λ look. IsSound (ram_bytes self.now.ram) look.effect) }
+    {
+        look_ahead(&self.harts[h as usize], &self.ram)
+    }
+
+    /// Carries out an instruction that the checks and the rule allowed.
+    #[tactic(auto, unfolding(crate::specs::Turn::core_effected, crate::specs::Turn::carried_at))]
+    pub fn effect(&mut self, h: u32, feed: &mut Feed, look: &Look<T>, outs: Outs<T>) -> TurnEnd
+        requires hart { h < length self.old.harts }
+        requires safe { IsSound (ram_bytes self.old.ram) look.now.effect }
+        ensures core { self.new ≡ core_effected self.old feed.old h look.now outs }
+        ensures feed { feed.new ≡ (carried_at self.old feed.old h look.now outs).feed }
+        ensures end { result ≡ end_of (carried_at self.old feed.old h look.now outs).done }
+        ensures harts { length self.new.harts ≡ length self.old.harts }
+        ensures bytes { ram_bytes self.new.ram ≡ ram_bytes self.old.ram }
+    {
+        match carry_out(&mut self.harts[h as usize], &mut self.ram, feed, look, outs) {
+            Done::Ran(byte) => TurnEnd::Ran(byte),
+            Done::Broke => TurnEnd::Break,
+            Done::Exited(code) => {
+                self.stops[h as usize] = Some(Stop::Exit(code));
+                TurnEnd::Stopped(Stop::Exit(code))
+            }
+        }
+    }
+
+    /// Stops the hart, and changes nothing else.
+    pub fn stop_hart(&mut self, h: u32, why: Stop)
+        requires { h < length self.old.harts }
+        ensures { self.new ≡ stopping self.old h why }
+    {
+        let _harts = &self.harts;
+        self.stops[h as usize] = Some(why);
+    }
+
+    /// What a policy's service is asked with by this hart.
+    pub fn arguments(&self, h: u32) -> Args<T>
+        requires { h < length self.now.harts }
+        ensures { result ≡ args_on (hart_at self.now h) self.now.ram }
+    {
+        arguments_of(&self.harts[h as usize], &self.ram)
+    }
+
+    /// Carries out a policy's service that nothing refused: the words of its range, its answer, and the next pc.
+    #[tactic(auto, unfolding(crate::specs::Turn::core_served))]
+    pub fn serve(
+        &mut self,
+        h: u32,
+        words: &[(u32, u32, T)],
+        answer: Option<Answer<T>>,
+        next: u32,
+        pc_tag: T,
+    )
+        requires hart { h < length self.old.harts }
+        requires places { All (λ word. IsPlace (ram_bytes self.old.ram) word.0) words.now }
+        requires aligned { next % 4 ≡ 0 }
+        ensures core { self.new ≡ core_served self.old h words.now answer next pc_tag }
+        ensures harts { length self.new.harts ≡ length self.old.harts }
+        ensures bytes { ram_bytes self.new.ram ≡ ram_bytes self.old.ram }
+    {
+        write_words(&mut self.ram, words);
+        let hart = &mut self.harts[h as usize];
+        answer_to(hart, answer);
+        hart.set_pc(next, pc_tag);
+    }
+}

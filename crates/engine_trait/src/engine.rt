@@ -1,0 +1,101 @@
+ghost use Rattle.std.specs.Prelude.{◌≡◌, ◌+◌, ◌%◌, ◌<◌, ◌≤◌, IfOk, length};
+ghost use Rattle.tag_memory.specs.Hart.{reg_tag, reg_value};
+ghost use Rattle.tag_memory.specs.Ram.{ram_bytes, ram_tag, ram_word};
+ghost use Rattle.engine_trait.specs.Machine.{hart_at, stop_at};
+ghost use Rattle.engine_trait.specs.Standing.{Turns, counts_of};
+
+use crate::ends::{Counts, LoadEnd, Stop, TurnEnd};
+use policy_trait::Policy;
+use turn_steps::Feed;
+
+/// A machine that runs. `standing` is what it is: a machine by the definitions, and its account.
+pub trait Engine {
+    ghost use Rattle.engine_trait.specs.Standing.{Standing};
+
+    type P: Policy;
+
+    ghost standing: { Self → Standing Self.P Self.P.Tag };
+
+    /// One turn of hart `h`: fetch, checks, rule, service and effect together.
+    fn turn(&mut self, h: u32, feed: &mut Feed) -> TurnEnd
+        requires { h < length (standing self.old).machine.core.harts }
+        ensures turns { Turns Self.P.model (standing self.old) feed.old h result (standing self.new) feed.new }
+        ensures harts { length (standing self.new).machine.core.harts ≡ length (standing self.old).machine.core.harts }
+        ensures ram { ram_bytes (standing self.new).machine.core.ram ≡ ram_bytes (standing self.old).machine.core.ram };
+
+    /// How many harts there are, 1 to 8.
+    fn harts(&self) -> u32
+        ensures harts { result ≡ length (standing self.now).machine.core.harts }
+        ensures few { result ≤ 8 };
+
+    /// The bytes of memory.
+    fn ram(&self) -> u32
+        ensures ram { result ≡ ram_bytes (standing self.now).machine.core.ram }
+        ensures whole { result % 4 ≡ 0 }
+        ensures few { result ≤ 16777216 };
+
+    /// The value of register `r` of hart `h`.
+    fn reg(&self, h: u32, r: u32) -> u32
+        requires hart { h < length (standing self.now).machine.core.harts }
+        requires register { r < 32 }
+        ensures { result ≡ reg_value (hart_at (standing self.now).machine.core h) r };
+
+    /// The tag of register `r` of hart `h`.
+    fn reg_tag(&self, h: u32, r: u32) -> <Self::P as Policy>::Tag
+        requires hart { h < length (standing self.now).machine.core.harts }
+        requires register { r < 32 }
+        ensures { result ≡ reg_tag (hart_at (standing self.now).machine.core h) r };
+
+    /// The pc of hart `h`, a multiple of 4.
+    fn pc(&self, h: u32) -> u32
+        requires { h < length (standing self.now).machine.core.harts }
+        ensures pc { result ≡ (hart_at (standing self.now).machine.core h).pc }
+        ensures aligned { result % 4 ≡ 0 };
+
+    /// The tag of the pc of hart `h`.
+    fn pc_tag(&self, h: u32) -> <Self::P as Policy>::Tag
+        requires { h < length (standing self.now).machine.core.harts }
+        ensures { result ≡ (hart_at (standing self.now).machine.core h).pc_tag };
+
+    /// The word at `address`.
+    fn word(&self, address: u32) -> u32
+        requires aligned { address % 4 ≡ 0 }
+        requires within { address + 4 ≤ ram_bytes (standing self.now).machine.core.ram }
+        ensures { result ≡ ram_word (standing self.now).machine.core.ram address };
+
+    /// The tag of the word at `address`.
+    fn word_tag(&self, address: u32) -> <Self::P as Policy>::Tag
+        requires aligned { address % 4 ≡ 0 }
+        requires within { address + 4 ≤ ram_bytes (standing self.now).machine.core.ram }
+        ensures { result ≡ ram_tag (standing self.now).machine.core.ram address };
+
+    /// Why hart `h` stopped, `None` where it is ready.
+    fn stop(&self, h: u32) -> Option<Stop>
+        requires { h < length (standing self.now).machine.core.harts }
+        ensures { result ≡ stop_at (standing self.now).machine.core h };
+
+    /// Whether the engine as a whole is stopped, for want of memory or of tag words.
+    fn stopped(&self) -> bool
+        ensures { result ≡ (standing self.now).account.out };
+
+    /// The policy.
+    fn policy(&self) -> &Self::P
+        ensures { result.now ≡ (standing self.now).machine.policy };
+
+    /// How many turns, hits and misses there were.
+    fn counts(&self) -> Counts
+        ensures { result ≡ counts_of (standing self.now).account };
+}
+
+/// A start that can be made again and again.
+pub trait Loader {
+    ghost use Rattle.engine_trait.specs.Standing.{Standing};
+
+    type E: Engine;
+
+    ghost start: { Self → Standing Self.E.P Self.E.P.Tag };
+
+    /// An engine at the start.
+    fn load(&self) -> Result<Self::E, LoadEnd>
+        ensures { IfOk result (λ engine. Self.E.standing engine ≡ start self.now) };
+}

@@ -1,0 +1,14 @@
+//! The machine and its turn, and what an engine and a loader promise.
+//!
+//! The definitions (`specs/`) are those of the whole project: the state of a machine, one turn of one hart, events, and
+//! runs along any list of harts. An engine's turn is the defined turn; a loader gives the defined start.
+#![tactic(auto)]
+
+mod cores;
+mod ends;
+mod engine;
+
+pub use cores::Core;
+pub use ends::{Counts, LoadEnd, Stop, TurnEnd};
+pub use engine::{Engine, Loader};
+pub use turn_steps::Feed;

@@ -1,0 +1,4 @@
+pub mod Fronts
+pub mod HeldLemmas
+pub mod Reading
+pub mod Supplies

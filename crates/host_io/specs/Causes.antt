@@ -1,0 +1,41 @@
+-- Counts of faults, and which answers raise them.
+use Rattle.std.specs.Prelude.{◌≡◌, ℕ, ◌+◌, ◌-◌, ◌^◌, ◌≤◌, min, List, Result, Ok, Err}
+use Rattle.host_io.specs.declared.traits.sink.PutEnd.{PutEnd}
+use Rattle.host_io.specs.declared.traits.sink.PutEnd.TheVariants as put_end
+use Rattle.host_io.specs.declared.traits.files.LoadFile.{LoadFile}
+use Rattle.host_io.specs.declared.traits.files.LoadFile.TheVariants as load_file
+use Rattle.host_io.specs.declared.traits.source.Failed.{Failed}
+
+-- A count of this project, one later: it is a `u64` that stands still at its largest value.
+abbrev pub count_after : ℕ → ℕ
+count_after n = min (n + 1) (2 ^ 64 - 1)
+
+-- A count did not fall, and it rose unless it stands still.
+pub record Rose (before now : ℕ) : Type 0 where
+  pub kept : before ≤ now
+  pub raised : count_after before ≤ now
+
+-- A sink's count rises where a put failed, and every other answer leaves it.
+abbrev pub PutCause : {T : Type 0} → ℕ → ℕ → Result T PutEnd → Type 0
+PutCause before now (Ok _) = now ≡ before
+PutCause before now (Err put_end.Failed) = Rose before now
+PutCause before now (Err put_end.Memory) = now ≡ before
+
+-- A source's count rises where a read failed, and every other answer leaves it.
+abbrev pub ReadCause : {T : Type 0} → ℕ → ℕ → Result T Failed → Type 0
+ReadCause before now (Ok _) = now ≡ before
+ReadCause before now (Err _) = Rose before now
+
+-- The count of a name's faults rose, and no name's fell.
+pub record RoseAt (before now : List ℕ → ℕ) (name : List ℕ) : Type 0 where
+  pub own : Rose (before name) (now name)
+  pub others : (other : List ℕ) → before other ≤ now other
+
+-- The count of the name's faults rises where a load failed, and every other answer leaves all
+-- counts.
+abbrev pub LoadCause : {T : Type 0} →
+    (List ℕ → ℕ) → (List ℕ → ℕ) → List ℕ → Result T LoadFile → Type 0
+LoadCause before now name (Ok _) = now ≡ before
+LoadCause before now name (Err load_file.Failed) = RoseAt before now name
+LoadCause before now name (Err load_file.TooLong) = now ≡ before
+LoadCause before now name (Err load_file.Memory) = now ≡ before

@@ -1,0 +1,10 @@
+// The outside in memory: with calls that are to fail, and without any fault.
+
+mod fault_plan;
+mod held_files;
+pub mod mem_files;
+pub mod mem_sink;
+pub mod mem_source;
+pub mod sure_files;
+pub mod sure_sink;
+pub mod sure_source;

@@ -1,0 +1,114 @@
+// A source in memory whose chosen reads fail.
+ghost use Rattle.std.specs.Prelude.{◌≡◌, ◌≢◌, ◌↔◌, ◌<◌, ◌++◌, min, length, take, drop, IsTrue, Some, Ok, IsErr, IfOk, OnErr};
+ghost use Rattle.host_io.specs.Causes.{ReadCause};
+ghost use Rattle.host_io.specs.FaultPlan.{fresh_plan, fails_next, plan_after};
+ghost use Rattle.host_io.specs.Memory.{IsNumberedRead};
+ghost use Rattle.host_io.specs.Supply.{Open, left_in, is_closed, closed-left};
+
+use super::fault_plan::FaultPlan;
+use super::sure_source::SureSource;
+use crate::{Failed, Source};
+use std::marker::Model;
+
+/// A source over bytes in memory. Its reads into buffers that have room, up to the one that tells
+/// the end, are numbered from 0, and those of the given numbers fail.
+#[derive(Drop)]
+pub struct MemSource {
+    source: SureSource,
+    plan: FaultPlan,
+}
+
+impl Model for MemSource {
+    ghost use Rattle.host_io.specs.Memory.{PlannedSource};
+
+    ghost Value = { PlannedSource };
+
+    ghost view = { λ s. record { supply = s.source; plan = s.plan } };
+}
+
+impl MemSource {
+    /// A source that has these bytes to give, and whose reads of the numbers `fails` are to fail.
+    pub fn new(bytes: Vec<u8>, fails: Vec<u64>) -> MemSource
+        ensures supply { result.supply ≡ Open bytes.items }
+        ensures plan { result.plan ≡ fresh_plan fails.items }
+    {
+        MemSource {
+            source: SureSource::new(bytes),
+            plan: FaultPlan::new(fails),
+        }
+    }
+
+    /// The bytes left.
+    pub fn left(&self) -> &[u8]
+        ensures { result.now ≡ left_in self.now.supply }
+    {
+        self.source.left()
+    }
+
+    /// Whether the end was told.
+    pub fn is_closed(&self) -> bool
+        ensures { result ≡ is_closed self.now.supply }
+    {
+        self.source.is_closed()
+    }
+
+    /// The number of the next read that may fail.
+    pub fn next_call(&self) -> u64
+        ensures { result ≡ self.now.plan.next }
+    {
+        self.plan.next_call()
+    }
+
+    /// How many reads failed so far.
+    pub fn faults(&self) -> u64
+        ensures { result ≡ self.now.plan.faults }
+    {
+        self.plan.faults()
+    }
+}
+
+impl Source for MemSource {
+    ghost left = { λ source. Some (left_in source.supply) };
+
+    ghost closed = { λ source. is_closed source.supply };
+
+    ghost faults = { λ source. source.plan.faults };
+
+    ghost closed_at_end = { λ source. closed-left source.supply };
+
+    fn read(&mut self, buffer: &mut [u8]) -> Result<usize, Failed>
+        // As many first bytes as there is room for are moved, and the other places of the buffer
+        // stay.
+        ensures count { IfOk result (λ n.
+            n ≡ min (length buffer.old) (length (left_in self.old.supply))) }
+        ensures moved { IfOk result (λ n.
+            left_in self.old.supply ≡ take n buffer.new ++ left_in self.new.supply) }
+        ensures others { IfOk result (λ n. drop n buffer.new ≡ drop n buffer.old) }
+
+        // The answer of no byte to a buffer with room closes it, and nothing else does or undoes
+        // it.
+        ensures closes { result ≡ Ok 0 →
+            0 < length buffer.old → IsTrue (is_closed self.new.supply) }
+        ensures stays { result ≢ Ok 0 → is_closed self.new.supply ≡ is_closed self.old.supply }
+        ensures at_end { IsTrue (is_closed self.old.supply) →
+            (result ≡ Ok 0) × (self.new ≡ self.old) }
+        ensures no_room { length buffer.old ≡ 0 → (result ≡ Ok 0) × (self.new ≡ self.old) }
+
+        // The numbered reads fail exactly where that was planned, and then leave the bytes and the
+        // buffer as they were.
+        ensures planned { IsErr result ↔
+            (IsNumberedRead (length buffer.old) self.old.supply ×
+            IsTrue (fails_next self.old.plan)) }
+        ensures numbered { IsNumberedRead (length buffer.old) self.old.supply →
+            self.new.plan ≡ plan_after self.old.plan }
+        ensures kept { OnErr result (self.new.supply ≡ self.old.supply) }
+        ensures untouched { OnErr result (buffer.new ≡ buffer.old) }
+        ensures cause { ReadCause self.old.plan.faults self.new.plan.faults result }
+    {
+        let numbered = !buffer.is_empty() && !self.source.is_closed();
+        if numbered && self.plan.take_call() {
+            return Err(Failed);
+        }
+        self.source.read(buffer)
+    }
+}

@@ -1,0 +1,231 @@
+// The implementations in memory on small cases, and the adapters over std on what a test can reach.
+ghost use Rattle.std.specs.Prelude.{IfOk};
+ghost use Rattle.host_io.specs.Held.{files_of, AreNamesDistinct};
+
+use crate::{
+    Failed, Files, LoadFile, MemFiles, MemSink, MemSource, PutEnd, Sink, Source, StdFiles, StdSink,
+    StdSource, SureFiles, SureSink, SureSource,
+};
+use std::alloc::{AllocError, Global};
+use std::io::{Read, Write};
+use std::process::Abort;
+use std::test::Fail;
+use std::{env, fs, io, process};
+
+// The second put of a piece that has bytes fails.
+#[test]
+fn mem_sink_fails_where_planned(rt: HostRuntime) -> Result<(), Fail> {
+    let mut sink = MemSink::new(rt.alloc(), vec![in rt.alloc(); 1]?);
+    let puts = [
+        ("ab", Ok(())),
+        ("", Ok(())),
+        ("cd", Err(PutEnd::Failed)),
+        ("e", Ok(())),
+    ];
+    for (piece, answer) in puts {
+        assert_eq!(rt; sink.put(piece.as_bytes()), answer, "at {piece}");
+    }
+    assert_eq!(rt; sink.bytes(), b"abe".as_slice());
+    assert_eq!(rt; sink.next_call(), 3);
+    assert_eq!(rt; sink.faults(), 1);
+    Ok(())
+}
+
+#[test]
+fn sure_sink_takes_all(rt: HostRuntime) -> Result<(), Fail> {
+    let mut sink = SureSink::new(rt.alloc());
+    for piece in ["ab", "", "c"] {
+        assert_eq!(rt; sink.put(piece.as_bytes()), Ok(()), "at {piece}");
+    }
+    assert_eq!(rt; sink.bytes(), b"abc".as_slice());
+    Ok(())
+}
+
+// Each read is into a buffer of dashes, of the length of the text that it makes of them.
+fn check_reads<S: Source>(
+    rt: &(impl Abort + AllocGlobal),
+    source: &mut S,
+    reads: &[(Result<usize, Failed>, &str)],
+) -> Result<(), AllocError> {
+    for (answer, after) in reads {
+        let mut buffer = vec![in rt.alloc(); b'-'; after.len()]?;
+        assert_eq!(rt; source.read(&mut buffer), *answer, "at {after}");
+        assert_eq!(rt; buffer.as_slice(), after.as_bytes());
+    }
+    Ok(())
+}
+
+// The second read that may fail does.
+#[test]
+fn mem_source_is_read_in_pieces(rt: HostRuntime) -> Result<(), Fail> {
+    let mut source = MemSource::new(b"abcde".to_vec(rt.alloc())?, vec![in rt.alloc(); 1]?);
+    let reads = [
+        (Ok(2), "ab"),
+        (Ok(0), ""),
+        (Err(Failed), "---"),
+        (Ok(3), "cde-"),
+        (Ok(0), "-"),
+        (Ok(0), "--"),
+    ];
+    check_reads(&rt, &mut source, &reads)?;
+    assert_eq!(rt; source.left(), b"".as_slice());
+    assert!(rt; source.is_closed());
+    assert_eq!(rt; source.next_call(), 4);
+    assert_eq!(rt; source.faults(), 1);
+    Ok(())
+}
+
+#[test]
+fn sure_source_is_read_in_pieces(rt: HostRuntime) -> Result<(), Fail> {
+    let mut source = SureSource::new(b"abc".to_vec(rt.alloc())?);
+    check_reads(&rt, &mut source, &[(Ok(2), "ab"), (Ok(0), "")])?;
+    assert_eq!(rt; source.left(), b"c".as_slice());
+    check_reads(
+        &rt,
+        &mut source,
+        &[(Ok(1), "c-"), (Ok(0), "-"), (Ok(0), "-")],
+    )?;
+    assert!(rt; source.is_closed());
+    Ok(())
+}
+
+// Each load is of the name, within the limit.
+fn check_loads<F: Files>(
+    rt: &(impl Abort + AllocGlobal),
+    files: &mut F,
+    loads: &[(&str, usize, Result<&str, LoadFile>)],
+) {
+    for (name, limit, answer) in loads {
+        let loaded = files.load(rt.alloc(), name, *limit);
+        match (loaded, answer) {
+            (Ok(bytes), Ok(text)) => assert_eq!(rt; bytes.as_slice(), text.as_bytes(), "at {name}"),
+            (Err(end), Err(wanted)) => assert_eq!(rt; end, *wanted, "at {name}"),
+            (_, _) => assert!(rt; false, "at {name}"),
+        }
+    }
+}
+
+fn two_files(alloc: Global) -> Result<Vec<(String, Vec<u8>)>, AllocError>
+    ensures { IfOk result (λ files. AreNamesDistinct (files_of files.items)) }
+{
+    let hello = (String::from_str(alloc, "hello")?, b"A\n".to_vec(alloc)?);
+    let other = (String::from_str(alloc, "other")?, b"B".to_vec(alloc)?);
+    Ok(vec![in alloc; hello, other]?)
+}
+
+// The second load fails, and so does that of a name that isn't held.
+#[test]
+fn mem_files_fail_where_planned(rt: HostRuntime) -> Result<(), Fail> {
+    let mut files = MemFiles::new(rt.alloc(), two_files(rt.alloc())?, vec![in rt.alloc(); 1]?);
+    let loads = [
+        ("hello", 2, Ok("A\n")),
+        ("hello", 2, Err(LoadFile::Failed)),
+        ("hello", 1, Err(LoadFile::TooLong)),
+        ("hell", 2, Err(LoadFile::Failed)),
+        ("other", 3, Ok("B")),
+    ];
+    check_loads(&rt, &mut files, &loads);
+    assert_eq!(rt; files.next_call(), 5);
+    assert_eq!(rt; files.faults(), 2);
+    Ok(())
+}
+
+#[test]
+fn sure_files_hold_every_name(rt: HostRuntime) -> Result<(), Fail> {
+    let mut files = SureFiles::new(rt.alloc(), two_files(rt.alloc())?);
+    let loads = [
+        ("hello", 2, Ok("A\n")),
+        ("hello", 1, Err(LoadFile::TooLong)),
+        ("hell", 0, Ok("")),
+    ];
+    check_loads(&rt, &mut files, &loads);
+    assert_eq!(rt; files.calls(), 3);
+    Ok(())
+}
+
+// A reader that is broken.
+#[derive(Drop)]
+struct Broken;
+
+impl Read for Broken {
+    fn read(&mut self, _buf: &mut [u8]) -> io::Result<usize> {
+        Err(io::Error::from(io::ErrorKind::BrokenPipe))
+    }
+}
+
+#[test]
+fn std_source_tells_an_error(rt: HostRuntime) -> Result<(), Fail> {
+    let mut source = StdSource::new(Broken);
+    assert_eq!(rt; source.read(&mut []), Ok(0));
+    assert_eq!(rt; source.read(&mut [0u8]), Err(Failed));
+    assert_eq!(rt; source.read(&mut [0u8]), Err(Failed));
+    assert_eq!(rt; source.faults(), 2);
+    Ok(())
+}
+
+// A writer that has no room left.
+#[derive(Drop)]
+struct Full;
+
+impl Write for Full {
+    fn write(&mut self, _buf: &[u8]) -> io::Result<usize> {
+        Ok(0)
+    }
+
+    fn flush(&mut self) -> io::Result<()> {
+        Ok(())
+    }
+}
+
+// A writer that takes nothing of a piece that has bytes is a fault.
+#[test]
+fn std_sink_puts_on_a_writer(rt: HostRuntime) -> Result<(), Fail> {
+    let mut full = StdSink::new(Full);
+    assert_eq!(rt; full.put(b""), Ok(()));
+    assert_eq!(rt; full.put(b"a"), Err(PutEnd::Failed));
+    assert_eq!(rt; full.faults(), 1);
+    let mut out = StdSink::new(rt.stdout());
+    assert_eq!(rt; out.put(b"a put on standard output\n"), Ok(()));
+    let mut err = StdSink::new(rt.stderr());
+    assert_eq!(rt; err.put(b"a put on standard error\n"), Ok(()));
+    assert_eq!(rt; out.faults(), 0);
+    assert_eq!(rt; err.faults(), 0);
+    Ok(())
+}
+
+// What is put on a file of the system is read and loaded from there.
+#[test]
+fn std_adapters_share_a_file(rt: HostRuntime) -> Result<(), Fail> {
+    let id = process::id(rt.process());
+    let name = format!(in rt.alloc(); "host_io_test_{id}")?;
+    let path = env::temp_dir(&rt)?.join(rt.alloc(), name.as_str())?;
+    let mut sink = StdSink::new(fs::create(&rt, path.as_path())?);
+    assert_eq!(rt; sink.put(b"ab"), Ok(()));
+    assert_eq!(rt; sink.put(b"c"), Ok(()));
+
+    let mut source = StdSource::new(fs::open(&rt, path.as_path())?);
+    check_reads(
+        &rt,
+        &mut source,
+        &[
+            (Ok(2), "ab"),
+            (Ok(0), ""),
+            (Ok(1), "c-"),
+            (Ok(0), "-"),
+            (Ok(0), "-"),
+        ],
+    )?;
+    assert_eq!(rt; source.faults(), 0);
+
+    let mut files = StdFiles::new(rt);
+    let loads = [
+        (path.as_str(), 3, Ok("abc")),
+        (path.as_str(), 2, Err(LoadFile::TooLong)),
+        ("no such file", 3, Err(LoadFile::Failed)),
+    ];
+    check_loads(&rt, &mut files, &loads);
+    assert_eq!(rt; files.calls(), 3);
+    assert_eq!(rt; files.faults(), 1);
+    fs::remove_file(&rt, path.as_path())?;
+    Ok(())
+}

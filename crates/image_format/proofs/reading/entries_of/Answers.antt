@@ -1,0 +1,18 @@
+use Rattle.std.proofs.lemmas.Result.{err_from_is_err_and}
+use Rattle.image_format.specs.Conditions.{is_place}
+use Rattle.image_format.specs.Reading.{field_at, entries_at}
+use Rattle.image_format.proofs.LoopLaws.{goes_on, refuses, is_done}
+use Rattle.image_format.proofs.reading.entries_of.Goals as goal
+
+pub returns-in_err-entry : goal.returns-in_err-entry
+returns-in_err-entry c =
+    let p = err_from_is_err_and c.from_residual-in_err-entry.result c.from_residual-in_err-entry.ensures.1 in
+    rw (p.1, p.2) (refuses c.in_err-entry.field-0.0 (field_at c.args.size 5 (is_place c.args.sizes.ram)) c.loop.entries.items c.args.sizes.harts c.loop.counter c.loop.rest.now (entries_at c.args.size c.args.sizes c.args.bytes.now) c.loop-test.true c.in_err-entry.ensures c.loop.invariant)
+
+pub loop-preserved : goal.loop-preserved
+loop-preserved c =
+    rw c.in_ok-push.ensures.items (goes_on (field_at c.args.size 5 (is_place c.args.sizes.ram)) c.loop.entries.items c.args.sizes.harts c.loop.counter c.loop.rest.now _ c.in_ok-entry.entry (entries_at c.args.size c.args.sizes c.args.bytes.now) c.loop-test.true c.in_ok-entry.ensures c.loop.invariant)
+
+pub returns : goal.returns
+returns c =
+    is_done (field_at c.args.size 5 (is_place c.args.sizes.ram)) c.loop.entries.items c.args.sizes.harts c.loop.counter c.loop.rest.now (entries_at c.args.size c.args.sizes c.args.bytes.now) c.loop-test.false c.loop.invariant

@@ -1,0 +1,99 @@
+//! The whole file, read from its first byte to its last.
+
+ghost use Rattle.std.specs.Prelude.{IfOk};
+ghost use Rattle.image_format.specs.Picture.{Picture};
+ghost use Rattle.image_format.specs.Spelling.{IsFileOf};
+ghost use Rattle.image_format.specs.Reading.{Gives, sizes_at, entries_at, image_of};
+
+use crate::faults::{Fault, ReadEnd};
+use crate::fields::{harts_of, heap_base_of, heap_bytes_of, opening_of, place_of, ram_of};
+use crate::image::Image;
+use crate::lists::{Bounds, list_of};
+use crate::room::room_for;
+use crate::rows::{CompartmentRange, Edge, Label, WordRange};
+use crate::segments::segment_list_of;
+use crate::sizes::Sizes;
+use std::alloc::Global;
+
+/// The sizes behind the version.
+#[tactic(auto, unfolding(crate::specs::Reading::sizes_at))]
+fn sizes_of(size: usize, bytes: &[u8]) -> Result<(Sizes, &[u8]), ReadEnd>
+    ensures { Gives (λ x. (x.0, x.1.now)) result (sizes_at size bytes.now) }
+{
+    let (harts, rest) = harts_of(size, bytes)?;
+    let (ram, rest) = ram_of(size, rest)?;
+    let (heap_base, rest) = heap_base_of(size, ram, rest)?;
+    let (heap_bytes, rest) = heap_bytes_of(size, ram, heap_base, rest)?;
+    let sizes = Sizes {
+        harts,
+        ram,
+        heap_base,
+        heap_bytes,
+    };
+    Ok((sizes, rest))
+}
+
+/// One entry for each hart.
+fn entries_of(
+    alloc: Global,
+    sizes: Sizes,
+    size: usize,
+    bytes: &[u8],
+) -> Result<(Vec<u32>, &[u8]), ReadEnd>
+    ensures { Gives (λ x. (x.0.items, x.1.now)) result (entries_at size sizes bytes.now) }
+{
+    let mut entries = room_for(alloc, sizes.harts as usize, size_of::<u32>(), bytes.len())?;
+    let mut rest = bytes;
+    for _ in 0..sizes.harts {
+        let (entry, after) = place_of(5, size, sizes.ram, rest)?;
+        entries.push(entry)?;
+        rest = after;
+    }
+    Ok((entries, rest))
+}
+
+/// The image up to the first condition that fails.
+#[tactic(auto, unfolding(crate::specs::Reading::image_of, crate::specs::Reading::picture_at, crate::specs::Reading::lists_at))]
+fn image_in(alloc: Global, bytes: &[u8]) -> Result<Image, ReadEnd>
+    ensures { Gives (λ image. image) result (image_of bytes.now) }
+{
+    let size = bytes.len();
+    let rest = opening_of(size, bytes)?;
+    let (sizes, rest) = sizes_of(size, rest)?;
+    let (entries, rest) = entries_of(alloc, sizes, size, rest)?;
+    let bounds = Bounds {
+        size,
+        ram: sizes.ram,
+    };
+    let (segments, rest) = segment_list_of(alloc, bounds, rest)?;
+    let (code, rest) = list_of::<WordRange>(alloc, 2, bounds, rest)?;
+    let (labels, rest) = list_of::<Label>(alloc, 3, bounds, rest)?;
+    let (edges, rest) = list_of::<Edge>(alloc, 4, bounds, rest)?;
+    let (compartments, rest) = list_of::<CompartmentRange>(alloc, 5, bounds, rest)?;
+    if !rest.is_empty() {
+        return Err(ReadEnd::Bad(Fault::Trailing(size.saturating_sub(rest.len()))));
+    }
+    Ok(Image {
+        ram: sizes.ram,
+        heap_base: sizes.heap_base,
+        heap_bytes: sizes.heap_bytes,
+        entries,
+        segments,
+        code,
+        labels,
+        edges,
+        compartments,
+    })
+}
+
+/// The image whose file the bytes are, or the first condition that they fail.
+pub(crate) fn read_whole(alloc: Global, bytes: &[u8]) -> Result<Image, ReadEnd>
+    // What is read is an image, and the bytes are its file.
+    ensures found { IfOk result (λ g. IsFileOf bytes.now g) }
+    // The file of an image is read, unless memory runs out.
+    ensures only { (g : Picture) → IsFileOf bytes.now g → Gives (λ image. image) result (Ok g) }
+    // Other bytes are refused by the first condition that they fail.
+    ensures exact { Gives (λ image. image) result (image_of bytes.now) }
+{
+    image_in(alloc, bytes)
+}

@@ -1,0 +1,147 @@
+//! The segments of an image, kept as one list of words and a list of where each begins and ends in it.
+
+ghost use Rattle.std.specs.Prelude.{◌≡◌, ◌<◌, length, slice_index_or};
+ghost use Rattle.std.specs.Int.{w32};
+ghost use Rattle.image_format.specs.Reading.{Gives, number_at, times, with_front, range_behind_at, segment_at, rows_at, list_at};
+
+use crate::faults::{Fault, ReadEnd};
+use crate::fields::number_of;
+use crate::lists::{Bounds, in_place, range_of};
+use crate::room::room_for;
+use crate::rows::WordRange;
+use std::alloc::Global;
+use std::marker::Model;
+
+/// A segment's address, and where its words lie among those of all segments.
+#[derive(Clone, Copy, Debug)]
+struct Extent {
+    address: u32,
+    first: u32,
+    words: u32,
+}
+
+/// The segments of the first list.
+#[derive(Debug, Drop)]
+pub(crate) struct Segments {
+    extents: Vec<Extent>,
+    contents: Vec<u32>,
+}
+
+impl Model for Segments {
+    ghost use Rattle.std.specs.Prelude.{List, map, All};
+    ghost use Rattle.image_format.specs.Picture.{Segment};
+
+    ghost Value = { List Segment };
+
+    ghost use Rattle.image_format.specs.Parts.{part_of, EndsWithin};
+
+    ghost view = { λ s. map (part_of s.contents.items) s.extents.items };
+
+    ghost invariant = { λ s. All (EndsWithin s.contents.items) s.extents.items };
+}
+
+impl Segments {
+    ghost use Rattle.image_format.specs.Picture.{no_segment};
+
+    /// How many segments there are.
+    pub fn count(&self) -> usize
+        ensures { result ≡ length self.now }
+    {
+        self.extents.len()
+    }
+
+    /// The address of a segment.
+    pub fn address(&self, i: usize) -> u32
+        requires { i < length self.now }
+        ensures { result ≡ (slice_index_or self.now i no_segment).address }
+    {
+        self.extents[i].address
+    }
+
+    /// The words of a segment.
+    pub fn words(&self, i: usize) -> &[u32]
+        requires { i < length self.now }
+        ensures { result.now ≡ (slice_index_or self.now i no_segment).words }
+    {
+        let extent = self.extents[i];
+        let first = extent.first as usize;
+        &self.contents[first..first + extent.words as usize]
+    }
+}
+
+/// Where the words of the next segment lie, in order behind those of the one before it.
+#[tactic(auto, unfolding(crate::specs::Reading::range_behind_at))]
+fn range_behind(
+    row: u32,
+    before: Option<WordRange>,
+    bounds: Bounds,
+    bytes: &[u8],
+) -> Result<(WordRange, &[u8]), ReadEnd>
+    ensures { Gives (λ x. (x.0, x.1.now)) result (range_behind_at bounds.size bounds.ram row before bytes.now) }
+{
+    let (range, rest) = range_of(6, bounds, bytes)?;
+    if !in_place(range, before) {
+        return Err(ReadEnd::Bad(Fault::Order(1, row)));
+    }
+    Ok((range, rest))
+}
+
+/// Adds that many words to the others: what stands behind them.
+fn words_of<'a>(
+    contents: &mut Vec<u32>,
+    count: u32,
+    size: usize,
+    bytes: &'a [u8],
+) -> Result<&'a [u8], ReadEnd>
+    ensures { Gives (λ rest. (contents.new.items, rest.now)) result (with_front contents.old.items (times count (number_at w32 size) bytes.now)) }
+{
+    let mut rest = bytes;
+    for _ in 0..count {
+        let (word, after) = number_of(size, rest)?;
+        contents.push(word)?;
+        rest = after;
+    }
+    Ok(rest)
+}
+
+/// That many segments, one behind the other.
+fn segments_of(
+    alloc: Global,
+    count: u32,
+    bounds: Bounds,
+    bytes: &[u8],
+) -> Result<(Segments, &[u8]), ReadEnd>
+    ensures { Gives (λ x. (x.0, x.1.now)) result (rows_at count (segment_at bounds.size bounds.ram) bytes.now) }
+{
+    // A row takes at least the bytes of an extent, and the words of all rows together lie in the RAM.
+    let most_words = bounds.ram as usize / 4;
+    let mut extents = room_for(alloc, count as usize, size_of::<Extent>(), bytes.len())?;
+    let mut contents = room_for(alloc, most_words, size_of::<u32>(), bytes.len())?;
+    let mut before = None;
+    let mut rest = bytes;
+    for row in 0..count {
+        let (range, after) = range_behind(row, before, bounds, rest)?;
+        let first = contents.len() as u32;
+        rest = words_of(&mut contents, range.words, bounds.size, after)?;
+        extents.push(Extent {
+            address: range.address,
+            first,
+            words: range.words,
+        })?;
+        before = Some(range);
+    }
+    Ok((Segments { extents, contents }, rest))
+}
+
+/// The first list: a count, and that many segments.
+#[tactic(auto, unfolding(crate::specs::Reading::list_at))]
+pub(crate) fn segment_list_of(
+    alloc: Global,
+    bounds: Bounds,
+    bytes: &[u8],
+) -> Result<(Segments, &[u8]), ReadEnd>
+    ensures { Gives (λ x. (x.0, x.1.now)) result (list_at bounds.size (segment_at bounds.size bounds.ram) bytes.now) }
+{
+    let (count, rest) = number_of(bounds.size, bytes)?;
+    segments_of(alloc, count, bounds, rest)
+}

@@ -1,0 +1,109 @@
+ghost use Rattle.std.specs.Prelude.{◌≡◌, ◌+◌, ◌*◌, ◌%◌, ◌<◌, ◌≤◌, Ok, IfErr, IfOk, if◌then◌else◌};
+ghost use Rattle.std.specs.List.{All};
+ghost use Rattle.policy_trait.specs.Laws.{IsRange};
+ghost use Rattle.policy_trait.specs.Model.{CanPlan, IsGiven};
+ghost use Rattle.tag_memory.specs.Ram.{IsPlace};
+ghost use Rattle.monitor_calls.specs.Service.{retagged, served, tag_or_end};
+ghost use Rattle.monitor_calls.specs.Ends.{EndsAs, job_by};
+
+use crate::view::View;
+use policy_trait::{Args, Plan, PlanEnd, Policy, Refused, Words};
+use std::alloc::{AllocError, Global};
+
+/// What a service will do when it is carried out: its plan, and each word of the plan's range, ascending, as address,
+/// new value and new tag.
+#[derive(Drop)]
+pub struct Served<T: Drop> {
+    pub plan: Plan<T>,
+    pub words: Vec<(u32, u32, T)>,
+}
+
+/// Why a service was not served.
+#[derive(Clone, Copy, PartialEq, Eq)]
+pub enum ServeEnd {
+    /// A policy refused the plan or a word of its range.
+    Refused(Refused),
+    /// The service has used up its numbers.
+    Spent,
+    /// Memory ran out.
+    Memory,
+}
+
+/// Plans the service and asks for the new tag of each word of the plan's range, in ascending order. Nothing changes.
+#[tactic(auto, unfolding(crate::specs::Service::served))]
+pub fn serve<P: Policy, W: View<Tag = P::Tag>>(
+    alloc: Global,
+    policy: &P,
+    number: u32,
+    arguments: &Args<P::Tag>,
+    pc: P::Tag,
+    view: &W,
+) -> Result<Served<P::Tag>, ServeEnd>
+    requires can { CanPlan P.model policy.now number arguments.now }
+    requires bytes { W.bytes_of view.now ≡ arguments.now.ram }
+
+    // The service, up to its effect. A refusal is the first one.
+    ensures ok { IfOk result (λ v. served P.model policy.now (W.word_at view.now) (W.tag_at view.now) number arguments.now pc ≡ Ok (job_by v.plan v.words.items)) }
+    ensures err { IfErr result (λ e. EndsAs e (served P.model policy.now (W.word_at view.now) (W.tag_at view.now) number arguments.now pc)) }
+
+    // It can be carried out: each word is in memory, and the policy can take note of the plan.
+    ensures places { IfOk result (λ v. All (λ word. IsPlace (W.bytes_of view.now) word.0) v.words.items) }
+    ensures given { IfOk result (λ v. IsGiven P.model policy.now v.plan) }
+{
+    let _bytes = view.bytes();
+    let _plain = policy.plain();
+    let plan = match policy.plan(number, arguments, pc) {
+        Ok(plan) => plan,
+        Err(PlanEnd::Refused(refused)) => return Err(ServeEnd::Refused(refused)),
+        Err(PlanEnd::Spent) => return Err(ServeEnd::Spent),
+    };
+    let words = match plan.range {
+        None => Vec::new(alloc),
+        Some(range) => match retag_words(alloc, policy, &plan, range, view) {
+            Ok(words) => words,
+            Err(end) => return Err(end),
+        },
+    };
+    Ok(Served { plan, words })
+}
+
+/// Each word of the range with its new value and its new tag.
+fn retag_words<P: Policy, W: View<Tag = P::Tag>>(
+    alloc: Global,
+    policy: &P,
+    plan: &Plan<P::Tag>,
+    range: Words,
+    view: &W,
+) -> Result<Vec<(u32, u32, P::Tag)>, ServeEnd>
+    requires given { IsGiven P.model policy.now plan.now }
+    requires range { IsRange (W.bytes_of view.now) range }
+    ensures ok { IfOk result (λ words. retagged P.model policy.now (W.word_at view.now) (W.tag_at view.now) plan.now range.base range.count ≡ Ok words.items) }
+    ensures err { IfErr result (λ e. EndsAs e (retagged P.model policy.now (W.word_at view.now) (W.tag_at view.now) plan.now range.base range.count)) }
+    ensures places { IfOk result (λ words. All (λ word. IsPlace (W.bytes_of view.now) word.0) words.items) }
+{
+    let _bytes = view.bytes();
+    let mut words = Vec::new(alloc);
+    for place in 0..range.count {
+        let address = range.base + 4 * place;
+        let tag = match policy.retag(plan, view.tag(address)) {
+            Ok(tag) => tag,
+            Err(refused) => return Err(ServeEnd::Refused(refused)),
+        };
+        let value = new_value(view, plan.zero, address);
+        let Ok(()) = words.push((address, value, tag)) else {
+            return Err(ServeEnd::Memory);
+        };
+    }
+    Ok(words)
+}
+
+/// The new value of the word at `address`: 0 in a range that becomes 0, else the old one.
+fn new_value<W: View>(view: &W, zero: bool, address: u32) -> u32
+    requires { IsPlace (W.bytes_of view.now) address }
+    ensures { result ≡ (if zero then 0 else W.word_at view.now address) }
+{
+    if zero {
+        return 0;
+    }
+    view.word(address)
+}

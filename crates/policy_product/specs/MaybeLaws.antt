@@ -1,0 +1,167 @@
+-- A policy that may be off keeps the laws that the policy keeps.
+use Rattle.std.proofs.Common.{◌≡◌, ℕ, ◌≤◌, Bool, true, false, Option, Some, None, Result, Ok, Err, IsTrue, refl, sym, ap, ◌∙◌, subst, if◌then◌else◌}
+use Rattle.std.specs.Option.{ForSome}
+use Rattle.rv_decode.specs.declared.groups.Group.{Group}
+use Rattle.policy_trait.specs.Laws.{IsRange, KeepsLaws, KeepsValue, SameRules}
+use Rattle.policy_trait.specs.Model.{CanPlan, IsGiven, PolicyModel, masked}
+use Rattle.policy_trait.specs.declared.rules.Ins.{Ins}
+use Rattle.policy_trait.specs.declared.rules.Mask.{Mask}
+use Rattle.policy_trait.specs.declared.services.Answer.{Answer}
+use Rattle.policy_trait.specs.declared.services.Args.{Args}
+use Rattle.policy_trait.specs.declared.services.Plan.{Plan}
+use Rattle.policy_trait.specs.declared.services.PlanEnd.{PlanEnd}
+use Rattle.policy_trait.specs.declared.services.Words.{Words}
+use Rattle.policy_product.specs.Maps.{answer_by, args_by, ins_by, ok_by, outs_by, plan_by}
+use Rattle.policy_product.specs.Maybe.{HoldsIn, MaybeHolds, commit_in, ignores_in, knows_in, maybe, plain_in, plan_in, read_by, rule_in, some_tag, tag_or}
+use Rattle.policy_product.specs.declared.maybe.Maybe.{Maybe}
+
+-- a plan put on and read again is the plan
+answer_again : {T : Type 0} (plain : T) (x : Option (Answer T)) → answer_by (tag_or plain) (answer_by some_tag x) ≡ x
+answer_again plain None = refl
+answer_again plain (Some x) = refl
+
+pub plan_again : {T : Type 0} (plain : T) (p : Plan T) → plan_by (tag_or plain) (plan_by some_tag p) ≡ p
+plan_again plain p = ap (λ x. record p { answer = x }) (answer_again plain p.answer)
+
+-- a plan that came is that of the policy, put on
+pub record FromPart {T : Type 0} (r : Result (Plan T) PlanEnd) (p : Plan (Option T)) : Type 0 where
+  pub plan : Plan T
+  pub given : r ≡ Ok plan
+  pub put_on : plan_by some_tag plan ≡ p
+
+pub from_part : {T : Type 0} (r : Result (Plan T) PlanEnd) (p : Plan (Option T)) → ok_by (plan_by some_tag) r ≡ Ok p → FromPart r p
+from_part (Ok plan) p e = record { plan = plan; given = refl; put_on = cc }
+from_part (Err end) p e = absurd (let h : Err end ≡ Ok p = e in cc)
+
+module _ {T S : Type 0} (m : PolicyModel T S) (holds : S → Type 0) (laws : KeepsLaws m holds) where
+  abbrev planned : S → ℕ → Args (Option T) → Option T → Result (Plan T) PlanEnd
+  planned s k a pc = m.plan s k (args_by (read_by m s) a) (read_by m s pc)
+
+  -- a given plan, read, is one that the policy gives
+  given_in : (s : S) (k : ℕ) (a : Args (Option T)) (pc : Option T) (p : Plan (Option T)) → IsTrue (m.knows s k) → m.room s ≤ a.ram
+      → FromPart (planned s k a pc) p → k ≡ p.service → IsGiven m s (plan_by (read_by m s) p)
+  given_in s k a pc p known room from is =
+      let again : plan_by (read_by m s) p ≡ from.plan = ap (plan_by (read_by m s)) (sym from.put_on) ∙ plan_again (m.plain s) from.plan in
+      record {
+        arguments = args_by (read_by m s) a;
+        pc = read_by m s pc;
+        can = record { known = subst (λ n. IsTrue (m.knows s n)) is known; room = room };
+        given = ap (λ n. m.plan s n (args_by (read_by m s) a) (read_by m s pc)) (sym is) ∙ from.given ∙ ap (λ q. given_as q) (sym again);
+      }
+    where
+      given_as : Plan T → Result (Plan T) PlanEnd
+      given_as q = Ok q
+
+  pub on_given : (s : S) (p : Plan (Option T)) → IsGiven (maybe m) (record { part = Some s }) p → IsGiven m s (plan_by (read_by m s) p)
+  on_given s p given =
+      given_in s p.service given.arguments given.pc p given.can.known given.can.room (from_part (planned s p.service given.arguments given.pc) p given.given) refl
+
+  -- the same, where the part is said to be on
+  pub on_given_at : (state : Maybe S) (s : S) (p : Plan (Option T)) → state.part ≡ Some s → IsGiven (maybe m) state p → IsGiven m s (plan_by (read_by m s) p)
+  on_given_at state s p on given = on_given s p (subst (λ (part : Option S). IsGiven (maybe m) (record { part = part }) p) on given)
+
+  -- law by law, by whether the policy is on
+  read_masked : (ignored : Bool) (plain : T) (t : Option T) → tag_or plain (if ignored then Some plain else t) ≡ (if ignored then plain else tag_or plain t)
+  read_masked true plain t = refl
+  read_masked false plain t = refl
+
+  inputs_masked : (mask : Mask) (plain : T) (x : Ins (Option T)) → ins_by (tag_or plain) (masked mask (Some plain) x) ≡ masked mask plain (ins_by (tag_or plain) x)
+  inputs_masked mask plain x = λ i. record {
+    pc = read_masked mask.pc plain x.pc i;
+    ci = read_masked mask.ci plain x.ci i;
+    t1 = read_masked mask.t1 plain x.t1 i;
+    t2 = read_masked mask.t2 plain x.t2 i;
+    tm = read_masked mask.tm plain x.tm i;
+  }
+
+  rule_masked : (part : Option S) (g : Group) (x : Ins (Option T)) → rule_in m part g x ≡ rule_in m part g (masked (ignores_in m part g) (plain_in m part) x)
+  rule_masked None g x = refl
+  rule_masked (Some s) g x =
+      ap (ok_by (outs_by some_tag))
+      (laws.masks s g (ins_by (read_by m s) x) ∙ ap (m.rule s g) (sym (inputs_masked (m.ignores s g) (m.plain s) x)))
+
+  same_off : SameRules (maybe m) (record { part = None }) (record { part = None })
+  same_off = record {
+    plain = refl;
+    rule = λ g x. refl;
+    ignores = λ g. refl;
+    knows = λ k. refl;
+    uses = λ k. refl;
+    lend = λ t. refl;
+    room = refl;
+    wipe = λ pc old. refl;
+    start_pc = λ b. refl;
+    start_word = λ b. refl;
+    text = λ t. refl;
+  }
+
+  same_on : (s n : S) → SameRules m s n → SameRules (maybe m) (record { part = Some s }) (record { part = Some n })
+  same_on s n same = record {
+    plain = ap some_tag same.plain;
+    rule = λ g x. ap (ok_by (outs_by some_tag)) (ap (λ plain. m.rule n g (ins_by (tag_or plain) x)) same.plain ∙ same.rule g (ins_by (read_by m s) x));
+    ignores = same.ignores;
+    knows = same.knows;
+    uses = same.uses;
+    lend = λ t. ap (λ plain. m.lend n (tag_or plain t)) same.plain ∙ same.lend (read_by m s t);
+    room = same.room;
+    wipe = λ pc old. ap (ok_by some_tag) (ap (λ plain. m.wipe n (tag_or plain pc) (tag_or plain old)) same.plain ∙ same.wipe (read_by m s pc) (read_by m s old));
+    start_pc = λ b. ap some_tag (same.start_pc b);
+    start_word = λ b. ap some_tag (same.start_word b);
+    text = λ t. ap (λ plain. m.text n (tag_or plain t)) same.plain ∙ same.text (read_by m s t);
+  }
+
+  keeps : (part : Option S) (p : Plan (Option T)) → IsGiven (maybe m) (record { part = part }) p
+      → SameRules (maybe m) (record { part = part }) (record { part = commit_in m part p })
+  keeps None p given = same_off
+  keeps (Some s) p given = same_on s (m.commit s (plan_by (read_by m s) p)) (laws.keeps s (plan_by (read_by m s) p) (on_given s p given))
+
+  stays : (part : Option S) (p : Plan (Option T)) → IsGiven (maybe m) (record { part = part }) p → HoldsIn holds part → HoldsIn holds (commit_in m part p)
+  stays None p given held = tt
+  stays (Some s) p given held = laws.stays s (plan_by (read_by m s) p) (on_given s p given) held
+
+  off_knows : {P : Type 0} → false ≡ true → P
+  off_knows e = cc
+
+  ranges : (part : Option S) (k : ℕ) (a : Args (Option T)) (pc : Option T) (p : Plan (Option T)) → CanPlan (maybe m) (record { part = part }) k a → HoldsIn holds part
+      → plan_in m part k a pc ≡ Ok p → ForSome p.range (IsRange a.ram)
+  ranges None k a pc p can held e = off_knows can.known
+  ranges (Some s) k a pc p can held e =
+      let from : FromPart (planned s k a pc) p = from_part (planned s k a pc) p e in
+      subst (λ (range : Option Words). ForSome range (IsRange a.ram)) (ap (λ (q : Plan (Option T)). q.range) from.put_on)
+      (laws.ranges s k (args_by (read_by m s) a) (read_by m s pc) from.plan (record { known = can.known; room = can.room }) held from.given)
+
+  service : (part : Option S) (k : ℕ) (a : Args (Option T)) (pc : Option T) (p : Plan (Option T)) → IsTrue (knows_in m part k)
+      → plan_in m part k a pc ≡ Ok p → p.service ≡ k
+  service None k a pc p known e = off_knows known
+  service (Some s) k a pc p known e =
+      let from : FromPart (planned s k a pc) p = from_part (planned s k a pc) p e in
+      ap (λ (q : Plan (Option T)). q.service) (sym from.put_on) ∙ laws.service s k (args_by (read_by m s) a) (read_by m s pc) from.plan known from.given
+
+  -- an answer put on keeps the value
+  value_by : (a : Args T) (b : Args (Option T)) (answer : Option (Answer T)) → a.a0 ≡ b.a0 → ForSome answer (KeepsValue a) → ForSome (answer_by some_tag answer) (KeepsValue b)
+  value_by a b None same all = λ x e. absurd (let h : None ≡ Some x = e in cc)
+  value_by a b (Some y) same all = λ x e as_a0.
+      ap (λ (z : Answer (Option T)). z.value) (sym (some_is (record { value = y.value; tag = Some y.tag; rest = y.rest }) x e))
+      ∙ all y refl (ap (λ (z : Answer (Option T)). z.rest) (some_is (record { value = y.value; tag = Some y.tag; rest = y.rest }) x e) ∙ as_a0)
+      ∙ same
+    where
+      some_is : (x y : Answer (Option T)) → Some x ≡ Some y → x ≡ y
+      some_is x y e = cc
+
+  value : (part : Option S) (k : ℕ) (a : Args (Option T)) (pc : Option T) (p : Plan (Option T)) → IsTrue (knows_in m part k)
+      → plan_in m part k a pc ≡ Ok p → ForSome p.answer (KeepsValue a)
+  value None k a pc p known e = off_knows known
+  value (Some s) k a pc p known e =
+      let from : FromPart (planned s k a pc) p = from_part (planned s k a pc) p e in
+      subst (λ (answer : Option (Answer (Option T))). ForSome answer (KeepsValue a)) (ap (λ (q : Plan (Option T)). q.answer) from.put_on)
+      (value_by (args_by (read_by m s) a) a from.plan.answer refl (laws.value s k (args_by (read_by m s) a) (read_by m s pc) from.plan known from.given))
+
+  pub maybe_laws : KeepsLaws (maybe m) (MaybeHolds holds)
+  maybe_laws = record {
+    masks = λ s g x. rule_masked s.part g x;
+    keeps = λ s p given. keeps s.part p given;
+    stays = λ s p given held. stays s.part p given held;
+    ranges = λ s k a pc p can held e. ranges s.part k a pc p can held e;
+    service = λ s k a pc p known e. service s.part k a pc p known e;
+    value = λ s k a pc p known e. value s.part k a pc p known e;
+  }

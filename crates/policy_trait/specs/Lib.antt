@@ -1,0 +1,4 @@
+pub mod Laws
+pub mod LawsLemmas
+pub mod Model
+pub mod Steps

@@ -1,0 +1,15 @@
+//! What a policy is: the types that pass between a machine and its policy, the trait `Policy`, and its laws.
+//!
+//! A machine asks its policy at each turn for the rule of the instruction's group and five tags, and for the services
+//! that the policy offers by `ecall`. The whole meaning of a policy is one record of functions, `PolicyModel`.
+#![tactic(auto)]
+
+mod birth;
+mod policy;
+mod rules;
+mod services;
+
+pub use birth::Birth;
+pub use policy::Policy;
+pub use rules::{Ins, Mask, Outs, Part, Refused, Why};
+pub use services::{Answer, Args, Plan, PlanEnd, Rest, Words};

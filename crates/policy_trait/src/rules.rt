@@ -1,0 +1,78 @@
+use rv_decode::Group;
+
+/// The tags that a rule is asked with: of the pc, of the instruction's word, of the two operands, and of the memory
+/// word. An operand that the instruction does not have is the policy's plain tag.
+#[derive(Clone, Copy, PartialEq, Eq)]
+pub struct Ins<T> {
+    /// The tag of the pc.
+    pub pc: T,
+    /// The tag of the word that holds the instruction ("current instruction").
+    pub ci: T,
+    /// The tag of the first operand.
+    pub t1: T,
+    /// The tag of the second operand.
+    pub t2: T,
+    /// The tag of the memory word that holds the access.
+    pub tm: T,
+}
+
+/// The tags that an allowed rule gives.
+#[derive(Clone, Copy, PartialEq, Eq)]
+pub struct Outs<T> {
+    /// The next tag of the pc.
+    pub pc: T,
+    /// The tag of the result: of the register or of the memory word that is written.
+    pub result: T,
+}
+
+/// Which inputs of a rule a group ignores.
+#[derive(Clone, Copy, PartialEq, Eq)]
+pub struct Mask {
+    /// Whether the pc's tag is ignored; the others likewise.
+    pub pc: bool,
+    pub ci: bool,
+    pub t1: bool,
+    pub t2: bool,
+    pub tm: bool,
+}
+
+/// The four policies that can be chosen, in canonical order.
+#[derive(Clone, Copy, PartialEq, Eq)]
+pub enum Part {
+    /// Dynamic sealing.
+    Seal,
+    /// Compartments.
+    Comp,
+    /// Control-flow integrity.
+    Flow,
+    /// Heap memory safety.
+    Heap,
+}
+
+/// Why a policy refuses.
+#[derive(Clone, Copy, PartialEq, Eq)]
+pub enum Why {
+    /// The rule of this group does not allow the tags.
+    Rule(Group),
+    /// A service's arguments do not have the tags that it needs.
+    Args,
+    /// A service's range is not one of whole words within memory.
+    Range,
+    /// A word of a service's range is not the caller's.
+    NotOwner,
+    /// A sealed value and a key that is not its key.
+    WrongKey,
+    /// A pointer that is not that of a live block.
+    NotLive,
+    /// Another policy does not lend an argument to the service.
+    Lend,
+    /// Another policy does not consent to a word's zeroing.
+    Consent,
+}
+
+/// A refusal: which policy, and why.
+#[derive(Clone, Copy, PartialEq, Eq)]
+pub struct Refused {
+    pub part: Part,
+    pub why: Why,
+}

@@ -1,0 +1,10 @@
+pub mod Asked
+pub mod Causes
+pub mod Codes
+pub mod Command
+pub mod Endings
+pub mod Follows
+pub mod Kinds
+pub mod Program
+pub mod Texts
+pub mod Writes

@@ -1,0 +1,5 @@
+pub mod Numbers
+pub mod Same
+pub mod TextLaws
+pub mod Texts
+pub mod Words

@@ -1,0 +1,15 @@
+-- The texts that are written onto a line, as lists of ASCII codes.
+use Rattle.std.specs.Prelude.{ℕ, ◌-◌, ◌*◌, ◌/◌, ◌%◌, ◌^◌, List, map, codes, slice_index}
+use Rattle.std.specs.List.{range_with_len}
+
+-- one hexadecimal digit, in upper case
+abbrev pub hex_digit : ℕ → ℕ
+hex_digit n = slice_index (codes "0123456789ABCDEF") n
+
+-- digit k of a word's eight hexadecimal digits, counted from the high end
+abbrev pub hex_digit_of : ℕ → ℕ → ℕ
+hex_digit_of word k = hex_digit (word / 2 ^ (28 - 4 * k) % 16)
+
+-- a word as eight hexadecimal digits
+abbrev pub hex8_text : ℕ → List ℕ
+hex8_text word = map (hex_digit_of word) (range_with_len 0 8)

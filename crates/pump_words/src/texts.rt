@@ -1,0 +1,56 @@
+//! Writers that append text to a line.
+
+ghost use Rattle.std.specs.Prelude.{◌≡◌, ◌+◌, ◌≤◌, ◌++◌, length, min};
+ghost use Rattle.std.specs.Fmt.{decimal};
+ghost use Rattle.std.specs.Str.Parse.{digits_value};
+ghost use Rattle.arrayvec.specs.ArrayVec.{array_vec_len};
+ghost use Rattle.pump_words.specs.Texts.{hex8_text};
+
+use arrayvec::ArrayVec;
+
+/// A line of text in ASCII, of at most 512 bytes.
+pub type Line = ArrayVec<u8, 512>;
+
+const HEX_DIGITS: &[u8; 16] = b"0123456789ABCDEF";
+
+/// Appends a text.
+pub fn write_text(line: &mut Line, text: &[u8])
+    requires room { array_vec_len line.old + length text.now ≤ 512 }
+    ensures text { line.new.items ≡ line.old.items ++ text.now }
+    ensures len { array_vec_len line.new ≡ array_vec_len line.old + length text.now }
+{
+    for byte in text {
+        line.push(*byte);
+    }
+}
+
+/// Appends a word as eight hexadecimal digits in upper case.
+#[tactic(auto, using(crate::proofs::TextLemmas::digits_so_far))]
+pub fn hex8(line: &mut Line, word: u32)
+    requires room { array_vec_len line.old + 8 ≤ 512 }
+    ensures text { line.new.items ≡ line.old.items ++ hex8_text word }
+    ensures value { digits_value 16 (hex8_text word) ≡ word }
+    ensures len { array_vec_len line.new ≡ array_vec_len line.old + 8 }
+{
+    for k in 0..8u32 {
+        line.push(HEX_DIGITS[((word >> (28 - 4 * k)) % 16) as usize]);
+    }
+}
+
+/// Appends a number in decimal, with no zero in front.
+///
+/// There must be room for the text; room for 20 bytes is enough for every number.
+#[tactic(auto, using(crate::proofs::TextLemmas::decimals))]
+pub fn dec(line: &mut Line, number: u64)
+    requires room { array_vec_len line.old + min 20 (length (decimal number)) ≤ 512 }
+    ensures text { line.new.items ≡ line.old.items ++ decimal number }
+    ensures len { array_vec_len line.new ≡ array_vec_len line.old + length (decimal number) }
+    ensures short { length (decimal number) ≤ 20 }
+{
+    if number < 10 {
+        line.push(b'0' + number as u8);
+    } else {
+        dec(line, number / 10);
+        line.push(b'0' + (number % 10) as u8);
+    }
+}

@@ -1,0 +1,5 @@
+pub mod Decoding
+pub mod Fields
+pub mod Formats
+pub mod Groups
+pub mod Table

@@ -1,0 +1,149 @@
+//! Words whose instructions are known from outside: from LLVM's assembler, and from the ISA's lists of
+//! reserved encodings.
+
+ghost use Rattle.std.specs.Prelude.{◌<◌};
+
+use crate::{
+    BranchOffset, FenceWord, Group, Immediate, Instr, JumpOffset, Reads, Register, ShiftAmount,
+    Slot, UpperImmediate, decode, encode,
+};
+use std::process::Abort;
+
+fn x(number: u32) -> Register
+    requires { number < 32 }
+{
+    Register::of_bits(number)
+}
+
+fn reads_and_writes(rt: &impl Abort, word: u32, instr: Instr) {
+    assert!(rt; decode(word) == Some(instr), "reading {word}");
+    assert_eq!(rt; encode(&instr), word, "writing {word}");
+}
+
+#[test]
+fn words_with_long_immediates(rt: HostRuntime) {
+    // lui x5, 0xABCDE
+    let rd = x(5);
+    let imm = UpperImmediate::of_bits(0xABCDE);
+    reads_and_writes(&rt, 0xABCD_E2B7, Instr::Lui { rd, imm });
+    // jal x5, -4 and jal x5, 1048574
+    let imm = JumpOffset::of_bits(0x1F_FFFC);
+    reads_and_writes(&rt, 0xFFDF_F2EF, Instr::Jal { rd, imm });
+    let imm = JumpOffset::of_bits(0x0F_FFFE);
+    reads_and_writes(&rt, 0x7FFF_F2EF, Instr::Jal { rd, imm });
+    // beq x14, x31, 2 and bge x14, x31, -4096
+    let rs1 = x(14);
+    let rs2 = x(31);
+    let imm = BranchOffset::of_bits(2);
+    reads_and_writes(&rt, 0x01F7_0163, Instr::Beq { rs1, rs2, imm });
+    let imm = BranchOffset::of_bits(0x1000);
+    reads_and_writes(&rt, 0x81F7_5063, Instr::Bge { rs1, rs2, imm });
+}
+
+#[test]
+fn words_with_short_immediates_or_none(rt: HostRuntime) {
+    let rd = x(5);
+    let rs1 = x(6);
+    let rs2 = x(7);
+    // jalr x5, -1(x6) and lw x5, -1(x6)
+    let imm = Immediate::of_bits(0xFFF);
+    reads_and_writes(&rt, 0xFFF3_02E7, Instr::Jalr { rd, rs1, imm });
+    reads_and_writes(&rt, 0xFFF3_2283, Instr::Lw { rd, rs1, imm });
+    // sb x7, -2017(x6)
+    let imm = Immediate::of_bits(0x81F);
+    reads_and_writes(&rt, 0x8073_0FA3, Instr::Sb { rs1, rs2, imm });
+    // srai x5, x6, 31
+    let imm = ShiftAmount::of_bits(31);
+    reads_and_writes(&rt, 0x41F3_5293, Instr::Srai { rd, rs1, imm });
+    // sub x5, x6, x7 and ebreak
+    reads_and_writes(&rt, 0x4073_02B3, Instr::Sub { rd, rs1, rs2 });
+    reads_and_writes(&rt, 0x0010_0073, Instr::Ebreak);
+}
+
+#[test]
+fn reserved_words_are_none(rt: HostRuntime) {
+    // zero, all ones, FENCE.I, a CSR access, MUL, a shift amount of 32, SRAI's bit on SLLI, JALR with
+    // another f3, a load of eight bytes, a branch and a store without a meaning, a compressed instruction
+    let reserved = [
+        0x0000_0000,
+        0xFFFF_FFFF,
+        0x0000_100F,
+        0x3000_1073,
+        0x0273_02B3,
+        0x0200_1013,
+        0x4000_1013,
+        0x0000_1067,
+        0x0000_3003,
+        0x0000_2063,
+        0x0000_3023,
+        0x0000_0001,
+    ];
+    for word in reserved {
+        assert!(rt; decode(word) == None, "reading {word}");
+    }
+}
+
+#[test]
+fn reserved_fences_are_fences(rt: HostRuntime) {
+    // no sets, the pause hint, a reserved mode with registers that are not 0
+    for word in [0x0000_000F, 0x0100_000F, 0xF12F_8F8F] {
+        assert!(rt; decode(word).is_some(), "reading {word}");
+    }
+}
+
+#[test]
+fn fields_are_kept_to_their_ranges(rt: HostRuntime) {
+    assert!(rt; Register::new(31).is_some() && Register::new(32).is_none());
+    assert!(rt; ShiftAmount::new(31).is_some() && ShiftAmount::new(32).is_none());
+    assert!(rt; Immediate::new(2047).is_some() && Immediate::new(2048).is_none());
+    assert!(rt; BranchOffset::new(4094).is_some() && BranchOffset::new(4095).is_none());
+    assert!(rt; JumpOffset::new(0xFFFF_FFFC).is_some() && JumpOffset::new(0x0010_0000).is_none());
+    assert!(rt; UpperImmediate::new(0x1000).is_some() && UpperImmediate::new(0x0800).is_none());
+    assert!(rt; FenceWord::new(0x0000_000F).is_some() && FenceWord::new(0x0000_100F).is_none());
+}
+
+#[test]
+fn ecalls_are_grouped_by_service(rt: HostRuntime) {
+    let groups = [
+        (0, Group::Exit),
+        (1, Group::Put),
+        (2, Group::Get),
+        (3, Group::Call),
+        (48, Group::Call),
+    ];
+    for (service, group) in groups {
+        assert!(rt; Instr::Ecall.group(service) == group, "service {service}");
+    }
+}
+
+#[test]
+fn places_are_those_of_the_table(rt: HostRuntime) {
+    let store = Instr::Sh {
+        rs1: x(3),
+        rs2: x(4),
+        imm: Immediate::of_bits(6),
+    };
+    let from_store = Reads {
+        t1: Some(x(3)),
+        t2: Some(x(4)),
+        word: true,
+    };
+    assert!(rt; store.reads() == from_store);
+    let places = [
+        (store, 0, Slot::Word),
+        (
+            Instr::Addi {
+                rd: x(1),
+                rs1: x(2),
+                imm: Immediate::of_bits(0),
+            },
+            0,
+            Slot::Reg(x(1)),
+        ),
+        (Instr::Ecall, 2, Slot::Reg(x(10))),
+        (Instr::Ecall, 48, Slot::Nothing),
+    ];
+    for (instr, service, place) in places {
+        assert!(rt; instr.writes(service) == place, "service {service}");
+    }
+}

@@ -1,0 +1,4 @@
+pub mod Accesses
+pub mod CheckLaws
+pub mod Checks
+pub mod Effects

@@ -1,0 +1,13 @@
+//! The policy of dynamic sealing: a service makes keys, one seals a value under a key, one unseals it with that key.
+//! A sealed value can be moved, loaded and stored as a whole, and nothing else can be done with it.
+#![tactic(auto)]
+
+mod policy;
+mod services;
+mod table;
+mod tag;
+#[cfg(test)]
+mod tests;
+
+pub use policy::Sealing;
+pub use tag::SealTag;

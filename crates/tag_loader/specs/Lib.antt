@@ -1,0 +1,3 @@
+pub mod Births
+pub mod Choice
+pub mod Start

@@ -1,0 +1,10 @@
+//! From an image to an engine at its start.
+#![tactic(auto)]
+
+mod births;
+mod load;
+mod parts;
+mod start;
+
+pub use births::birth;
+pub use load::load_plain;

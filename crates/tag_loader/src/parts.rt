@@ -1,0 +1,60 @@
+ghost use Rattle.std.specs.Prelude.{◌≡◌, ◌*◌, ◌≤◌, IfOk, length};
+ghost use Rattle.tag_loader.specs.Start.{memory_of, start_harts, start_tags};
+
+use crate::births::birth;
+use image_format::Image;
+use policy_trait::Policy;
+use std::alloc::{AllocError, Global};
+use tag_memory::Hart;
+
+/// The words at the start.
+#[tactic(auto, unfolding(crate::specs::Start::memory_of))]
+pub(crate) fn words_of(alloc: Global, image: &Image) -> Result<Vec<u32>, AllocError>
+    ensures words { IfOk result (λ words. words.items ≡ memory_of image.now) }
+    ensures size { IfOk result (λ words. 4 * length words.items ≡ image.now.ram) }
+{
+    let mut words = vec![in alloc; 0; (image.ram() / 4) as usize]?;
+    for i in 0..image.segment_count() {
+        let place = (image.segment_address(i) / 4) as usize;
+        let segment = image.segment_words(i);
+        words[place..place + segment.len()].copy_from_slice(segment);
+    }
+    Ok(words)
+}
+
+/// The tags of all words at the start.
+#[tactic(auto, unfolding(crate::specs::Start::start_tags))]
+pub(crate) fn tags_of<P: Policy>(
+    alloc: Global,
+    policy: &P,
+    image: &Image,
+) -> Result<Vec<P::Tag>, AllocError>
+    ensures tags { IfOk result (λ tags. tags.items ≡ start_tags P.model policy.now image.now) }
+    ensures size { IfOk result (λ tags. 4 * length tags.items ≡ image.now.ram) }
+{
+    let count = image.ram() / 4;
+    let mut tags = Vec::with_capacity(alloc, count as usize)?;
+    for n in 0..count {
+        tags.push(policy.start_word(&birth(image, 4 * n)))?;
+    }
+    Ok(tags)
+}
+
+/// The harts at the start.
+#[tactic(auto, unfolding(crate::specs::Start::start_harts))]
+pub(crate) fn harts_of<P: Policy>(
+    alloc: Global,
+    policy: &P,
+    image: &Image,
+) -> Result<Vec<Hart<P::Tag>>, AllocError>
+    ensures harts { IfOk result (λ harts. harts.items ≡ start_harts P.model policy.now image.now) }
+    ensures few { IfOk result (λ harts. length harts.items ≤ 8) }
+{
+    let mut harts = Vec::with_capacity(alloc, image.entries().len())?;
+    for entry in image.entries() {
+        let pc_tag = policy.start_pc(&birth(image, *entry));
+        let hart = Hart::new(alloc, *entry, pc_tag, policy.plain())?;
+        harts.push(hart)?;
+    }
+    Ok(harts)
+}

@@ -1,0 +1,33 @@
+-- A hart: the registers x1 to x31 with their tags, and the pc with its tag. x0 is not kept: it is 0 and plain.
+use Rattle.std.specs.Prelude.{◌≡◌, ℕ, ◌-◌, ◌%◌, ◌==◌, List, length, replicate, slice_index, slice_index_or, slice_set, if◌then◌else◌}
+
+pub record HartState (T : Type 0) : Type 0 where
+  -- x1 is the first
+  pub values : List ℕ
+  pub tags : List T
+  pub pc : ℕ
+  pub pc_tag : T
+  -- the tag of a register that nothing has tagged
+  pub plain : T
+
+pub record IsHart {T : Type 0} (hart : HartState T) : Type 0 where
+  pub values : length hart.values ≡ 31
+  pub tags : length hart.tags ≡ 31
+  pub aligned : hart.pc % 4 ≡ 0
+
+abbrev pub reg_value : {T : Type 0} → HartState T → ℕ → ℕ
+reg_value hart r = if r == 0 then 0 else slice_index hart.values (r - 1)
+
+abbrev pub reg_tag : {T : Type 0} → HartState T → ℕ → T
+reg_tag hart r = if r == 0 then hart.plain else slice_index_or hart.tags (r - 1) hart.plain
+
+-- that register or its tag written, and every other as it was; a write to x0 is dropped
+abbrev pub with_reg : {T : Type 0} → HartState T → ℕ → ℕ → HartState T
+with_reg hart r value = if r == 0 then hart else record hart { values = slice_set hart.values (r - 1) value }
+
+abbrev pub with_reg_tag : {T : Type 0} → HartState T → ℕ → T → HartState T
+with_reg_tag hart r tag = if r == 0 then hart else record hart { tags = slice_set hart.tags (r - 1) tag }
+
+-- a hart at the start: registers 0 and plain
+abbrev pub fresh_hart : {T : Type 0} → ℕ → T → T → HartState T
+fresh_hart pc pc_tag plain = record { values = replicate 31 0; tags = replicate 31 plain; pc = pc; pc_tag = pc_tag; plain = plain }

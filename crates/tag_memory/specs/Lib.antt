@@ -1,0 +1,2 @@
+pub mod Hart
+pub mod Ram

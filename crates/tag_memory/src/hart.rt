@@ -1,0 +1,118 @@
+ghost use Rattle.std.specs.Prelude.{◌≡◌, ◌≢◌, ℕ, ◌%◌, ◌<◌, IfOk};
+ghost use Rattle.tag_memory.specs.Hart.{fresh_hart, reg_tag, reg_value, with_reg, with_reg_tag};
+
+use crate::filled::filled;
+use std::alloc::{AllocError, Global};
+use std::marker::Model;
+
+/// The registers and the pc of one hart, with their tags. x0 is 0 and plain and drops every write. The pc is a
+/// multiple of 4. Contracts see it as a `HartState`.
+#[derive(Drop)]
+pub struct Hart<T: Copy> {
+    values: Vec<u32>,
+    tags: Vec<T>,
+    pc: u32,
+    pc_tag: T,
+    plain: T,
+}
+
+impl<T: Copy> Model for Hart<T> {
+    ghost use Rattle.tag_memory.specs.Hart.{HartState, IsHart};
+
+    ghost Value = { HartState T };
+
+    ghost view = { λ h. record { values = h.values.items; tags = h.tags.items; pc = h.pc; pc_tag = h.pc_tag; plain = h.plain } };
+
+    ghost invariant = { λ h. IsHart (record { values = h.values.items; tags = h.tags.items; pc = h.pc; pc_tag = h.pc_tag; plain = h.plain }) };
+}
+
+impl<T: Copy> Hart<T> {
+    /// A hart at `pc` whose registers are 0 and plain. The only error is want of memory.
+    pub fn new(alloc: Global, pc: u32, pc_tag: T, plain: T) -> Result<Hart<T>, AllocError>
+        requires { pc % 4 ≡ 0 }
+        ensures { IfOk result (λ hart. hart ≡ fresh_hart pc pc_tag plain) }
+    {
+        let values = filled(alloc, 0, 31)?;
+        let tags = filled(alloc, plain, 31)?;
+        Ok(Hart {
+            values,
+            tags,
+            pc,
+            pc_tag,
+            plain,
+        })
+    }
+
+    /// The value of register `r`, 0 for x0.
+    pub fn reg(&self, r: u32) -> u32
+        requires { r < 32 }
+        ensures { result ≡ reg_value self.now r }
+    {
+        if r == 0 {
+            return 0;
+        }
+        self.values[(r - 1) as usize]
+    }
+
+    /// Writes register `r`; a write to x0 is dropped. Its tag and every other register stay.
+    pub fn set_reg(&mut self, r: u32, value: u32)
+        requires { r < 32 }
+        ensures { self.new ≡ with_reg self.old r value }
+    {
+        if r != 0 {
+            self.values[(r - 1) as usize] = value;
+        }
+    }
+
+    /// The tag of register `r`, plain for x0.
+    pub fn reg_tag(&self, r: u32) -> T
+        requires { r < 32 }
+        ensures { result ≡ reg_tag self.now r }
+    {
+        if r == 0 {
+            return self.plain;
+        }
+        self.tags[(r - 1) as usize]
+    }
+
+    /// Writes the tag of register `r`; a write to x0 is dropped. Its value and every other tag stay.
+    pub fn set_reg_tag(&mut self, r: u32, tag: T)
+        requires { r < 32 }
+        ensures { self.new ≡ with_reg_tag self.old r tag }
+    {
+        if r != 0 {
+            self.tags[(r - 1) as usize] = tag;
+        }
+    }
+
+    /// The plain tag, which x0 has.
+    pub fn plain(&self) -> T
+        ensures { result ≡ self.now.plain }
+    {
+        self.plain
+    }
+
+    /// The address of the next instruction, a multiple of 4.
+    pub fn pc(&self) -> u32
+        ensures pc { result ≡ self.now.pc }
+        ensures aligned { result % 4 ≡ 0 }
+    {
+        self.pc
+    }
+
+    /// The tag of the pc.
+    pub fn pc_tag(&self) -> T
+        ensures { result ≡ self.now.pc_tag }
+    {
+        self.pc_tag
+    }
+
+    /// Writes the pc and its tag. The registers stay.
+    pub fn set_pc(&mut self, pc: u32, pc_tag: T)
+        requires { pc % 4 ≡ 0 }
+        ensures { self.new ≡ record self.old { pc = pc; pc_tag = pc_tag } }
+    {
+        self.pc = pc;
+        self.pc_tag = pc_tag;
+    }
+}

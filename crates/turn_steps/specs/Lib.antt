@@ -1,0 +1,4 @@
+pub mod Effects
+pub mod Feeds
+pub mod Looks
+pub mod Services

@@ -1,0 +1,80 @@
+-- What a hart is about to do: the checks of a turn that no policy decides, in their order, and what a rule is asked with.
+use Rattle.std.specs.Prelude.{ℕ, ◌/◌, Option, Some, None, Result, Ok, Err, slice_get}
+use Rattle.policy_trait.specs.Steps.{◌>>=◌}
+use Rattle.rv_decode.specs.Decoding.{decoded}
+use Rattle.rv_decode.specs.Groups.{a7, group_of, reads_of}
+use Rattle.rv_decode.specs.declared.instructions.Instr.{Instr}
+use Rattle.rv_step.specs.Effects.{effect_of}
+use Rattle.rv_step.specs.Checks.{first_fault}
+use Rattle.rv_step.specs.declared.accesses.Access.{Access}
+use Rattle.rv_step.specs.declared.accesses.Access.TheVariants as access
+use Rattle.rv_step.specs.declared.effects.Effect.{Effect}
+use Rattle.rv_step.specs.declared.faults.Fault.{Fault}
+use Rattle.rv_step.specs.declared.faults.Fault.TheVariants.{Fetch, Illegal}
+use Rattle.policy_trait.specs.declared.rules.Ins.{Ins}
+use Rattle.tag_memory.specs.Hart.{HartState, reg_tag, reg_value}
+use Rattle.tag_memory.specs.Ram.{RamState, ram_bytes, ram_tag}
+use Rattle.turn_steps.specs.declared.look.Look.{Look}
+
+-- what stands there, or the fault
+abbrev pub found_or : {A : Type 0} → Fault → Option A → Result A Fault
+found_or fault None = Err fault
+found_or fault (Some found) = Ok found
+
+-- the word at the pc; a pc at or past the end of memory is a fault
+abbrev pub fetched : {T : Type 0} → HartState T → RamState T → Result ℕ Fault
+fetched hart ram = found_or (Fetch hart.pc) (slice_get ram.words (hart.pc / 4))
+
+-- the instruction of a word; a word that has none is a fault
+abbrev pub read_instr : ℕ → Result Instr Fault
+read_instr word = found_or (Illegal word) (decoded word)
+
+-- the value and the tag of an operand: an absent one is 0 and plain
+abbrev pub operand : {T : Type 0} → HartState T → Option ℕ → ℕ
+operand hart None = 0
+operand hart (Some r) = reg_value hart r
+
+abbrev pub operand_tag : {T : Type 0} → HartState T → Option ℕ → T
+operand_tag hart None = hart.plain
+operand_tag hart (Some r) = reg_tag hart r
+
+abbrev pub effect_at : {T : Type 0} → HartState T → Instr → Effect
+effect_at hart instr = effect_of instr hart.pc (operand hart (reads_of instr).t1) (operand hart (reads_of instr).t2)
+
+-- an effect whose access and jump have no fault
+abbrev pub passed : Effect → Option Fault → Result Effect Fault
+passed effect None = Ok effect
+passed effect (Some fault) = Err fault
+
+-- the tag of the memory word that holds the access, plain without one
+abbrev pub access_tag : {T : Type 0} → RamState T → T → Access → T
+access_tag ram plain access.None = plain
+access_tag ram plain (access.Load addr width signed) = ram_tag ram addr
+access_tag ram plain (access.Store addr width value) = ram_tag ram addr
+
+abbrev pub inputs_at : {T : Type 0} → HartState T → RamState T → Instr → Effect → Ins T
+inputs_at hart ram instr effect = record {
+  pc = hart.pc_tag;
+  ci = ram_tag ram hart.pc;
+  t1 = operand_tag hart (reads_of instr).t1;
+  t2 = operand_tag hart (reads_of instr).t2;
+  tm = access_tag ram hart.plain effect.access;
+}
+
+abbrev pub look_at : {T : Type 0} → HartState T → RamState T → ℕ → Instr → Effect → Look T
+look_at hart ram word instr effect = record {
+  word = word;
+  instr = instr;
+  effect = effect;
+  service = reg_value hart a7;
+  group = group_of instr (reg_value hart a7);
+  inputs = inputs_at hart ram instr effect;
+}
+
+-- Fetch, decode, alignment and range of the access, alignment of the jump: the first that fails decides.
+unfoldable pub looked : {T : Type 0} → HartState T → RamState T → Result (Look T) Fault
+looked hart ram = do
+  word ← fetched hart ram
+  instr ← read_instr word
+  effect ← passed (effect_at hart instr) (first_fault (effect_at hart instr) (ram_bytes ram))
+  Ok (look_at hart ram word instr effect)

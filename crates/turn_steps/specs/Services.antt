@@ -1,0 +1,29 @@
+-- What a policy's service is asked with, and what it writes when nothing refuses it.
+use Rattle.std.specs.Prelude.{ℕ, List, [], ◌∷◌, Option, Some, None}
+use Rattle.rv_decode.specs.Groups.{a0}
+use Rattle.policy_trait.specs.declared.services.Answer.{Answer}
+use Rattle.policy_trait.specs.declared.services.Args.{Args}
+use Rattle.tag_memory.specs.Hart.{HartState, reg_tag, reg_value, with_reg, with_reg_tag}
+use Rattle.tag_memory.specs.Ram.{RamState, ram_bytes, with_ram_tag, with_ram_word}
+
+-- the values and tags of a0, a1 and a2
+abbrev pub args_on : {T : Type 0} → HartState T → RamState T → Args T
+args_on hart ram = record {
+  a0 = reg_value hart a0;
+  a1 = reg_value hart 11;
+  a2 = reg_value hart 12;
+  t0 = reg_tag hart a0;
+  t1 = reg_tag hart 11;
+  t2 = reg_tag hart 12;
+  ram = ram_bytes ram;
+}
+
+-- each word of a list (address, value, tag) written in turn
+abbrev pub with_words : {T : Type 0} → RamState T → List (ℕ × ℕ × T) → RamState T
+with_words ram [] = ram
+with_words ram (word ∷ words) = with_words (with_ram_tag (with_ram_word ram word.0 word.1) word.0 word.2) words
+
+-- the answer in a0; without one a0 stays
+abbrev pub with_answer : {T : Type 0} → HartState T → Option (Answer T) → HartState T
+with_answer hart None = hart
+with_answer hart (Some answer) = with_reg_tag (with_reg hart a0 answer.value) a0 answer.tag

@@ -1,0 +1,15 @@
+//! The steps of a turn that no policy decides, for any type of tags: look ahead through the checks, carry out the
+//! effect, a service's arguments and writes, and the feed.
+#![tactic(auto)]
+
+mod effects;
+mod feed;
+mod look;
+mod looking;
+mod services;
+
+pub use effects::{Done, carry_out};
+pub use feed::Feed;
+pub use look::Look;
+pub use looking::look_ahead;
+pub use services::{answer_to, arguments_of, write_words};
