@@ -3,8 +3,10 @@ use Rattle.std.specs.Prelude.{◌≡◌, ℕ, ◌+◌, ◌-◌, ◌^◌, Bool, t
 use Rattle.rv_step.specs.declared.faults.Fault.{Fault}
 use Rattle.policy_trait.specs.Model.{PolicyModel}
 use Rattle.engine_trait.specs.Machine.{Machine, stop_at}
-use Rattle.engine_trait.specs.Turn.{prepared, turn_of}
+use Rattle.engine_trait.specs.Turn.{prepared, stopped_at, turn_of}
 use Rattle.engine_trait.specs.declared.ends.Counts.{Counts}
+use Rattle.engine_trait.specs.declared.ends.Stop.{Stop}
+use Rattle.engine_trait.specs.declared.ends.Stop.TheVariants as stop
 use Rattle.engine_trait.specs.declared.ends.TurnEnd.{TurnEnd}
 use Rattle.engine_trait.specs.declared.ends.TurnEnd.TheVariants as ends
 
@@ -92,3 +94,19 @@ Turns m e feed h ends.Idle f fed = Idles e feed h f fed
 -- no engine so far has tag words
 Turns m e feed h ends.TagsOut f fed = ⊥
 Turns m e feed h ends.Memory f fed = GivesUp e feed h f fed
+
+-- a stop that is no exit: one of the checks or the policy ended the turn
+abbrev pub IsFailure : Stop → Type 0
+IsFailure (stop.Exit code) = ⊥
+IsFailure (stop.Fault fault) = Unit {0}
+IsFailure (stop.Violation part why pc) = Unit {0}
+
+-- hart h has that stop, and nothing else of the machine and of the feed changed
+pub record StopsOnly {S T : Type 0} (e : Standing S T) (feed : List ℕ) (h : ℕ) (why : Stop) (f : Standing S T) (fed : List ℕ) : Type 0 where
+  pub machine : f.machine ≡ stopped_at e.machine h why
+  pub unfed : fed ≡ feed
+
+-- nothing changed
+pub record Unchanged {S T : Type 0} (e : Standing S T) (feed : List ℕ) (f : Standing S T) (fed : List ℕ) : Type 0 where
+  pub same : f ≡ e
+  pub unfed : fed ≡ feed

@@ -1,4 +1,4 @@
-ghost use Rattle.std.specs.Prelude.{◌≡◌, ◌%◌, ◌<◌, ◌≤◌, IfOk, length};
+ghost use Rattle.std.specs.Prelude.{◌≡◌, ◌≢◌, ◌%◌, ◌<◌, ◌≤◌, IfOk, length};
 ghost use Rattle.std.specs.List.{All};
 ghost use Rattle.tag_memory.specs.Ram.{IsPlace, ram_bytes};
 ghost use Rattle.turn_steps.specs.Effects.{IsSound};
@@ -6,6 +6,7 @@ ghost use Rattle.turn_steps.specs.Looks.{looked};
 ghost use Rattle.turn_steps.specs.Services.{args_on};
 ghost use Rattle.engine_trait.specs.Machine.{CoreState, fresh_core, hart_at, stop_at, stopping};
 ghost use Rattle.engine_trait.specs.Runs.{is_ready};
+ghost use Rattle.engine_trait.specs.Standing.{IsFailure};
 ghost use Rattle.engine_trait.specs.Turn.{carried_at, core_effected, core_served, end_of};
 
 use crate::ends::{Stop, TurnEnd};
@@ -95,6 +96,7 @@ impl<T: Copy> Core<T> {
         ensures core { self.new ≡ core_effected self.old feed.old h look.now outs }
         ensures feed { feed.new ≡ (carried_at self.old feed.old h look.now outs).feed }
         ensures end { result ≡ end_of (carried_at self.old feed.old h look.now outs).done }
+        ensures no_failure { (why : Stop) → IsFailure why → result ≢ TurnEnd.Stopped why }
         ensures harts { length self.new.harts ≡ length self.old.harts }
         ensures bytes { ram_bytes self.new.ram ≡ ram_bytes self.old.ram }
     {

@@ -2,7 +2,7 @@ ghost use Rattle.std.specs.Prelude.{◌≡◌, ◌+◌, ◌%◌, ◌<◌, ◌≤
 ghost use Rattle.tag_memory.specs.Hart.{reg_tag, reg_value};
 ghost use Rattle.tag_memory.specs.Ram.{ram_bytes, ram_tag, ram_word};
 ghost use Rattle.engine_trait.specs.Machine.{hart_at, stop_at};
-ghost use Rattle.engine_trait.specs.Standing.{Turns, counts_of};
+ghost use Rattle.engine_trait.specs.Standing.{IsFailure, StopsOnly, Turns, Unchanged, counts_of};
 
 use crate::ends::{Counts, LoadEnd, Stop, TurnEnd};
 use policy_trait::Policy;
@@ -20,6 +20,9 @@ pub trait Engine {
     fn turn(&mut self, h: u32, feed: &mut Feed) -> TurnEnd
         requires { h < length (standing self.old).machine.core.harts }
         ensures turns { Turns Self.P.model (standing self.old) feed.old h result (standing self.new) feed.new }
+        // A fault or a refusal changes nothing but that hart's stop, an idle turn nothing at all.
+        ensures failure { (why : Stop) → IsFailure why → result ≡ TurnEnd.Stopped why → StopsOnly (standing self.old) feed.old h why (standing self.new) feed.new }
+        ensures idle { result ≡ TurnEnd.Idle → Unchanged (standing self.old) feed.old (standing self.new) feed.new }
         ensures harts { length (standing self.new).machine.core.harts ≡ length (standing self.old).machine.core.harts }
         ensures ram { ram_bytes (standing self.new).machine.core.ram ≡ ram_bytes (standing self.old).machine.core.ram };
 

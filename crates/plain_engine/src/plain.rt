@@ -6,7 +6,7 @@ ghost use Rattle.turn_steps.specs.Effects.{IsSound};
 ghost use Rattle.tag_memory.specs.Hart.{reg_tag, reg_value};
 ghost use Rattle.tag_memory.specs.Ram.{IsPlace, ram_bytes, ram_tag, ram_word};
 ghost use Rattle.engine_trait.specs.Machine.{hart_at, stop_at};
-ghost use Rattle.engine_trait.specs.Standing.{Turns};
+ghost use Rattle.engine_trait.specs.Standing.{IsFailure, StopsOnly, Turns, Unchanged};
 ghost use Rattle.engine_trait.specs.Turn.{effected, is_known, prepared, service_on, serving, stopped_at, violation};
 ghost use Rattle.plain_engine.specs.Plain.{CallsService, EndsService, IsMade, after_look_up, after_turn, given_up, standing_of};
 
@@ -138,6 +138,7 @@ impl<P: Policy> Plain<P> {
         ensures standing { self.new ≡ after_turn self.old (effected self.old.machine feed.old h look.now outs).machine }
         ensures feed { feed.new ≡ (effected self.old.machine feed.old h look.now outs).feed }
         ensures end { result ≡ (effected self.old.machine feed.old h look.now outs).ended }
+        ensures no_failure { (why : Stop) → IsFailure why → result ≢ TurnEnd.Stopped why }
         ensures harts { length self.new.machine.core.harts ≡ length self.old.machine.core.harts }
         ensures bytes { ram_bytes self.new.machine.core.ram ≡ ram_bytes self.old.machine.core.ram }
     {
@@ -212,6 +213,7 @@ impl<P: Policy> Plain<P> {
         ensures served { result ≢ TurnEnd.Memory → EndsService P.model self.old h look.now outs result self.new }
         ensures memory { result ≡ TurnEnd.Memory → self.new ≡ given_up self.old }
         ensures made { IsMade result }
+        ensures failure { (why : Stop) → IsFailure why → result ≡ TurnEnd.Stopped why → self.new.machine ≡ stopped_at self.old.machine h why }
         ensures harts { length self.new.machine.core.harts ≡ length self.old.machine.core.harts }
         ensures bytes { ram_bytes self.new.machine.core.ram ≡ ram_bytes self.old.machine.core.ram }
     {
@@ -236,6 +238,8 @@ impl<P: Policy> Engine for Plain<P> {
     fn turn(&mut self, h: u32, feed: &mut Feed) -> TurnEnd
         requires { h < length self.old.machine.core.harts }
         ensures turns { Turns P.model self.old feed.old h result self.new feed.new }
+        ensures failure { (why : Stop) → IsFailure why → result ≡ TurnEnd.Stopped why → StopsOnly self.old feed.old h why self.new feed.new }
+        ensures idle { result ≡ TurnEnd.Idle → Unchanged self.old feed.old self.new feed.new }
         ensures harts { length self.new.machine.core.harts ≡ length self.old.machine.core.harts }
         ensures ram { ram_bytes self.new.machine.core.ram ≡ ram_bytes self.old.machine.core.ram }
         ensures words { result ≢ TurnEnd.TagsOut }

@@ -65,10 +65,10 @@ module _ {S T : Type 0} (ran : Ran S T) (out_before out_now err_before err_now :
 
     pub ran_whole : (status : Status) → status ≡ status_of stops → TakesAll err_then err_now (last_line stops) → Follows (outcome_of_ran ran) out_before out_now err_before err_now (ok_status status)
     ran_whole status is last = record {
-        puts = puts;
-        tells = all_then_all err_before err_then err_now (lines_of ran.events) (last_line (hart_stops ran.machine.core)) lines (subst (λ (s : List (Option Stop)). TakesAll err_then err_now (last_line s)) stops_are last);
-        ends = is ∙ ap status_of stops_are;
-      }
+      puts = puts;
+      tells = all_then_all err_before err_then err_now (lines_of ran.events) (last_line (hart_stops ran.machine.core)) lines (subst (λ (s : List (Option Stop)). TakesAll err_then err_now (last_line s)) stops_are last);
+      ends = is ∙ ap status_of stops_are;
+    }
 
 -- one line on standard error and nothing on standard output
 pub follows_refusal : {E : Type 0} (text : List ℕ) (status : Status) (out err_before err_now : Option (List ℕ)) (result : Result Status E)

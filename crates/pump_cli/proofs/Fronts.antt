@@ -30,22 +30,25 @@ begins start whole = record { front = []; taken = sym (append_known-nil start); 
 -- a piece more
 pub goes_on : (start now new : Option (List ℕ)) (piece rest whole : List ℕ) → SoFar start now (piece ++ rest) whole → TakesAll now new piece → SoFar start new rest whole
 goes_on start now new piece rest whole so_far takes = record {
-    front = so_far.front ++ piece;
-    taken = takes ∙ ap (λ known. append_known known piece) so_far.taken ∙ append_known-append start so_far.front piece;
-    complete = append_assoc so_far.front piece rest ∙ so_far.complete;
-  }
+  front = so_far.front ++ piece;
+  taken = takes ∙ ap (λ known. append_known known piece) so_far.taken ∙ append_known-append start so_far.front piece;
+  complete = append_assoc so_far.front piece rest ∙ so_far.complete;
+}
 
 -- cut within a piece
 pub is_cut : (start now new : Option (List ℕ)) (piece rest whole : List ℕ) → SoFar start now (piece ++ rest) whole → TakesFront now new piece → TakesFront start new whole
-is_cut start now new piece rest whole so_far cut = (cut.0 ++ rest, record {
+is_cut start now new piece rest whole so_far cut = (
+  cut.0 ++ rest,
+  record {
     front = so_far.front ++ cut.1.front;
     taken = cut.1.taken ∙ ap (λ known. append_known known cut.1.front) so_far.taken ∙ append_known-append start so_far.front cut.1.front;
     complete =
-      append_assoc so_far.front cut.1.front (cut.0 ++ rest)
-      ∙ ap (λ tail. so_far.front ++ tail) (sym (append_assoc cut.1.front cut.0 rest))
-      ∙ ap (λ whole_piece. so_far.front ++ (whole_piece ++ rest)) cut.1.complete
-      ∙ so_far.complete;
-  })
+        append_assoc so_far.front cut.1.front (cut.0 ++ rest)
+        ∙ ap (λ tail. so_far.front ++ tail) (sym (append_assoc cut.1.front cut.0 rest))
+        ∙ ap (λ whole_piece. so_far.front ++ (whole_piece ++ rest)) cut.1.complete
+        ∙ so_far.complete;
+  },
+)
 
 -- all of it
 pub is_whole : (start now : Option (List ℕ)) (whole : List ℕ) → SoFar start now [] whole → TakesAll start now whole

@@ -44,11 +44,11 @@ pub record IsTurned {S T : Type 0} (m : PolicyModel T S) (e : Standing S T) (fee
 module _ {S T : Type 0} (m : PolicyModel T S) where
   made : (e : Standing S T) (feed : List ℕ) (h : ℕ) (ended : TurnEnd) (f : Standing S T) (fed : List ℕ) → Makes m e feed h ended f fed → IsTurned m e feed h ended f fed
   made e feed h ended f fed makes = record {
-      machine = sym (ap (λ t. t.machine) makes.turned);
-      left = sym (ap (λ t. t.feed) makes.turned);
-      end = sym (ap (λ t. t.ended) makes.turned);
-      running = ap (λ a. a.out) makes.account ∙ accounted-out m e.machine h e.account ∙ makes.ready.engine;
-    }
+    machine = sym (ap (λ t. t.machine) makes.turned);
+    left = sym (ap (λ t. t.feed) makes.turned);
+    end = sym (ap (λ t. t.ended) makes.turned);
+    running = ap (λ a. a.out) makes.account ∙ accounted-out m e.machine h e.account ∙ makes.ready.engine;
+  }
 
   never : {P : Type 0} → true ≡ false → P
   never e = cc

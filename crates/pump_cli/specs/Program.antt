@@ -32,10 +32,10 @@ file_limit = 33554432
 -- the bytes put out, the stops' lines, and how the harts stand at the end
 abbrev pub outcome_of_ran : {S T : Type 0} → Ran S T → Outcome
 outcome_of_ran ran = record {
-    out = puts_of ran.events;
-    err = lines_of ran.events ++ last_line (hart_stops ran.machine.core);
-    status = status_of (hart_stops ran.machine.core);
-  }
+  out = puts_of ran.events;
+  err = lines_of ran.events ++ last_line (hart_stops ran.machine.core);
+  status = status_of (hart_stops ran.machine.core);
+}
 
 -- one round robin from the start of the image under the chosen policy
 unfoldable pub outcome_of_run : ℕ → Bool → Picture → Outcome

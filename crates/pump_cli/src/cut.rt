@@ -1,9 +1,8 @@
 ghost use Rattle.std.specs.Prelude.{◌≡◌};
 ghost use Rattle.pump_cli.specs.Causes.{cut_result, status_of_cut};
 
-use host_io::PutEnd;
-
 use crate::status::Status;
+use host_io::PutEnd;
 
 /// Why a run was cut short.
 #[derive(Clone, Copy)]

@@ -9,12 +9,11 @@ ghost use Rattle.pump_cli.specs.Follows.{Follows};
 ghost use Rattle.pump_cli.specs.Program.{outcome_of_ran};
 ghost use Rattle.pump_cli.specs.Writes.{PutsCause, Writes};
 
+use crate::running::make_rounds;
+use crate::status::Status;
 use arrayvec::ArrayVec;
 use engine_trait::{Engine, Feed, Stop};
 use host_io::{PutEnd, Sink};
-
-use crate::running::make_rounds;
-use crate::status::Status;
 
 /// The most harts of a machine.
 const MOST_HARTS: usize = 8;

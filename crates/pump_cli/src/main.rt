@@ -12,14 +12,12 @@ mod telling;
 mod tests;
 mod texts;
 
+use host_io::{StdFiles, StdSink, StdSource};
+use program::pump;
+use status::Status;
 use std::env;
 use std::io::ErrorKind;
 use std::process::ExitCode;
-
-use host_io::{StdFiles, StdSink, StdSource};
-
-use program::pump;
-use status::Status;
 
 fn main(rt: HostRuntime) -> ExitCode {
     let words = match env::args(&rt) {
@@ -37,6 +35,13 @@ fn main(rt: HostRuntime) -> ExitCode {
     let mut input = StdSource::new(rt.stdin());
     let mut out = StdSink::new(rt.stdout());
     let mut err = StdSink::new(rt.stderr());
-    let status = pump(rt.alloc(), &words, &mut files, &mut input, &mut out, &mut err);
+    let status = pump(
+        rt.alloc(),
+        &words,
+        &mut files,
+        &mut input,
+        &mut out,
+        &mut err,
+    );
     ExitCode::from(status.code())
 }

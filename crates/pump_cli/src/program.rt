@@ -12,17 +12,15 @@ ghost use Rattle.pump_cli.specs.Follows.{Begins, Finishes, Follows};
 ghost use Rattle.pump_cli.specs.Program.{outcome_of_bytes, outcome_of_image, outcome_of_run, program};
 ghost use Rattle.pump_cli.specs.Writes.{NoneRose, OneRose, PutsCause, Writes};
 
-use std::alloc::Global;
-
-use engine_trait::Feed;
-use host_io::{Files, LoadFile, PutEnd, Sink, Source};
-use image_format::{Image, ImageEnd, read_image};
-use tag_loader::load_plain;
-
 use crate::command::{Command, read_words};
 use crate::cut::{Cut, cut_by};
 use crate::ending::run_engine;
 use crate::status::Status;
+use engine_trait::{Feed, Loader};
+use host_io::{Files, LoadFile, PutEnd, Sink, Source};
+use image_format::{Image, ImageEnd, read_image};
+use std::alloc::Global;
+use tag_loader::PlainLoad;
 
 /// The most turns of a run.
 const TURN_LIMIT: u64 = 1_000_000;
@@ -54,7 +52,7 @@ fn run_image<K: Sink, L: Sink>(
     ensures cause { PutsCause (K.faults out.old) (K.faults out.new) (L.faults err.old) (L.faults err.new) result }
     ensures kind { IfOk result IsOfRun }
 {
-    let Ok(mut engine) = load_plain(alloc, image, seal) else {
+    let Ok(mut engine) = PlainLoad::new(alloc, image, seal).load() else {
         return Err(PutEnd::Memory);
     };
     let mut feed = Feed::new(alloc);
@@ -63,7 +61,13 @@ fn run_image<K: Sink, L: Sink>(
 
 /// Runs the image whose file these bytes are, or says that they are none.
 #[tactic(auto, unfolding(crate::specs::Program::turn_limit), using(crate::proofs::Endings::follows_nothing, crate::proofs::Endings::follows_refusal))]
-fn run_bytes<K: Sink, L: Sink>(alloc: Global, seal: bool, bytes: &[u8], out: &mut K, err: &mut L) -> Result<Status, PutEnd>
+fn run_bytes<K: Sink, L: Sink>(
+    alloc: Global,
+    seal: bool,
+    bytes: &[u8],
+    out: &mut K,
+    err: &mut L,
+) -> Result<Status, PutEnd>
     ensures follows { Follows (outcome_of_image seal (first_image_of bytes.now)) (K.taken out.old) (K.taken out.new) (L.taken err.old) (L.taken err.new) result }
     ensures cause { PutsCause (K.faults out.old) (K.faults out.new) (L.faults err.old) (L.faults err.new) result }
     ensures kind { IfOk result IsOfRun }

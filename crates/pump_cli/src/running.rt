@@ -5,10 +5,9 @@ ghost use Rattle.engine_trait.specs.Turn.{turn_of};
 ghost use Rattle.pump_cli.specs.Endings.{line_of_end, lines_of, put_of_end, puts_of};
 ghost use Rattle.pump_cli.specs.Writes.{PutsCause, Writes};
 
+use crate::telling::tell;
 use engine_trait::{Engine, Feed, TurnEnd};
 use host_io::{PutEnd, Sink};
-
-use crate::telling::tell;
 
 /// The first ready hart from one on.
 fn first_ready<E: Engine>(engine: &E, from: u32) -> Option<u32>

@@ -5,6 +5,8 @@ mod births;
 mod load;
 mod parts;
 mod start;
+#[cfg(test)]
+mod tests;
 
 pub use births::birth;
-pub use load::load_plain;
+pub use load::PlainLoad;

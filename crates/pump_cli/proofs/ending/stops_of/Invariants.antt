@@ -6,6 +6,6 @@ use Rattle.pump_cli.proofs.ending.stops_of.Given as goal
 
 abbrev pub invariant-loop-h : goal.invariant-loop-h
 invariant-loop-h g l = record {
-    stops : l.stops.items ≡ map (stop_at (g.E.Engine.standing l.engine).machine.core) (range_with_len 0 l.h);
-    size : array_vec_len l.stops ≡ l.h;
-  }
+  stops : l.stops.items ≡ map (stop_at (g.E.Engine.standing l.engine).machine.core) (range_with_len 0 l.h);
+  size : array_vec_len l.stops ≡ l.h;
+}

@@ -9,10 +9,10 @@ pub returns-in-Err-TooLong-clause-follows : goal.returns-in-Err-TooLong-clause-f
 returns-in-Err-TooLong-clause-follows g c =
     if_some_each (g.F.Files.held c.args.files.now c.args.command.image.now) (λ (bytes : List ℕ). 33554432 < length bytes) _
     (λ bytes long.
-      subst (λ (outcome : Outcome). Follows outcome (g.K.Sink.taken c.args.out.now) (g.K.Sink.taken c.args.out.now) (g.L.Sink.taken c.args.err.now) (g.L.Sink.taken c.refuse.new.err) c.cut_by-in-Err-TooLong.result)
-      (sym (outcome_of_bytes-long c.args.command.seal bytes long))
-      (follows_result _ (g.K.Sink.taken c.args.out.now) (g.K.Sink.taken c.args.out.now) (g.L.Sink.taken c.args.err.now) (g.L.Sink.taken c.refuse.new.err) c.refuse.result c.cut_by-in-Err-TooLong.result c.cut_by-in-Err-TooLong.ensures
-        (follows_refusal (codes "pump: too long") TooLong (g.K.Sink.taken c.args.out.now) (g.L.Sink.taken c.args.err.now) (g.L.Sink.taken c.refuse.new.err) c.refuse.result c.refuse.ensures.err c.refuse.ensures.status)))
+    subst (λ (outcome : Outcome). Follows outcome (g.K.Sink.taken c.args.out.now) (g.K.Sink.taken c.args.out.now) (g.L.Sink.taken c.args.err.now) (g.L.Sink.taken c.refuse.new.err) c.cut_by-in-Err-TooLong.result)
+    (sym (outcome_of_bytes-long c.args.command.seal bytes long))
+    (follows_result _ (g.K.Sink.taken c.args.out.now) (g.K.Sink.taken c.args.out.now) (g.L.Sink.taken c.args.err.now) (g.L.Sink.taken c.refuse.new.err) c.refuse.result c.cut_by-in-Err-TooLong.result c.cut_by-in-Err-TooLong.ensures
+    (follows_refusal (codes "pump: too long") TooLong (g.K.Sink.taken c.args.out.now) (g.L.Sink.taken c.args.err.now) (g.L.Sink.taken c.refuse.new.err) c.refuse.result c.refuse.ensures.err c.refuse.ensures.status)))
     (c.in-Err-TooLong.ensures.too_long (ap Err c.in-Err-TooLong.field-0-is))
 
 pub returns-in-Err-Failed-clause-follows : goal.returns-in-Err-Failed-clause-follows

@@ -28,13 +28,13 @@ returns-in_err-make_turn-clause-err g c =
 
 pub loop-preserved : goal.loop-preserved
 loop-preserved g c = record {
-    running = c.in_ok-make_turn.ensures.running;
-    machine = machine_stays g.E.P.Policy.model c.args.limit c.loop.counter c.loop.from c.in-Some.h (g.E.Engine.standing c.loop.engine).machine (g.E.Engine.standing c.make_turn.new.engine).machine c.loop.feed c.make_turn.new.feed _ c.loop-test.true (sym c.next_hart.ensures.next ∙ c.in-Some.is) c.in_ok-make_turn.ensures.machine c.in_ok-make_turn.ensures.feed c.loop.invariant.machine;
-    out = puts_go_on g.E.P.Policy.model c.args.limit c.loop.counter c.loop.from c.in-Some.h (g.E.Engine.standing c.loop.engine).machine c.loop.feed c.loop-test.true (sym c.next_hart.ensures.next ∙ c.in-Some.is) (g.K.Sink.taken c.args.out.now) (g.K.Sink.taken c.loop.out) (g.K.Sink.taken c.make_turn.new.out) _ (g.E.Engine.standing c.make_turn.new.engine).machine c.make_turn.new.feed c.in_ok-make_turn.ensures.machine c.in_ok-make_turn.ensures.feed c.loop.invariant.out c.in_ok-make_turn.ensures.out;
-    err = lines_go_on g.E.P.Policy.model c.args.limit c.loop.counter c.loop.from c.in-Some.h (g.E.Engine.standing c.loop.engine).machine c.loop.feed c.loop-test.true (sym c.next_hart.ensures.next ∙ c.in-Some.is) (g.L.Sink.taken c.args.err.now) (g.L.Sink.taken c.loop.err) (g.L.Sink.taken c.make_turn.new.err) _ (g.E.Engine.standing c.make_turn.new.engine).machine c.make_turn.new.feed c.in_ok-make_turn.ensures.machine c.in_ok-make_turn.ensures.feed c.loop.invariant.err c.in_ok-make_turn.ensures.err;
-    out_faults = c.in_ok-make_turn.ensures.cause.out ∙ c.loop.invariant.out_faults;
-    err_faults = c.in_ok-make_turn.ensures.cause.err ∙ c.loop.invariant.err_faults;
-  }
+  running = c.in_ok-make_turn.ensures.running;
+  machine = machine_stays g.E.P.Policy.model c.args.limit c.loop.counter c.loop.from c.in-Some.h (g.E.Engine.standing c.loop.engine).machine (g.E.Engine.standing c.make_turn.new.engine).machine c.loop.feed c.make_turn.new.feed _ c.loop-test.true (sym c.next_hart.ensures.next ∙ c.in-Some.is) c.in_ok-make_turn.ensures.machine c.in_ok-make_turn.ensures.feed c.loop.invariant.machine;
+  out = puts_go_on g.E.P.Policy.model c.args.limit c.loop.counter c.loop.from c.in-Some.h (g.E.Engine.standing c.loop.engine).machine c.loop.feed c.loop-test.true (sym c.next_hart.ensures.next ∙ c.in-Some.is) (g.K.Sink.taken c.args.out.now) (g.K.Sink.taken c.loop.out) (g.K.Sink.taken c.make_turn.new.out) _ (g.E.Engine.standing c.make_turn.new.engine).machine c.make_turn.new.feed c.in_ok-make_turn.ensures.machine c.in_ok-make_turn.ensures.feed c.loop.invariant.out c.in_ok-make_turn.ensures.out;
+  err = lines_go_on g.E.P.Policy.model c.args.limit c.loop.counter c.loop.from c.in-Some.h (g.E.Engine.standing c.loop.engine).machine c.loop.feed c.loop-test.true (sym c.next_hart.ensures.next ∙ c.in-Some.is) (g.L.Sink.taken c.args.err.now) (g.L.Sink.taken c.loop.err) (g.L.Sink.taken c.make_turn.new.err) _ (g.E.Engine.standing c.make_turn.new.engine).machine c.make_turn.new.feed c.in_ok-make_turn.ensures.machine c.in_ok-make_turn.ensures.feed c.loop.invariant.err c.in_ok-make_turn.ensures.err;
+  out_faults = c.in_ok-make_turn.ensures.cause.out ∙ c.loop.invariant.out_faults;
+  err_faults = c.in_ok-make_turn.ensures.cause.err ∙ c.loop.invariant.err_faults;
+}
 
 pub returns-after-loop-clause-machine : goal.returns-after-loop-clause-machine
 returns-after-loop-clause-machine g c = machine_is g.E.P.Policy.model (g.E.Engine.standing c.loop.engine).machine c.loop.feed (c.args.limit - c.loop.counter) c.loop.from (rounds-over g.E.P.Policy.model (c.args.limit - c.loop.counter) c.loop.from (g.E.Engine.standing c.loop.engine).machine c.loop.feed (omega arith)) _ c.loop.invariant.machine

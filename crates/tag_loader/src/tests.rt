@@ -1,0 +1,174 @@
+use crate::PlainLoad;
+use engine_trait::{Engine, Feed, Loader, Stop, TurnEnd};
+use image_format::read_image;
+use plain_engine::Plain;
+use policy_product::Maybe;
+use rv_step::Fault;
+use sealing_policy::{SealTag, Sealing};
+use std::alloc::{AllocError, Global};
+use std::test::Fail;
+use tag_memory::{Hart, Ram};
+
+/// The file of an image of one hart with `ram` bytes of memory, whose one segment has these words at 0.
+fn file_of(alloc: Global, ram: u32, words: &[u32]) -> Result<Vec<u8>, AllocError> {
+    let mut bytes = b"PUMP\x01\x00\x01\x00".to_vec(alloc)?;
+    let count = u32::try_from(words.len()).unwrap_or(0);
+    for field in [ram, 0, 0, 0, 1, 0, count] {
+        bytes.extend_from_slice(&field.to_le_bytes())?;
+    }
+    for word in words {
+        bytes.extend_from_slice(&word.to_le_bytes())?;
+    }
+    bytes.extend_from_slice(&[0; 16])?;
+    Ok(bytes)
+}
+
+/// The engine at the start of such an image.
+fn engine_of(
+    alloc: Global,
+    ram: u32,
+    words: &[u32],
+    seal: bool,
+) -> Result<Plain<Maybe<Sealing>>, Fail> {
+    let bytes = file_of(alloc, ram, words)?;
+    let image = read_image(alloc, &bytes).ok().ok_or("no image")?;
+    let engine = PlainLoad::new(alloc, &image, seal).load().ok();
+    Ok(engine.ok_or("no engine")?)
+}
+
+/// Turns of the harts in this order, with how the last one ended.
+fn make_turns<E: Engine>(engine: &mut E, feed: &mut Feed, order: &[u32]) -> TurnEnd {
+    let mut last = TurnEnd::Idle;
+    for h in order {
+        if *h < engine.harts() {
+            last = engine.turn(*h, feed);
+        }
+    }
+    last
+}
+
+/// The pc of a hart, `None` where there is no such hart.
+fn pc_of<E: Engine>(engine: &E, h: u32) -> Option<u32> {
+    if h < engine.harts() {
+        Some(engine.pc(h))
+    } else {
+        None
+    }
+}
+
+/// A register of a hart, `None` where there is none of these numbers.
+fn register_of<E: Engine>(engine: &E, h: u32, r: u32) -> Option<u32> {
+    if h < engine.harts() && r < 32 {
+        Some(engine.reg(h, r))
+    } else {
+        None
+    }
+}
+
+// A branch that is not taken goes on; JALR clears bit 0 of its target and reads rs1 before it writes rd.
+#[test]
+fn jumps_go_where_they_are_to(rt: HostRuntime) -> Result<(), Fail> {
+    let mut feed = Feed::new(rt.alloc());
+    let mut branch = engine_of(rt.alloc(), 256, &[0x0010_0293, 0x0050_0163], false)?;
+    make_turns(&mut branch, &mut feed, &[0, 0]);
+    assert_eq!(rt; pc_of(&branch, 0), Some(8));
+    let mut jump = engine_of(rt.alloc(), 256, &[0x0110_0293, 0x0002_82E7], false)?;
+    make_turns(&mut jump, &mut feed, &[0, 0]);
+    assert_eq!(rt; pc_of(&jump, 0), Some(0x10));
+    assert_eq!(rt; register_of(&jump, 0, 5), Some(8));
+    Ok(())
+}
+
+// EBREAK goes on, and is told.
+#[test]
+fn a_break_goes_on(rt: HostRuntime) -> Result<(), Fail> {
+    let mut feed = Feed::new(rt.alloc());
+    let mut engine = engine_of(rt.alloc(), 256, &[0x0010_0073], false)?;
+    assert!(rt; make_turns(&mut engine, &mut feed, &[0]) == TurnEnd::Break);
+    assert_eq!(rt; pc_of(&engine, 0), Some(4));
+    Ok(())
+}
+
+// A pc at the end of memory, after one turn; a load at its end.
+#[test]
+fn memory_ends_where_it_is_to(rt: HostRuntime) -> Result<(), Fail> {
+    let mut feed = Feed::new(rt.alloc());
+    let mut past = engine_of(rt.alloc(), 4, &[0x0000_0013], false)?;
+    let ended = make_turns(&mut past, &mut feed, &[0, 0]);
+    assert!(rt; ended == TurnEnd::Stopped(Stop::Fault(Fault::Fetch(4))));
+    assert_eq!(rt; past.counts().turns, 2);
+    let mut load = engine_of(rt.alloc(), 64, &[0x0400_2283], false)?;
+    let ended = make_turns(&mut load, &mut feed, &[0]);
+    assert!(rt; ended == TurnEnd::Stopped(Stop::Fault(Fault::LoadRange(0x40))));
+    // Its next turn is idle, and isn't counted.
+    assert!(rt; make_turns(&mut load, &mut feed, &[0]) == TurnEnd::Idle);
+    assert_eq!(rt; load.counts().turns, 1);
+    Ok(())
+}
+
+// A byte that was fed, and then none.
+#[test]
+fn get_reads_the_feed(rt: HostRuntime) -> Result<(), Fail> {
+    let mut feed = Feed::new(rt.alloc());
+    feed.append(&[0x2A])?;
+    let mut engine = engine_of(rt.alloc(), 256, &[0x0020_0893, 0x73, 0x73], false)?;
+    make_turns(&mut engine, &mut feed, &[0, 0]);
+    assert_eq!(rt; register_of(&engine, 0, 10), Some(0x2A));
+    make_turns(&mut engine, &mut feed, &[0]);
+    assert_eq!(rt; register_of(&engine, 0, 10), Some(0xFFFF_FFFF));
+    Ok(())
+}
+
+// A key, a value sealed by it, and the sealed value moved.
+#[test]
+fn a_sealed_value_can_be_moved(rt: HostRuntime) -> Result<(), Fail> {
+    let words = [
+        0x0100_0893,
+        0x73,
+        0x0005_0593,
+        0x0070_0513,
+        0x0110_0893,
+        0x73,
+        0x0005_0513,
+    ];
+    let mut feed = Feed::new(rt.alloc());
+    let mut engine = engine_of(rt.alloc(), 256, &words, true)?;
+    let ended = make_turns(&mut engine, &mut feed, &[0; 7]);
+    assert!(rt; ended == TurnEnd::Ran(None));
+    assert_eq!(rt; register_of(&engine, 0, 10), Some(7));
+    assert_eq!(rt; engine.harts(), 1);
+    assert!(rt; engine.reg_tag(0, 10) == Some(SealTag::Sealed(0)));
+    Ok(())
+}
+
+/// Two harts over one memory: hart 0 at 0 adds 1 to x5 and stores it at 64, hart 1 at 32 loads from there into x6.
+fn two_harts(alloc: Global) -> Result<Plain<Maybe<Sealing>>, AllocError> {
+    let mut ram = Ram::new(alloc, 256, None)?;
+    ram.set_word(0, 0x0012_8293);
+    ram.set_word(4, 0x0450_2023);
+    ram.set_word(32, 0x0400_2303);
+    let harts = vec![in alloc;
+        Hart::new(alloc, 0, None, None)?,
+        Hart::new(alloc, 32, None, None)?,
+    ]?;
+    Ok(Plain::new(alloc, Maybe { part: None }, ram, harts))
+}
+
+// One image in two orders of turns: what hart 1 loads depends on whether hart 0 has stored by then.
+#[test]
+fn the_order_of_turns_decides(rt: HostRuntime) -> Result<(), Fail> {
+    let mut feed = Feed::new(rt.alloc());
+    for (order, loaded) in [([0, 0, 1], 1), ([0, 1, 0], 0)] {
+        let mut engine = two_harts(rt.alloc())?;
+        make_turns(&mut engine, &mut feed, &order);
+        assert_eq!(rt;
+            register_of(&engine, 1, 6),
+            Some(loaded),
+            "in the order {order:?}"
+        );
+        assert_eq!(rt; register_of(&engine, 0, 5), Some(1));
+        assert_eq!(rt; pc_of(&engine, 0), Some(8));
+        assert_eq!(rt; pc_of(&engine, 1), Some(36));
+    }
+    Ok(())
+}
