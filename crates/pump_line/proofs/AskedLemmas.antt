@@ -1,0 +1,117 @@
+-- Words without a fault ask for something: the subcommand is there, and so is each of its operands.
+use Rattle.std.proofs.Common.{◌≡◌, ◌&&◌, ◌||◌, Bool, true, false, not, List, [], ◌∷◌, codes, refl, subst, is_some}
+use Rattle.std.specs.Prelude.{Option, Some, None, find, option_map}
+use Rattle.std.specs.List.{list_any}
+use Rattle.clap.specs.Faults.{check_fault, defaults_fault, entered_fault, level_fault, settle_fault, walk_fault}
+use Rattle.clap.specs.Kinds.{check_kinds, or_else}
+use Rattle.clap.specs.Simple.{argument_words, built_leaf, entered, inherited, label_of, marked_built, names_of, with_leaf_noted}
+use Rattle.clap.specs.Takes.{is_given}
+use Rattle.clap.specs.Walk.{Held, Names, answers_to, finished, nothing_held, rows_after, settled, walk, walk_from}
+use Rattle.clap.specs.Words.{App, Kinds, Shape, Text, built, fault_of, subcommand_of}
+use Rattle.pump_line.specs.Line.{HasMatch, faults_of, match_of, pump_app, run_shape}
+use Rattle.pump_line.specs.Request.{request_at, request_by, run_in}
+use Rattle.pump_line.proofs.GivenLemmas.{given_has_value}
+
+or_nil : (a b : Kinds) → or_else a b ≡ [] → (a ≡ []) × (b ≡ [])
+or_nil [] b h = (refl, h)
+or_nil (k ∷ ks) b h = cc
+
+-- a level without a fault has none below it, and passes the last checks
+level_nil : (s : Shape) (names : Names) (h : Held) (words : List Text) (entered_one : Bool) (below : Kinds)
+    → level_fault s names h words entered_one below ≡ []
+    → (below ≡ []) × (check_fault s (finished s.rules (walk s.rules names h words).held) entered_one ≡ [])
+level_nil s names h words entered_one below e =
+    let end = (walk s.rules names h words).held in
+    let checks = check_fault s (finished s.rules end) entered_one in
+    let defaults = defaults_fault (settled s.rules end).rows s.rules in
+    let settles = settle_fault s.rules s.args_override_self end in
+    let past_walk = or_nil (walk_fault s names (walk_from h) words) (or_else below (or_else settles (or_else defaults checks))) e in
+    let past_below = or_nil below (or_else settles (or_else defaults checks)) past_walk.1 in
+    let past_settling = or_nil settles (or_else defaults checks) past_below.1 in
+    (past_below.0, (or_nil defaults checks past_settling.1).1)
+
+checks_nil : (help subcommand argument : Bool) → check_kinds help subcommand argument ≡ [] → (subcommand ≡ false) × (argument ≡ false)
+checks_nil true subcommand argument h = cc
+checks_nil false true argument h = cc
+checks_nil false false true h = cc
+checks_nil false false false h = (refl, refl)
+
+is_there : (t needed : Bool) → needed ≡ true → not t && needed ≡ false → t ≡ true
+is_there true needed n h = refl
+is_there false needed n h = cc
+
+-- the subcommand's words without a fault make a request
+abbrev pub Asks : Shape → Type 0
+Asks s = (words : List Text) → level_fault s [] nothing_held words false [] ≡ []
+    → is_some (request_by s.name (rows_after s.rules [] words)) ≡ true
+
+abbrev pub AllAsk : List Shape → Type 0
+AllAsk [] = Unit {0}
+AllAsk (s ∷ rest) = Asks s × AllAsk rest
+
+found_asks : (p : Shape → Bool) (subs : List Shape) (s : Shape) → AllAsk subs → find p subs ≡ Some s → Asks s
+found_asks p [] s all e = absurd (let no : ⊥ = cc in no)
+found_asks p (x ∷ xs) s all e = go (λ rest. found_asks p xs s all.1 rest) (p x) refl
+  where
+    go : (find p xs ≡ Some s → Asks s) → (t : Bool) → p x ≡ t → Asks s
+    go rest true is = let same : x ≡ s = (let first : Some x ≡ Some s = rw is at e in cc) in subst Asks same all.0
+    go rest false is = rest (rw is at e)
+
+entered_asks : (a : App) (stop : Option (Text × List Text)) → AllAsk a.subs → is_some (entered a stop) ≡ true
+    → entered_fault a stop ≡ [] → is_some (request_at (entered a stop)) ≡ true
+entered_asks a None all there fine = cc
+entered_asks a (Some p) all there fine = go (find (λ (s : Shape). answers_to p.0 (label_of s)) a.subs) refl
+  where
+    go : (o : Option Shape) → find (λ (s : Shape). answers_to p.0 (label_of s)) a.subs ≡ o → is_some (request_at (entered a (Some p))) ≡ true
+    go None e = let no : false ≡ true = rw e at there in cc
+    go (Some s) e = rw e (found_asks (λ (x : Shape). answers_to p.0 (label_of x)) a.subs s all e p.1 (rw e at fine))
+
+-- of a command that requires a subcommand
+app_asks : (a : App) (words : List Text) → (built a).top.subcommand_required ≡ true → AllAsk (built a).subs → fault_of a words ≡ []
+    → is_some (request_at (subcommand_of a words)) ≡ true
+app_asks a words needs all fine =
+    let made = built a in
+    let rest = argument_words a words in
+    let stop = (walk made.top.rules (names_of made) nothing_held rest).stopped in
+    let level = level_nil made.top (names_of made) nothing_held rest (is_some (entered made stop)) (entered_fault made stop) fine in
+    let checks = checks_nil _ _ _ level.1 in
+    entered_asks made stop all (is_there (is_some (entered made stop)) made.top.subcommand_required needs checks.0) level.0
+
+-- ---- each subcommand
+
+unfoldable built_run : Shape
+unfolding pump_app run_shape
+built_run = built_leaf (inherited (with_leaf_noted (marked_built pump_app.top)) run_shape)
+
+some_mapped : {X Y : Type 0} (f : X → Y) (o : Option X) → is_some o ≡ true → is_some (option_map f o) ≡ true
+some_mapped f None h = cc
+some_mapped f (Some x) h = refl
+
+given_if : (given rest : Bool) → not given || rest ≡ false → given ≡ true
+given_if true rest h = refl
+given_if false rest h = cc
+
+-- a subcommand's words without a fault give what is required
+level_needs : (s : Shape) (words : List Text) → level_fault s [] nothing_held words false [] ≡ []
+    → not (s.subcommand_negates_reqs && false)
+    && list_any (λ a. a.required && not (is_given a.id (rows_after s.rules [] words))) s.rules ≡ false
+level_needs s words fine = (checks_nil _ _ _ (level_nil s [] nothing_held words false [] fine).1).1
+
+run_asks : Asks built_run
+unfolding built_run pump_app run_shape request_by run_in
+run_asks words fine =
+    let given = given_if (is_given (codes "image") (rows_after built_run.rules [] words)) false (level_needs built_run words fine) in
+    some_mapped _ _ (given_has_value (codes "image") built_run.rules [] words refl given)
+
+all_ask : AllAsk (built pump_app).subs
+unfolding built_run pump_app run_shape
+all_ask = (run_asks, tt)
+
+needs_subcommand : (built pump_app).top.subcommand_required ≡ true
+unfolding pump_app run_shape
+needs_subcommand = refl
+
+-- words with a match ask for something
+pub match_asks : (words : List Text) → HasMatch words → is_some (request_at (match_of words)) ≡ true
+unfolding faults_of match_of
+match_asks words fine = app_asks pump_app words needs_subcommand all_ask fine

@@ -1,0 +1,6 @@
+pub mod AskedLemmas
+pub mod CommandLemmas
+pub mod GivenLemmas
+pub mod ReadLemmas
+pub mod Rows
+pub mod ValueLemmas

@@ -1,0 +1,267 @@
+-- Command lines, each with what it asks for or with the fault that `clap` names, computed by the definitions alone.
+use Rattle.std.proofs.Common.{◌≡◌, Bool, true, false, List, [], ◌∷◌, ℕ, codes, refl}
+use Rattle.std.specs.Prelude.{⊤, Some, None}
+use Rattle.clap.proofs.OnLiterals.{clap_on_literals}
+use Rattle.clap.specs.Words.{Text}
+use Rattle.clap.specs.declared.error.kind.ErrorKind.TheVariants.{ArgumentConflict, InvalidSubcommand, InvalidValue, MissingRequiredArgument, MissingSubcommand, UnknownArgument}
+use Rattle.pump_line.specs.Line.{faults_of, match_of, pump_app, run_shape}
+use Rattle.pump_line.specs.Request.{request_by, request_of, run_in}
+use Rattle.pump_line.specs.Task.{RunTask, task_in, task_of}
+
+-- what computes on words that are written out
+unfoldable on_rows : ⊤
+unfolding clap_on_literals faults_of match_of pump_app run_shape request_by request_of run_in task_in task_of
+on_rows = tt
+
+-- a line after the program's name
+abbrev line : List Text → List Text
+line words = codes "pump" ∷ words
+
+abbrev run_of : Text → Bool → ℕ → RunTask
+run_of image seal turns = record { image = image; seal = seal; turns = turns }
+
+-- ---- lines that ask for a run
+
+-- the image alone
+plain : task_of (line (codes "run" ∷ codes "a.img" ∷ [])) ≡ Some (run_of (codes "a.img") false 1000000)
+unfolding on_rows
+plain = refl
+
+-- `none` named
+none_named : task_of (line (codes "run" ∷ codes "a.img" ∷ codes "--policy" ∷ codes "none" ∷ [])) ≡ Some (run_of (codes "a.img") false 1000000)
+unfolding on_rows
+none_named = refl
+
+-- sealing named
+sealed : task_of (line (codes "run" ∷ codes "a.img" ∷ codes "--policy" ∷ codes "seal" ∷ [])) ≡ Some (run_of (codes "a.img") true 1000000)
+unfolding on_rows
+sealed = refl
+
+-- the value behind an equals sign
+policy_with_sign : task_of (line (codes "run" ∷ codes "a.img" ∷ codes "--policy=seal" ∷ [])) ≡ Some (run_of (codes "a.img") true 1000000)
+unfolding on_rows
+policy_with_sign = refl
+
+-- the option before the image
+policy_before : task_of (line (codes "run" ∷ codes "--policy" ∷ codes "seal" ∷ codes "a.img" ∷ [])) ≡ Some (run_of (codes "a.img") true 1000000)
+unfolding on_rows
+policy_before = refl
+
+-- one option before and one after the image
+both_around : task_of (line (codes "run" ∷ codes "--turns" ∷ codes "5" ∷ codes "a.img" ∷ codes "--policy" ∷ codes "seal" ∷ [])) ≡ Some (run_of (codes "a.img") true 5)
+unfolding on_rows
+both_around = refl
+
+-- both options after the image
+both_behind : task_of (line (codes "run" ∷ codes "a.img" ∷ codes "--policy" ∷ codes "seal" ∷ codes "--turns" ∷ codes "5" ∷ [])) ≡ Some (run_of (codes "a.img") true 5)
+unfolding on_rows
+both_behind = refl
+
+-- turns behind an equals sign
+turns_with_sign : task_of (line (codes "run" ∷ codes "a.img" ∷ codes "--turns=5" ∷ [])) ≡ Some (run_of (codes "a.img") false 5)
+unfolding on_rows
+turns_with_sign = refl
+
+-- the fewest turns
+least_turns : task_of (line (codes "run" ∷ codes "a.img" ∷ codes "--turns" ∷ codes "1" ∷ [])) ≡ Some (run_of (codes "a.img") false 1)
+unfolding on_rows
+least_turns = refl
+
+-- the most turns
+most_turns : task_of (line (codes "run" ∷ codes "a.img" ∷ codes "--turns" ∷ codes "1000000000" ∷ [])) ≡ Some (run_of (codes "a.img") false 1000000000)
+unfolding on_rows
+most_turns = refl
+
+-- ten digits with zeros before
+leading_zeros : task_of (line (codes "run" ∷ codes "a.img" ∷ codes "--turns" ∷ codes "0000000007" ∷ [])) ≡ Some (run_of (codes "a.img") false 7)
+unfolding on_rows
+leading_zeros = refl
+
+-- an image of a subcommand's name
+image_run : task_of (line (codes "run" ∷ codes "run" ∷ [])) ≡ Some (run_of (codes "run") false 1000000)
+unfolding on_rows
+image_run = refl
+
+-- a lone dash is an ordinary word
+dash_image : task_of (line (codes "run" ∷ codes "-" ∷ [])) ≡ Some (run_of (codes "-") false 1000000)
+unfolding on_rows
+dash_image = refl
+
+-- no option after two dashes
+behind_dashes : task_of (line (codes "run" ∷ codes "--" ∷ codes "--policy" ∷ [])) ≡ Some (run_of (codes "--policy") false 1000000)
+unfolding on_rows
+behind_dashes = refl
+
+-- the empty name
+empty_image : task_of (line (codes "run" ∷ [] ∷ [])) ≡ Some (run_of [] false 1000000)
+unfolding on_rows
+empty_image = refl
+
+-- ---- lines in which `clap` names a fault
+
+-- no words at all
+no_words : faults_of [] ≡ MissingSubcommand ∷ []
+unfolding on_rows
+no_words = refl
+
+-- the program's name alone
+name_alone : faults_of (line []) ≡ MissingSubcommand ∷ []
+unfolding on_rows
+name_alone = refl
+
+-- a run of nothing
+run_alone : faults_of (line (codes "run" ∷ [])) ≡ MissingRequiredArgument ∷ []
+unfolding on_rows
+run_alone = refl
+
+-- a run with options and no image
+options_alone : faults_of (line (codes "run" ∷ codes "--policy" ∷ codes "seal" ∷ [])) ≡ MissingRequiredArgument ∷ []
+unfolding on_rows
+options_alone = refl
+
+-- two images
+two_images : faults_of (line (codes "run" ∷ codes "a.img" ∷ codes "b.img" ∷ [])) ≡ UnknownArgument ∷ []
+unfolding on_rows
+two_images = refl
+
+-- an option that is repeated
+policy_twice : faults_of (line (codes "run" ∷ codes "a.img" ∷ codes "--policy" ∷ codes "seal" ∷ codes "--policy" ∷ codes "seal" ∷ [])) ≡ ArgumentConflict ∷ []
+unfolding on_rows
+policy_twice = refl
+
+-- the other one
+turns_twice : faults_of (line (codes "run" ∷ codes "--turns" ∷ codes "5" ∷ codes "a.img" ∷ codes "--turns=5" ∷ [])) ≡ ArgumentConflict ∷ []
+unfolding on_rows
+turns_twice = refl
+
+-- an option of no meaning
+unknown_option : faults_of (line (codes "run" ∷ codes "a.img" ∷ codes "--cache" ∷ codes "5" ∷ [])) ≡ UnknownArgument ∷ []
+unfolding on_rows
+unknown_option = refl
+
+-- a short option
+short_option : faults_of (line (codes "run" ∷ codes "a.img" ∷ codes "-p" ∷ [])) ≡ UnknownArgument ∷ []
+unfolding on_rows
+short_option = refl
+
+-- an option that is shortened
+shortened_option : faults_of (line (codes "run" ∷ codes "a.img" ∷ codes "--pol" ∷ codes "seal" ∷ [])) ≡ UnknownArgument ∷ []
+unfolding on_rows
+shortened_option = refl
+
+-- an option without its value
+no_value : faults_of (line (codes "run" ∷ codes "a.img" ∷ codes "--policy" ∷ [])) ≡ InvalidValue ∷ []
+unfolding on_rows
+no_value = refl
+
+-- an option in place of a value
+option_for_value : faults_of (line (codes "run" ∷ codes "a.img" ∷ codes "--policy" ∷ codes "--turns" ∷ codes "5" ∷ [])) ≡ InvalidValue ∷ []
+unfolding on_rows
+option_for_value = refl
+
+-- a word with a dash for a value
+negative_turns : faults_of (line (codes "run" ∷ codes "a.img" ∷ codes "--turns" ∷ codes "-5" ∷ [])) ≡ UnknownArgument ∷ []
+unfolding on_rows
+negative_turns = refl
+
+-- an option before the subcommand
+option_before_run : faults_of (line (codes "--policy" ∷ codes "seal" ∷ codes "run" ∷ codes "a.img" ∷ [])) ≡ UnknownArgument ∷ []
+unfolding on_rows
+option_before_run = refl
+
+-- a request for help
+help_flag : faults_of (line (codes "--help" ∷ [])) ≡ UnknownArgument ∷ []
+unfolding on_rows
+help_flag = refl
+
+-- a request for the help of `run`
+help_of_run : faults_of (line (codes "run" ∷ codes "a.img" ∷ codes "--help" ∷ [])) ≡ UnknownArgument ∷ []
+unfolding on_rows
+help_of_run = refl
+
+-- a request for the version
+version_flag : faults_of (line (codes "--version" ∷ [])) ≡ UnknownArgument ∷ []
+unfolding on_rows
+version_flag = refl
+
+-- a subcommand of no meaning
+unknown_subcommand : faults_of (line (codes "walk" ∷ codes "a.img" ∷ [])) ≡ UnknownArgument ∷ InvalidSubcommand ∷ []
+unfolding on_rows
+unknown_subcommand = refl
+
+-- help as a subcommand
+help_subcommand : faults_of (line (codes "help" ∷ [])) ≡ UnknownArgument ∷ InvalidSubcommand ∷ []
+unfolding on_rows
+help_subcommand = refl
+
+-- an image without a subcommand
+image_alone : faults_of (line (codes "a.img" ∷ [])) ≡ UnknownArgument ∷ InvalidSubcommand ∷ []
+unfolding on_rows
+image_alone = refl
+
+-- a subcommand in upper case
+upper_case : faults_of (line (codes "Run" ∷ codes "a.img" ∷ [])) ≡ UnknownArgument ∷ InvalidSubcommand ∷ []
+unfolding on_rows
+upper_case = refl
+
+-- ---- lines without a fault, of which a value is refused
+
+-- a list of two
+list_of_two : (faults_of (line (codes "run" ∷ codes "a.img" ∷ codes "--policy" ∷ codes "seal,seal" ∷ [])) ≡ []) × (task_of (line (codes "run" ∷ codes "a.img" ∷ codes "--policy" ∷ codes "seal,seal" ∷ [])) ≡ None)
+unfolding on_rows
+list_of_two = (refl, refl)
+
+-- a list in upper case
+upper_case_list : (faults_of (line (codes "run" ∷ codes "a.img" ∷ codes "--policy" ∷ codes "Seal" ∷ [])) ≡ []) × (task_of (line (codes "run" ∷ codes "a.img" ∷ codes "--policy" ∷ codes "Seal" ∷ [])) ≡ None)
+unfolding on_rows
+upper_case_list = (refl, refl)
+
+-- an empty list
+empty_list : (faults_of (line (codes "run" ∷ codes "a.img" ∷ codes "--policy=" ∷ [])) ≡ []) × (task_of (line (codes "run" ∷ codes "a.img" ∷ codes "--policy=" ∷ [])) ≡ None)
+unfolding on_rows
+empty_list = (refl, refl)
+
+-- a list of no meaning
+unknown_list : (faults_of (line (codes "run" ∷ codes "a.img" ∷ codes "--policy" ∷ codes "comp" ∷ [])) ≡ []) × (task_of (line (codes "run" ∷ codes "a.img" ∷ codes "--policy" ∷ codes "comp" ∷ [])) ≡ None)
+unfolding on_rows
+unknown_list = (refl, refl)
+
+-- no turn at all
+no_turns : (faults_of (line (codes "run" ∷ codes "a.img" ∷ codes "--turns" ∷ codes "0" ∷ [])) ≡ []) × (task_of (line (codes "run" ∷ codes "a.img" ∷ codes "--turns" ∷ codes "0" ∷ [])) ≡ None)
+unfolding on_rows
+no_turns = (refl, refl)
+
+-- one turn more than the most
+too_many_turns : (faults_of (line (codes "run" ∷ codes "a.img" ∷ codes "--turns" ∷ codes "1000000001" ∷ [])) ≡ []) × (task_of (line (codes "run" ∷ codes "a.img" ∷ codes "--turns" ∷ codes "1000000001" ∷ [])) ≡ None)
+unfolding on_rows
+too_many_turns = (refl, refl)
+
+-- eleven digits
+eleven_digits : (faults_of (line (codes "run" ∷ codes "a.img" ∷ codes "--turns" ∷ codes "00000000007" ∷ [])) ≡ []) × (task_of (line (codes "run" ∷ codes "a.img" ∷ codes "--turns" ∷ codes "00000000007" ∷ [])) ≡ None)
+unfolding on_rows
+eleven_digits = (refl, refl)
+
+-- a sign
+sign : (faults_of (line (codes "run" ∷ codes "a.img" ∷ codes "--turns" ∷ codes "+5" ∷ [])) ≡ []) × (task_of (line (codes "run" ∷ codes "a.img" ∷ codes "--turns" ∷ codes "+5" ∷ [])) ≡ None)
+unfolding on_rows
+sign = (refl, refl)
+
+-- a minus sign behind an equals sign
+negative : (faults_of (line (codes "run" ∷ codes "a.img" ∷ codes "--turns=-5" ∷ [])) ≡ []) × (task_of (line (codes "run" ∷ codes "a.img" ∷ codes "--turns=-5" ∷ [])) ≡ None)
+unfolding on_rows
+negative = (refl, refl)
+
+-- a hexadecimal number
+hexadecimal : (faults_of (line (codes "run" ∷ codes "a.img" ∷ codes "--turns" ∷ codes "0x5" ∷ [])) ≡ []) × (task_of (line (codes "run" ∷ codes "a.img" ∷ codes "--turns" ∷ codes "0x5" ∷ [])) ≡ None)
+unfolding on_rows
+hexadecimal = (refl, refl)
+
+-- no digit
+empty_number : (faults_of (line (codes "run" ∷ codes "a.img" ∷ codes "--turns" ∷ [] ∷ [])) ≡ []) × (task_of (line (codes "run" ∷ codes "a.img" ∷ codes "--turns" ∷ [] ∷ [])) ≡ None)
+unfolding on_rows
+empty_number = (refl, refl)
+
+-- a blank after the digits
+blank : (faults_of (line (codes "run" ∷ codes "a.img" ∷ codes "--turns" ∷ codes "5 " ∷ [])) ≡ []) × (task_of (line (codes "run" ∷ codes "a.img" ∷ codes "--turns" ∷ codes "5 " ∷ [])) ≡ None)
+unfolding on_rows
+blank = (refl, refl)

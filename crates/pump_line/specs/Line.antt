@@ -1,0 +1,45 @@
+-- The command line of `pump` as data, and what `clap` states of a line of words. A word is the bytes of its text; the first
+-- one is the program's name.
+use Rattle.std.specs.Prelude.{◌≡◌, true, false, List, [], ◌∷◌, ◌++◌, map, codes, Option, Some}
+use Rattle.clap.specs.Words.{App, Kinds, Row, Rule, Shape, Text, fault_of, new_rule, subcommand_of}
+use Rattle.clap.specs.Simple.{new_shape}
+
+-- an argument without a dash, which has to stand on the line
+abbrev pub operand_rule : Text → Rule
+operand_rule name = record (new_rule name) { required = true }
+
+-- `--name TEXT` or `--name=TEXT`, at most once
+abbrev pub option_rule : Text → Rule
+option_rule name = record (new_rule name) { long = Some name }
+
+-- a subcommand's name, operands and options
+abbrev pub subcommand_shape : Text → List Text → List Text → Shape
+subcommand_shape name operands options =
+    record (new_shape name) { rules = map operand_rule operands ++ map option_rule options }
+
+unfoldable pub run_shape : Shape
+run_shape = subcommand_shape (codes "run") (codes "image" ∷ []) (codes "policy" ∷ codes "turns" ∷ [])
+
+-- `pump SUBCOMMAND ..`, with no help and no version
+unfoldable pub pump_app : App
+pump_app = record {
+  top = record (new_shape (codes "pump")) {
+    is_leaf = false;
+    disable_help_flag = true;
+    disable_help_subcommand = true;
+    subcommand_required = true;
+  };
+  subs = run_shape ∷ [];
+}
+
+-- the faults that `clap` may name for the words
+unfoldable pub faults_of : List Text → Kinds
+faults_of words = fault_of pump_app words
+
+-- the words are a command line of `pump`, by their form: the values of options are judged apart
+abbrev pub HasMatch : List Text → Type 0
+HasMatch words = faults_of words ≡ []
+
+-- the subcommand that the words name, with what stands there for each of its arguments
+unfoldable pub match_of : List Text → Option (Text × List Row)
+match_of words = subcommand_of pump_app words

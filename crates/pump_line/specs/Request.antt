@@ -1,0 +1,33 @@
+-- What a line asks for, its values as they are written.
+use Rattle.std.specs.Prelude.{List, [], ◌∷◌, codes, Option, None, if◌then◌else◌, option_and_then, option_map}
+use Rattle.std.specs.Str.{bytes_eq}
+use Rattle.clap.specs.Words.{Kinds, Row, Text, first_of}
+use Rattle.pump_line.specs.Line.{faults_of, match_of}
+
+-- a `run`: its image, and the values of the options that stand on the line
+pub record RunRequest : Type 0 where
+  pub image : Text
+  pub policy : Option Text
+  pub turns : Option Text
+
+unfoldable pub run_in : List Row → Option RunRequest
+run_in rows = option_map (λ image. record {
+  image = image;
+  policy = first_of (codes "policy") rows;
+  turns = first_of (codes "turns") rows;
+}) (first_of (codes "image") rows)
+
+-- the request that a subcommand's name and rows make
+unfoldable pub request_by : Text → List Row → Option RunRequest
+request_by name rows = if bytes_eq name (codes "run") then run_in rows else None
+
+abbrev pub request_at : Option (Text × List Row) → Option RunRequest
+request_at = option_and_then (λ found. request_by found.0 found.1)
+
+abbrev pub unless_faulty : Kinds → Option RunRequest → Option RunRequest
+unless_faulty [] request = request
+unless_faulty (kind ∷ more) request = None
+
+-- what the words ask for; `None` where `clap` names a fault
+unfoldable pub request_of : List Text → Option RunRequest
+request_of words = unless_faulty (faults_of words) (request_at (match_of words))

@@ -1,0 +1,12 @@
+//! The command line of `pump`: what its words ask for.
+#![tactic(auto)]
+
+mod command;
+mod law;
+mod task;
+#[cfg(test)]
+mod tests;
+mod values;
+
+pub use law::match_law;
+pub use task::{Task, WordsEnd, read_task};

@@ -1,0 +1,107 @@
+//! What the words ask for.
+
+ghost use Rattle.std.specs.Prelude.{◌≡◌, ◌≢◌, Some, None, IfOk, IfErr, option_and_then, option_map};
+ghost use Rattle.clap.specs.Words.{first_of, found_of, kind_of, rows_of, subcommand_rows_of};
+ghost use Rattle.pump_line.specs.Request.{request_at, request_by, run_in};
+ghost use Rattle.pump_line.specs.Task.{task_in, task_of};
+ghost use Rattle.pump_line.specs.Told.{lent, texts_of, told};
+
+use crate::command::pump_command;
+use crate::values::{read_seal, read_turns};
+use clap::error::ErrorKind;
+use clap::{ArgMatches, Error};
+use std::alloc::{AllocError, Global};
+
+/// A run that the words ask for.
+#[derive(Clone, Copy, Debug)]
+pub struct Task<'a> {
+    /// The name of the image's file; it may be empty.
+    pub image: &'a str,
+    /// Whether the sealing policy is on.
+    pub seal: bool,
+    /// The most turns: 1 to 1,000,000,000.
+    pub turns: u64,
+}
+
+/// Why words were not read.
+#[derive(Clone, Copy, Debug)]
+pub enum WordsEnd {
+    /// They are no command line of `pump`.
+    Bad,
+    /// Memory ran out.
+    Memory,
+}
+
+impl From<AllocError> for WordsEnd {
+    ghost use Rattle.pump_line.specs.declared.task.WordsEnd.TheVariants.{Memory};
+
+    ghost from_gives = { λ _ e. e ≡ Memory };
+
+    fn from(_e: AllocError) -> WordsEnd {
+        WordsEnd::Memory
+    }
+}
+
+/// The text that a match has for an argument.
+fn text_of<'a>(matches: &ArgMatches<'a>, id: &str) -> Option<&'a str>
+    ensures { lent result ≡ first_of id.now (rows_of (found_of matches.now)) }
+{
+    matches.get_str(id)
+}
+
+/// The run that a match of `run` asks for; `None` where a value is bad.
+#[tactic(auto, unfolding(crate::specs::Request::run_in, crate::specs::Task::task_in))]
+fn run_task<'a>(matches: &ArgMatches<'a>) -> Option<Task<'a>>
+    ensures { option_map told result ≡ option_and_then task_in (run_in (rows_of (found_of matches.now))) }
+{
+    let image = text_of(matches, "image")?;
+    let seal = read_seal(text_of(matches, "policy"))?;
+    let turns = read_turns(text_of(matches, "turns"))?;
+    Some(Task { image, seal, turns })
+}
+
+/// What a match of the subcommand with this name asks for.
+#[tactic(auto, unfolding(crate::specs::Request::request_by))]
+fn task_named<'a>(name: &str, matches: &ArgMatches<'a>) -> Option<Task<'a>>
+    ensures { option_map told result
+        ≡ option_and_then task_in (request_by name.now (rows_of (found_of matches.now))) }
+{
+    match name {
+        "run" => run_task(matches),
+        _ => None,
+    }
+}
+
+/// What a match asks for.
+fn task_matched<'a>(matches: &ArgMatches<'a>) -> Option<Task<'a>>
+    ensures { option_map told result ≡ option_and_then task_in (request_at (subcommand_rows_of matches.now)) }
+{
+    let (name, inner) = matches.subcommand()?;
+    task_named(name, inner)
+}
+
+/// Why `clap` gave no match.
+fn end_of(error: &Error) -> WordsEnd
+    ensures memory { kind_of error.now ≡ ErrorKind.OutOfMemory → result ≡ WordsEnd.Memory }
+    ensures bad { kind_of error.now ≢ ErrorKind.OutOfMemory → result ≡ WordsEnd.Bad }
+{
+    match error.kind() {
+        ErrorKind::OutOfMemory => WordsEnd::Memory,
+        _ => WordsEnd::Bad,
+    }
+}
+
+/// What the words ask for, the first being the program's name: `run IMAGE [--policy LIST] [--turns N]`, the options before or
+/// after the image, each at most once, LIST `none` or `seal`, N 1 to 10 decimal digits that write 1 to 1,000,000,000. This is
+/// the project's own command line; `clap` judges its form. Any other words are `Bad`. A line in want of memory may end as
+/// `Memory`.
+pub fn read_task<'a>(alloc: Global, words: &'a Vec<String>) -> Result<Task<'a>, WordsEnd>
+    ensures task { IfOk result (λ t. task_of (texts_of words.now.items) ≡ Some (told t)) }
+    ensures bad { IfErr result (λ e. e ≡ WordsEnd.Bad → task_of (texts_of words.now.items) ≡ None) }
+{
+    let command = pump_command(alloc)?;
+    match command.try_get_matches_from(words.as_slice()) {
+        Ok(matches) => task_matched(&matches).ok_or(WordsEnd::Bad),
+        Err(error) => Err(end_of(&error)),
+    }
+}

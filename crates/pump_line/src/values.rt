@@ -1,0 +1,56 @@
+//! The values of options.
+
+ghost use Rattle.std.specs.Prelude.{◌≡◌};
+ghost use Rattle.pump_line.specs.Task.{number_within, policy_of, seal_of, turns_of};
+ghost use Rattle.pump_line.specs.Told.{lent};
+
+use pump_words::read_number;
+
+/// The most turns of a run whose line says nothing of them.
+const DEFAULT_TURNS: u64 = 1_000_000;
+
+/// The most turns that a line can ask for.
+const MOST_TURNS: u64 = 1_000_000_000;
+
+/// Whether the list of policies is `seal` or `none`; `None` where it is neither.
+fn read_policy(list: &str) -> Option<bool>
+    ensures { result ≡ policy_of list.now }
+{
+    match list {
+        "none" => Some(false),
+        "seal" => Some(true),
+        _ => None,
+    }
+}
+
+/// The number from `least` to `most` that the text writes in 1 to 10 decimal digits; `None` for any other text.
+fn read_number_within(text: &str, least: u64, most: u64) -> Option<u64>
+    ensures { result ≡ number_within least most text.now }
+{
+    let number = read_number(text.as_bytes())?;
+    if number < least || number > most {
+        return None;
+    }
+    Some(number)
+}
+
+/// Whether sealing is on, from the value of `--policy`: off where the option isn't on the line; `None` for a bad list.
+pub(crate) fn read_seal(list: Option<&str>) -> Option<bool>
+    ensures { result ≡ seal_of (lent list.entry) }
+{
+    match list {
+        None => Some(false),
+        Some(list) => read_policy(list),
+    }
+}
+
+/// The most turns, from the value of `--turns`: 1,000,000 where the option isn't on the line; `None` for a text that is no
+/// number from 1 to 1,000,000,000.
+pub(crate) fn read_turns(text: Option<&str>) -> Option<u64>
+    ensures { result ≡ turns_of (lent text.entry) }
+{
+    match text {
+        None => Some(DEFAULT_TURNS),
+        Some(text) => read_number_within(text, 1, MOST_TURNS),
+    }
+}
