@@ -5,6 +5,8 @@ use Rattle.host_io.specs.declared.traits.sink.PutEnd.TheVariants as put_end
 use Rattle.host_io.specs.declared.traits.files.LoadFile.{LoadFile}
 use Rattle.host_io.specs.declared.traits.files.LoadFile.TheVariants as load_file
 use Rattle.host_io.specs.declared.traits.source.Failed.{Failed}
+use Rattle.host_io.specs.declared.whole_input.ReadEnd.{ReadEnd}
+use Rattle.host_io.specs.declared.whole_input.ReadEnd.TheVariants as read_end
 
 -- A count of this project, one later: it is a `u64` that stands still at its largest value.
 abbrev pub count_after : ℕ → ℕ
@@ -25,6 +27,13 @@ PutCause before now (Err put_end.Memory) = now ≡ before
 abbrev pub ReadCause : {T : Type 0} → ℕ → ℕ → Result T Failed → Type 0
 ReadCause before now (Ok _) = now ≡ before
 ReadCause before now (Err _) = Rose before now
+
+-- The same of a source that is to be read to its end.
+abbrev pub ReadToEndCause : {T : Type 0} → ℕ → ℕ → Result T ReadEnd → Type 0
+ReadToEndCause before now (Ok _) = now ≡ before
+ReadToEndCause before now (Err read_end.Failed) = Rose before now
+ReadToEndCause before now (Err read_end.TooLong) = now ≡ before
+ReadToEndCause before now (Err read_end.Memory) = now ≡ before
 
 -- The count of a name's faults rose, and no name's fell.
 pub record RoseAt (before now : List ℕ → ℕ) (name : List ℕ) : Type 0 where

@@ -11,6 +11,7 @@ mod system;
 #[cfg(test)]
 mod tests;
 mod traits;
+mod whole_input;
 
 pub use memory::mem_files::MemFiles;
 pub use memory::mem_sink::MemSink;
@@ -24,3 +25,4 @@ pub use system::std_source::StdSource;
 pub use traits::files::{Files, LoadFile};
 pub use traits::sink::{PutEnd, Sink};
 pub use traits::source::{Failed, Source};
+pub use whole_input::{ReadEnd, read_to_end};

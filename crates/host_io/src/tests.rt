@@ -3,8 +3,8 @@ ghost use Rattle.std.specs.Prelude.{IfOk};
 ghost use Rattle.host_io.specs.Held.{files_of, AreNamesDistinct};
 
 use crate::{
-    Failed, Files, LoadFile, MemFiles, MemSink, MemSource, PutEnd, Sink, Source, StdFiles, StdSink,
-    StdSource, SureFiles, SureSink, SureSource,
+    Failed, Files, LoadFile, MemFiles, MemSink, MemSource, PutEnd, ReadEnd, Sink, Source, StdFiles,
+    StdSink, StdSource, SureFiles, SureSink, SureSource, read_to_end,
 };
 use std::alloc::{AllocError, Global};
 use std::io::{Read, Write};
@@ -89,6 +89,73 @@ fn sure_source_is_read_in_pieces(rt: HostRuntime) -> Result<(), Fail> {
     Ok(())
 }
 
+// The bytes at these places of a long input, in which no two pieces are alike.
+fn input(alloc: Global, start: usize, end: usize) -> Result<Vec<u8>, AllocError> {
+    (start..end).map(|place| (place % 251) as u8).collect(alloc)
+}
+
+// The source is read to its end, which gives the bytes where the answer is Ok.
+fn check_read_to_end<S: Source>(
+    rt: &(impl Abort + AllocGlobal),
+    source: &mut S,
+    limit: usize,
+    answer: Result<&[u8], ReadEnd>,
+) {
+    match (read_to_end(rt.alloc(), source, limit), answer) {
+        (Ok(bytes), Ok(wanted)) => assert_eq!(rt; bytes.as_slice(), wanted, "within {limit}"),
+        (Err(end), Err(wanted)) => assert_eq!(rt; end, wanted, "within {limit}"),
+        (_, _) => assert!(rt; false, "within {limit}"),
+    }
+}
+
+// How many bytes an input has, the limit, and whether it is within.
+const READINGS: [(usize, usize, bool); 9] = [
+    (0, 0, true),
+    (0, 10, true),
+    (1, 0, false),
+    (100, 4_096, true),
+    (4_096, 4_096, true),
+    (4_097, 4_096, false),
+    (10_000, 20_000, true),
+    (10_000, 10_000, true),
+    (10_000, 9_999, false),
+];
+
+#[test]
+fn inputs_are_read_within_the_limit(rt: HostRuntime) -> Result<(), Fail> {
+    for (length, limit, within) in READINGS {
+        let bytes = input(rt.alloc(), 0, length)?;
+        let answer = if within {
+            Ok(bytes.as_slice())
+        } else {
+            Err(ReadEnd::TooLong)
+        };
+        let mut sure = SureSource::new(bytes.clone()?);
+        check_read_to_end(&rt, &mut sure, limit, answer);
+        let mut planned = MemSource::new(bytes.clone()?, Vec::new(rt.alloc()));
+        check_read_to_end(&rt, &mut planned, limit, answer);
+    }
+    Ok(())
+}
+
+// The number of the read that fails, of an input of 5,000 bytes, and how many bytes come before.
+const FAILED_READS: [(u64, usize); 3] = [(0, 0), (1, 4_096), (2, 5_000)];
+
+// After a failed read the rest is left, and can be read to its end.
+#[test]
+fn failed_reads_leave_the_rest(rt: HostRuntime) -> Result<(), Fail> {
+    for (number, before) in FAILED_READS {
+        let fails = vec![in rt.alloc(); number]?;
+        let mut source = MemSource::new(input(rt.alloc(), 0, 5_000)?, fails);
+        check_read_to_end(&rt, &mut source, 5_000, Err(ReadEnd::Failed));
+        let rest = input(rt.alloc(), before, 5_000)?;
+        assert_eq!(rt; source.left(), rest.as_slice(), "at read {number}");
+        assert_eq!(rt; source.faults(), 1, "at read {number}");
+        check_read_to_end(&rt, &mut source, 5_000, Ok(rest.as_slice()));
+    }
+    Ok(())
+}
+
 // Each load is of the name, within the limit.
 fn check_loads<F: Files>(
     rt: &(impl Abort + AllocGlobal),
@@ -163,6 +230,16 @@ fn std_source_tells_an_error(rt: HostRuntime) -> Result<(), Fail> {
     Ok(())
 }
 
+// The standard input of a test is empty.
+#[test]
+fn standard_input_is_read_to_its_end(rt: HostRuntime) -> Result<(), Fail> {
+    let mut source = StdSource::new(rt.stdin());
+    check_read_to_end(&rt, &mut source, 10, Ok(&[]));
+    check_read_to_end(&rt, &mut source, 0, Ok(&[]));
+    assert_eq!(rt; source.faults(), 0);
+    Ok(())
+}
+
 // A writer that has no room left.
 #[derive(Drop)]
 struct Full;
@@ -216,6 +293,8 @@ fn std_adapters_share_a_file(rt: HostRuntime) -> Result<(), Fail> {
         ],
     )?;
     assert_eq!(rt; source.faults(), 0);
+    let mut whole = StdSource::new(fs::open(&rt, path.as_path())?);
+    check_read_to_end(&rt, &mut whole, 3, Ok(b"abc"));
 
     let mut files = StdFiles::new(rt);
     let loads = [
