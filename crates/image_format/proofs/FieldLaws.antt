@@ -4,8 +4,8 @@ use Rattle.std.specs.Int.{Width, w16, w32, byte_len, from_le_bytes, to_le_bytes}
 use Rattle.std.proofs.lemmas.Bool.{cases_lt, ltb-true, lt-ltb, ltb-false, le-ltb}
 use Rattle.std.proofs.lemmas.List.{take_at, drop_at, take-append-drop, length-append, length-take, get_or-drop, get_or-take, get_or_past}
 use Rattle.std.proofs.lemmas.Nat.{le_bytes_2, le_bytes_4, from_le_bytes-to_le_bytes_2, from_le_bytes-to_le_bytes_4}
-use Rattle.image_format.specs.declared.faults.Fault.{Fault}
-use Rattle.image_format.specs.declared.faults.Fault.TheVariants.{Short}
+use Rattle.image_format.specs.declared.errors.ImageError.{ImageError}
+use Rattle.image_format.specs.declared.errors.ImageError.TheVariants.{Short}
 use Rattle.image_format.specs.Conditions.{is_u32}
 use Rattle.image_format.specs.Spelling.{half, number}
 use Rattle.image_format.specs.Reading.{◌>>=◌, Reads, demand, number_at, tested_at}
@@ -13,16 +13,16 @@ use Rattle.image_format.specs.Reading.{◌>>=◌, Reads, demand, number_at, test
 -- ---- a `do` block, taken apart
 
 -- a step that did not fail, and what comes behind it
-pub on_bind : {A B P : Type 0} (r : Result A Fault) (f : A → Result B Fault) (y : B) → (r >>= f) ≡ Ok y → ((x : A) → r ≡ Ok x → f x ≡ Ok y → P) → P
+pub on_bind : {A B P : Type 0} (r : Result A ImageError) (f : A → Result B ImageError) (y : B) → (r >>= f) ≡ Ok y → ((x : A) → r ≡ Ok x → f x ≡ Ok y → P) → P
 on_bind (Ok x) f y e next = next x refl e
-on_bind (Err fault) f y e next = absurd cc
+on_bind (Err error) f y e next = absurd cc
 
 -- a demand that did not fail
-pub demand_ok : (b : Bool) (fault : Fault) (x : Unit {0}) → demand b fault ≡ Ok x → b ≡ true
-demand_ok true fault x e = refl
-demand_ok false fault x e = absurd cc
+pub demand_ok : (b : Bool) (error : ImageError) (x : Unit {0}) → demand b error ≡ Ok x → b ≡ true
+demand_ok true error x e = refl
+demand_ok false error x e = absurd cc
 
-abbrev done : {A : Type 0} → A → Result A Fault
+abbrev done : {A : Type 0} → A → Result A ImageError
 done x = Ok x
 
 pub ok_is : {A : Type 0} (x y : A) → done x ≡ done y → x ≡ y
@@ -89,9 +89,9 @@ wide32 = record {
   below = λ bytes fits. omega (arith, fits 0, fits 1, fits 2, fits 3);
 }
 
-guard_ok : {A : Type 0} (b : Bool) (fault : Fault) (x y : A) → cond b (Err fault) (Ok x) ≡ Ok y → (b ≡ false) × (x ≡ y)
-guard_ok true fault x y e = absurd cc
-guard_ok false fault x y e = (refl, cc)
+guard_ok : {A : Type 0} (b : Bool) (error : ImageError) (x y : A) → cond b (Err error) (Ok x) ≡ Ok y → (b ≡ false) × (x ≡ y)
+guard_ok true error x y e = absurd cc
+guard_ok false error x y e = (refl, cc)
 
 wide_takes : (w : Width) (limit : ℕ) (wide : IsWide w limit) (size : ℕ) (bytes : List ℕ) (x : ℕ × List ℕ) → IsBytes bytes → number_at w size bytes ≡ Ok x → Takes bytes (to_le_bytes w x.0) x.1 × (x.0 < limit)
 wide_takes w limit wide size bytes x is_bytes e =
@@ -109,23 +109,23 @@ wide_again w limit wide size n rest lt =
     rw (long, take_at (to_le_bytes w n) rest (byte_len w) len, drop_at (to_le_bytes w n) rest (byte_len w) len, wide.again n lt) refl
 
 -- a number that is tested
-tested_takes : (w : Width) (limit : ℕ) (wide : IsWide w limit) (size : ℕ) (test : ℕ → Bool) (fault : ℕ → Fault) (bytes : List ℕ) (x : ℕ × List ℕ) → IsBytes bytes → tested_at w size test fault bytes ≡ Ok x → Takes bytes (to_le_bytes w x.0) x.1 × (x.0 < limit) × (test x.0 ≡ true)
+tested_takes : (w : Width) (limit : ℕ) (wide : IsWide w limit) (size : ℕ) (test : ℕ → Bool) (error : ℕ → ImageError) (bytes : List ℕ) (x : ℕ × List ℕ) → IsBytes bytes → tested_at w size test error bytes ≡ Ok x → Takes bytes (to_le_bytes w x.0) x.1 × (x.0 < limit) × (test x.0 ≡ true)
 unfolding tested_at
-tested_takes w limit wide size test fault bytes x is_bytes e =
+tested_takes w limit wide size test error bytes x is_bytes e =
     on_bind (number_at w size bytes) _ x e λ n n-is e1.
-    on_bind (demand (test n.0) (fault n.0)) _ x e1 λ u u-is e2.
+    on_bind (demand (test n.0) (error n.0)) _ x e1 λ u u-is e2.
     let t = wide_takes w limit wide size bytes n is_bytes n-is in
     subst (λ (y : ℕ × List ℕ). Takes bytes (to_le_bytes w y.0) y.1 × (y.0 < limit) × (test y.0 ≡ true)) (ok_is n x e2) (t.0, t.1, demand_ok _ _ u u-is)
 
-tested_again : (w : Width) (limit : ℕ) (wide : IsWide w limit) (size : ℕ) (test : ℕ → Bool) (fault : ℕ → Fault) (n : ℕ) (rest : List ℕ) → n < limit → test n ≡ true → tested_at w size test fault (to_le_bytes w n ++ rest) ≡ Ok (n, rest)
+tested_again : (w : Width) (limit : ℕ) (wide : IsWide w limit) (size : ℕ) (test : ℕ → Bool) (error : ℕ → ImageError) (n : ℕ) (rest : List ℕ) → n < limit → test n ≡ true → tested_at w size test error (to_le_bytes w n ++ rest) ≡ Ok (n, rest)
 unfolding tested_at
-tested_again w limit wide size test fault n rest lt fits = rw (wide_again w limit wide size n rest lt, fits) refl
+tested_again w limit wide size test error n rest lt fits = rw (wide_again w limit wide size n rest lt, fits) refl
 
-pub tested_fits : (w : Width) (size : ℕ) (test : ℕ → Bool) (fault : ℕ → Fault) (bytes : List ℕ) (x : ℕ × List ℕ) → tested_at w size test fault bytes ≡ Ok x → test x.0 ≡ true
+pub tested_fits : (w : Width) (size : ℕ) (test : ℕ → Bool) (error : ℕ → ImageError) (bytes : List ℕ) (x : ℕ × List ℕ) → tested_at w size test error bytes ≡ Ok x → test x.0 ≡ true
 unfolding tested_at
-tested_fits w size test fault bytes x e =
+tested_fits w size test error bytes x e =
     on_bind (number_at w size bytes) _ x e λ n n-is e1.
-    on_bind (demand (test n.0) (fault n.0)) _ x e1 λ u u-is e2.
+    on_bind (demand (test n.0) (error n.0)) _ x e1 λ u u-is e2.
     subst (λ (y : ℕ × List ℕ). test y.0 ≡ true) (ok_is n x e2) (demand_ok _ _ u u-is)
 
 -- ---- the numbers of the format
@@ -138,17 +138,17 @@ number_exact size = record {
 }
 
 -- a number that four bytes hold, and that its test takes
-pub tested_exact : (size : ℕ) (test : ℕ → Bool) (fault : ℕ → Fault) → ReadsExactly (tested_at w32 size test fault) number (λ n. (n < 2 ^ 32) × (test n ≡ true))
+pub tested_exact : (size : ℕ) (test : ℕ → Bool) (error : ℕ → ImageError) → ReadsExactly (tested_at w32 size test error) number (λ n. (n < 2 ^ 32) × (test n ≡ true))
 unfolding number
-tested_exact size test fault = record {
-  takes = λ bytes x is_bytes e. let t = tested_takes w32 (2 ^ 32) wide32 size test fault bytes x is_bytes e in (t.0, (t.1, t.2));
-  again = λ n rest fits. tested_again w32 (2 ^ 32) wide32 size test fault n rest fits.0 fits.1;
+tested_exact size test error = record {
+  takes = λ bytes x is_bytes e. let t = tested_takes w32 (2 ^ 32) wide32 size test error bytes x is_bytes e in (t.0, (t.1, t.2));
+  again = λ n rest fits. tested_again w32 (2 ^ 32) wide32 size test error n rest fits.0 fits.1;
 }
 
 -- the same of two bytes
-pub half_exact : (size : ℕ) (test : ℕ → Bool) (fault : ℕ → Fault) → ReadsExactly (tested_at w16 size test fault) half (λ n. (n < 2 ^ 16) × (test n ≡ true))
+pub half_exact : (size : ℕ) (test : ℕ → Bool) (error : ℕ → ImageError) → ReadsExactly (tested_at w16 size test error) half (λ n. (n < 2 ^ 16) × (test n ≡ true))
 unfolding half
-half_exact size test fault = record {
-  takes = λ bytes x is_bytes e. let t = tested_takes w16 (2 ^ 16) wide16 size test fault bytes x is_bytes e in (t.0, (t.1, t.2));
-  again = λ n rest fits. tested_again w16 (2 ^ 16) wide16 size test fault n rest fits.0 fits.1;
+half_exact size test error = record {
+  takes = λ bytes x is_bytes e. let t = tested_takes w16 (2 ^ 16) wide16 size test error bytes x is_bytes e in (t.0, (t.1, t.2));
+  again = λ n rest fits. tested_again w16 (2 ^ 16) wide16 size test error n rest fits.0 fits.1;
 }

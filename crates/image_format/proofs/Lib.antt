@@ -5,3 +5,4 @@ pub mod ListLaws
 pub mod RowLaws
 pub mod FileLaws
 pub mod ImageFacts
+pub mod FrontLaws

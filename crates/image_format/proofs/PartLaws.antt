@@ -4,10 +4,10 @@ use Rattle.std.specs.Int.{w32}
 use Rattle.std.proofs.lemmas.Bool.{leb-true}
 use Rattle.std.proofs.lemmas.List.{length-append, length-drop, take-append-le, drop-append-le, take_at, drop_at, append-nil, map_push}
 use Rattle.std.proofs.lemmas.List.Elements.{All-push, All-weaker}
-use Rattle.image_format.specs.declared.faults.Fault.{Fault}
-use Rattle.image_format.specs.declared.faults.Fault.TheVariants.{Order}
-use Rattle.image_format.specs.declared.faults.ReadEnd.{ReadEnd}
-use Rattle.image_format.specs.declared.faults.ReadEnd.TheVariants as ends
+use Rattle.image_format.specs.declared.errors.ImageError.{ImageError}
+use Rattle.image_format.specs.declared.errors.ImageError.TheVariants.{Order}
+use Rattle.image_format.specs.declared.errors.ImageEnd.{ImageEnd}
+use Rattle.image_format.specs.declared.errors.ImageEnd.TheVariants as ends
 use Rattle.image_format.specs.declared.rows.WordRange.{WordRange}
 use Rattle.image_format.specs.declared.segments.Extent.{Extent}
 use Rattle.image_format.specs.Picture.{Segment}
@@ -25,22 +25,22 @@ end_of (Some range) = range.address + 4 * range.words
 -- ---- reading
 
 -- a segment is refused where its range is
-pub range_refused : (e : ReadEnd) (size ram row : ℕ) (before : Option WordRange) (bytes : List ℕ) → FailsAs e (range_behind_at size ram row before bytes) → FailsAs e (segment_at size ram (placed row before bytes))
+pub range_refused : (e : ImageEnd) (size ram row : ℕ) (before : Option WordRange) (bytes : List ℕ) → FailsAs e (range_behind_at size ram row before bytes) → FailsAs e (segment_at size ram (placed row before bytes))
 unfolding segment_at
 range_refused ends.Memory size ram row before bytes refused = tt
-range_refused (ends.Bad fault) size ram row before bytes refused = rw refused refl
+range_refused (ends.Bad error) size ram row before bytes refused = rw refused refl
 
 -- and where its words are
-words_fail : {S A : Type 0} (front : List A) (read : Result (List A × S) Fault) (fault : Fault) → with_front front read ≡ Err fault → read ≡ Err fault
-words_fail front (Ok x) fault e = absurd cc
-words_fail front (Err other) fault e = e
+words_fail : {S A : Type 0} (front : List A) (read : Result (List A × S) ImageError) (error : ImageError) → with_front front read ≡ Err error → read ≡ Err error
+words_fail front (Ok x) error e = absurd cc
+words_fail front (Err other) error e = e
 
-pub words_refused : (e : ReadEnd) (size ram row : ℕ) (before : Option WordRange) (bytes : List ℕ) (range : WordRange) (after contents : List ℕ) → range_behind_at size ram row before bytes ≡ Ok (range, after)
+pub words_refused : (e : ImageEnd) (size ram row : ℕ) (before : Option WordRange) (bytes : List ℕ) (range : WordRange) (after contents : List ℕ) → range_behind_at size ram row before bytes ≡ Ok (range, after)
     → FailsAs e (with_front contents (times range.words (number_at w32 size) after)) → FailsAs e (segment_at size ram (placed row before bytes))
 unfolding segment_at
 words_refused ends.Memory size ram row before bytes range after contents range-is refused = tt
-words_refused (ends.Bad fault) size ram row before bytes range after contents range-is refused =
-    rw (range-is, words_fail contents (times range.words (number_at w32 size) after) fault refused) refl
+words_refused (ends.Bad error) size ram row before bytes range after contents range-is refused =
+    rw (range-is, words_fail contents (times range.words (number_at w32 size) after) error refused) refl
 
 -- where a range that was read lies
 pub record LiesBehind (ram : ℕ) (before : Option WordRange) (range : WordRange) : Type 0 where
@@ -71,11 +71,11 @@ range_lies size ram row before bytes x e =
     })
 
 -- the words that were read behind others
-on_front : {S A P : Type 0} (front : List A) (read : Result (List A × S) Fault) (all : List A) (s : S) → with_front front read ≡ Ok (all, s) → ((xs : List A) → read ≡ Ok (xs, s) → front ++ xs ≡ all → P) → P
+on_front : {S A P : Type 0} (front : List A) (read : Result (List A × S) ImageError) (all : List A) (s : S) → with_front front read ≡ Ok (all, s) → ((xs : List A) → read ≡ Ok (xs, s) → front ++ xs ≡ all → P) → P
 on_front {S} {A} front (Ok x) all s e next =
     let same : (front ++ x.0, x.1) ≡ (all, s) = ok_is (front ++ x.0, x.1) (all, s) e in
     next x.0 (ap (λ (t : S). Ok (x.0, t)) (ap (λ (y : List A × S). y.1) same)) (ap (λ (y : List A × S). y.0) same)
-on_front front (Err fault) all s e next = absurd cc
+on_front front (Err error) all s e next = absurd cc
 
 segment_is : (size ram row : ℕ) (before : Option WordRange) (bytes : List ℕ) (range : WordRange) (after words rest : List ℕ) → range_behind_at size ram row before bytes ≡ Ok (range, after) → times range.words (number_at w32 size) after ≡ Ok (words, rest)
     → segment_at size ram (placed row before bytes) ≡ Ok (record { address = range.address; words = words }, placed (row + 1) (Some range) rest)

@@ -3,7 +3,7 @@ use Rattle.std.proofs.Common.{◌≡◌, ℕ, ◌+◌, ◌-◌, ◌*◌, ◌^◌
 use Rattle.std.specs.List.{flat_map}
 use Rattle.std.specs.Int.{w32}
 use Rattle.std.proofs.lemmas.Bool.{leb-true, ltb-true}
-use Rattle.image_format.specs.declared.faults.Fault.TheVariants.{Field, Order}
+use Rattle.image_format.specs.declared.errors.ImageError.TheVariants.{Field, Order}
 use Rattle.image_format.specs.declared.rows.WordRange.{WordRange}
 use Rattle.image_format.specs.declared.rows.Label.{Label}
 use Rattle.image_format.specs.declared.rows.Edge.{Edge}

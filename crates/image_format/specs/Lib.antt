@@ -4,4 +4,4 @@ pub mod Spelling
 pub mod Parts
 pub mod Seen
 pub mod Reading
-pub mod FirstImage
+pub mod Taken

@@ -1,43 +1,45 @@
 -- Reading an image from its first byte to its last, up to the first condition that fails.
 use Rattle.std.specs.Prelude.{◌≡◌, ℕ, zero, suc, ◌+◌, ◌-◌, List, [], ◌∷◌, ◌++◌, length, take, drop, Bool, true, false, Option, Some, None, Result, Ok, Err, nat_lt, ◌==◌, if◌then◌else◌}
 use Rattle.std.specs.Int.{Width, w16, w32, byte_len, from_le_bytes}
-use Rattle.image_format.specs.declared.faults.Fault.{Fault}
-use Rattle.image_format.specs.declared.faults.Fault.TheVariants.{Magic, Version, Short, Field, Order, Trailing}
-use Rattle.image_format.specs.declared.faults.ReadEnd.{ReadEnd}
-use Rattle.image_format.specs.declared.faults.ReadEnd.TheVariants as ends
+use Rattle.image_format.specs.declared.errors.ImageError.{ImageError}
+use Rattle.image_format.specs.declared.errors.ImageError.TheVariants.{Magic, Version, Short, Field, Order, Trailing}
+use Rattle.image_format.specs.declared.errors.ImageEnd.{ImageEnd}
+use Rattle.image_format.specs.declared.errors.ImageEnd.TheVariants as ends
 use Rattle.image_format.specs.declared.rows.WordRange.{WordRange}
 use Rattle.image_format.specs.declared.rows.Label.{Label}
 use Rattle.image_format.specs.declared.rows.Edge.{Edge}
 use Rattle.image_format.specs.declared.rows.CompartmentRange.{CompartmentRange}
 use Rattle.image_format.specs.declared.sizes.Sizes.{Sizes}
+use Rattle.image_format.specs.declared.others.OtherLists.{OtherLists}
+use Rattle.image_format.specs.declared.others.OtherLists.TheVariants.{Empty}
 use Rattle.image_format.specs.Picture.{Segment, Picture}
-use Rattle.image_format.specs.Conditions.{is_harts, is_ram, is_heap_base, is_heap_bytes, is_place, is_aligned, is_word_count, is_owner, is_clear_of, is_label_after, is_edge_after, is_compartment_after, in_order}
+use Rattle.image_format.specs.Conditions.{is_harts, is_ram, is_heap_base, is_heap_bytes, is_place, is_aligned, is_word_count, is_owner, is_clear_of, is_label_after, is_edge_after, is_compartment_after, in_order, any_count, takes_count}
 
 infixl 10 ◌>>=◌
-abbrev pub ◌>>=◌ : {A B : Type 0} → Result A Fault → (A → Result B Fault) → Result B Fault
+abbrev pub ◌>>=◌ : {A B : Type 0} → Result A ImageError → (A → Result B ImageError) → Result B ImageError
 (Ok x) >>= f = f x
 (Err e) >>= f = Err e
 
--- an early end is the fault that reading gives, unless memory ran out
-abbrev pub FailsAs : {Y : Type 0} → ReadEnd → Result Y Fault → Type 0
+-- an early end is the error that reading gives, unless memory ran out
+abbrev pub FailsAs : {Y : Type 0} → ImageEnd → Result Y ImageError → Type 0
 FailsAs ends.Memory read = Unit {0}
-FailsAs (ends.Bad fault) read = read ≡ Err fault
+FailsAs (ends.Bad error) read = read ≡ Err error
 
 -- what a function returned, seen by view, is what reading gives, unless memory ran out
-abbrev pub Gives : {X Y : Type 0} → (X → Y) → Result X ReadEnd → Result Y Fault → Type 0
+abbrev pub Gives : {X Y : Type 0} → (X → Y) → Result X ImageEnd → Result Y ImageError → Type 0
 Gives view (Ok x) read = read ≡ Ok (view x)
 Gives view (Err end) read = FailsAs end read
 
--- a value and the bytes behind it, or the first fault
+-- a value and the bytes behind it, or the first error
 abbrev pub Reads : Type 0 → Type 0
-Reads A = List ℕ → Result (A × List ℕ) Fault
+Reads A = List ℕ → Result (A × List ℕ) ImageError
 
 -- ---- fields; size is the length of the file, of which the given bytes are the rest
 
--- a test that must hold, or else the fault
-abbrev pub demand : Bool → Fault → Result (Unit {0}) Fault
-demand true fault = Ok tt
-demand false fault = Err fault
+-- a test that must hold, or else the error
+abbrev pub demand : Bool → ImageError → Result (Unit {0}) ImageError
+demand true error = Ok tt
+demand false error = Err error
 
 -- a number, the low byte first
 abbrev pub number_at : Width → ℕ → Reads ℕ
@@ -45,10 +47,10 @@ number_at w size bytes =
     if nat_lt (length bytes) (byte_len w) then Err (Short size) else Ok (from_le_bytes w (take (byte_len w) bytes), drop (byte_len w) bytes)
 
 -- a number, and then its test
-unfoldable pub tested_at : Width → ℕ → (ℕ → Bool) → (ℕ → Fault) → Reads ℕ
-tested_at w size test fault bytes = do
+unfoldable pub tested_at : Width → ℕ → (ℕ → Bool) → (ℕ → ImageError) → Reads ℕ
+tested_at w size test error bytes = do
   n ← number_at w size bytes
-  fits ← demand (test n.0) (fault n.0)
+  fits ← demand (test n.0) (error n.0)
   Ok n
 
 -- a numbered field, which is told with its offset where its test fails: harts 1, RAM 2, heap base 3, heap bytes 4,
@@ -58,7 +60,7 @@ abbrev pub field_at : ℕ → ℕ → (ℕ → Bool) → Reads ℕ
 field_at size field test bytes = tested_at w32 size test (λ _. Field field (size - length bytes)) bytes
 
 -- a step as many times as said, each from where the one before it ended
-unfoldable pub times : {S A : Type 0} → ℕ → (S → Result (A × S) Fault) → S → Result (List A × S) Fault
+unfoldable pub times : {S A : Type 0} → ℕ → (S → Result (A × S) ImageError) → S → Result (List A × S) ImageError
 times zero step s = Ok ([], s)
 times (suc n) step s = do
   first ← step s
@@ -66,9 +68,9 @@ times (suc n) step s = do
   Ok (first.0 ∷ others.0, others.1)
 
 -- what was read before, and what is still read
-abbrev pub with_front : {S A : Type 0} → List A → Result (List A × S) Fault → Result (List A × S) Fault
+abbrev pub with_front : {S A : Type 0} → List A → Result (List A × S) ImageError → Result (List A × S) ImageError
 with_front front (Ok x) = Ok (front ++ x.0, x.1)
-with_front front (Err fault) = Err fault
+with_front front (Err error) = Err error
 
 -- ---- rows of the five lists
 
@@ -109,7 +111,7 @@ pub record Place (A : Type 0) : Type 0 where
   pub bytes : List ℕ
 
 -- a row, and then its order
-unfoldable pub row_at : {A : Type 0} → ℕ → (A → A → Bool) → Reads A → Place A → Result (A × Place A) Fault
+unfoldable pub row_at : {A : Type 0} → ℕ → (A → A → Bool) → Reads A → Place A → Result (A × Place A) ImageError
 row_at list follows fields place = do
   row ← fields place.bytes
   ordered ← demand (in_order follows place.before row.0) (Order list place.row)
@@ -123,22 +125,26 @@ range_behind_at size ram row before bytes = do
   Ok range
 
 -- a segment: where its words lie, the order, and the words
-unfoldable pub segment_at : ℕ → ℕ → Place WordRange → Result (Segment × Place WordRange) Fault
+unfoldable pub segment_at : ℕ → ℕ → Place WordRange → Result (Segment × Place WordRange) ImageError
 segment_at size ram place = do
   range ← range_behind_at size ram place.row place.before place.bytes
   words ← times range.0.words (number_at w32 size) range.1
   Ok (record { address = range.0.address; words = words.0 }, record { row = place.row + 1; before = Some range.0; bytes = words.1 })
 
 -- as many rows as said, from the first on
-unfoldable pub rows_at : {A B : Type 0} → ℕ → (Place A → Result (B × Place A) Fault) → Reads (List B)
+unfoldable pub rows_at : {A B : Type 0} → ℕ → (Place A → Result (B × Place A) ImageError) → Reads (List B)
 rows_at count step bytes = do
   rows ← times count step (record { row = 0; before = None; bytes = bytes })
   Ok (rows.0, rows.1.bytes)
 
--- a count, and that many rows
-unfoldable pub list_at : {A B : Type 0} → ℕ → (Place A → Result (B × Place A) Fault) → Reads (List B)
-list_at size step bytes = do
-  count ← number_at w32 size bytes
+-- how many rows a list has, if that many are taken; else the list's order is told at row 0
+abbrev pub count_at : ℕ → ℕ → (ℕ → Bool) → Reads ℕ
+count_at size list takes bytes = tested_at w32 size takes (λ _. Order list 0) bytes
+
+-- a count that is taken, and that many rows
+unfoldable pub list_at : {A B : Type 0} → ℕ → ℕ → (ℕ → Bool) → (Place A → Result (B × Place A) ImageError) → Reads (List B)
+list_at size list takes step bytes = do
+  count ← count_at size list takes bytes
   rows_at count.0 step count.1
 
 -- ---- the whole
@@ -152,7 +158,7 @@ abbrev pub is_version : ℕ → Bool
 is_version n = n == 1
 
 -- the magic, and the version
-unfoldable pub opening_at : ℕ → List ℕ → Result (List ℕ) Fault
+unfoldable pub opening_at : ℕ → List ℕ → Result (List ℕ) ImageError
 opening_at size bytes = do
   magic ← tested_at w32 size is_magic (λ _. Magic) bytes
   version ← tested_at w16 size is_version (λ n. Version n) magic.1
@@ -176,26 +182,41 @@ abbrev pub entries_at : ℕ → Sizes → Reads (List ℕ)
 entries_at size sizes bytes = times sizes.harts (field_at size 5 (is_place sizes.ram)) bytes
 
 -- the five lists, under the sizes and entries that were read before them
-unfoldable pub lists_at : ℕ → Sizes → List ℕ → Reads Picture
-lists_at size sizes entries bytes = do
-  segments ← list_at size (segment_at size sizes.ram) bytes
-  code ← list_at size (row_at 2 is_clear_of (range_at size sizes.ram 8)) segments.1
-  labels ← list_at size (row_at 3 is_label_after (label_at size sizes.ram)) code.1
-  edges ← list_at size (row_at 4 is_edge_after (edge_at size)) labels.1
-  compartments ← list_at size (row_at 5 is_compartment_after (compartment_at size sizes.ram)) edges.1
+unfoldable pub lists_at : ℕ → OtherLists → Sizes → List ℕ → Reads Picture
+lists_at size others sizes entries bytes = do
+  segments ← list_at size 1 any_count (segment_at size sizes.ram) bytes
+  code ← list_at size 2 (takes_count others) (row_at 2 is_clear_of (range_at size sizes.ram 8)) segments.1
+  labels ← list_at size 3 (takes_count others) (row_at 3 is_label_after (label_at size sizes.ram)) code.1
+  edges ← list_at size 4 (takes_count others) (row_at 4 is_edge_after (edge_at size)) labels.1
+  compartments ← list_at size 5 (takes_count others) (row_at 5 is_compartment_after (compartment_at size sizes.ram)) edges.1
   Ok (record { ram = sizes.ram; heap_base = sizes.heap_base; heap_bytes = sizes.heap_bytes; entries = entries; segments = segments.0; code = code.0; labels = labels.0; edges = edges.0; compartments = compartments.0 }, compartments.1)
 
 -- the opening, the sizes, the entries and the lists
-unfoldable pub picture_at : ℕ → Reads Picture
-picture_at size bytes = do
+unfoldable pub picture_at : ℕ → OtherLists → Reads Picture
+picture_at size others bytes = do
   rest ← opening_at size bytes
   sizes ← sizes_at size rest
   entries ← entries_at size sizes.0 sizes.1
-  lists_at size sizes.0 entries.0 entries.1
+  lists_at size others sizes.0 entries.0 entries.1
 
 -- all of the bytes: the image whose file they are, or the first condition that they fail
-unfoldable pub image_of : List ℕ → Result Picture Fault
-image_of bytes = do
-  g ← picture_at (length bytes) bytes
+unfoldable pub whole_of : OtherLists → List ℕ → Result Picture ImageError
+whole_of others bytes = do
+  g ← picture_at (length bytes) others bytes
   ended ← demand (length g.1 == 0) (Trailing (length bytes - length g.1))
   Ok g.0
+
+-- the same where no list but the segments may have rows
+unfoldable pub image_of : List ℕ → Result Picture ImageError
+image_of bytes = whole_of Empty bytes
+
+-- what was returned is the image that is read, or the condition that fails first, unless memory ran out
+abbrev pub GivesImage : Result Picture ImageEnd → Result Picture ImageError → Type 0
+GivesImage (Ok g) taken = taken ≡ Ok g
+GivesImage (Err end) taken = FailsAs end taken
+
+-- the bytes were refused, not for want of memory
+abbrev pub IsBad : Result Picture ImageEnd → Type 0
+IsBad (Ok g) = ⊥
+IsBad (Err ends.Memory) = ⊥
+IsBad (Err (ends.Bad error)) = Unit {0}

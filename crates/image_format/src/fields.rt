@@ -5,7 +5,7 @@ ghost use Rattle.std.specs.Int.{w16, w32};
 ghost use Rattle.image_format.specs.Conditions.{is_ram, is_heap_base, is_heap_bytes, is_place, is_aligned, is_word_count, is_owner};
 ghost use Rattle.image_format.specs.Reading.{Gives, number_at, field_at, opening_at, harts_at};
 
-use crate::faults::{Fault, ReadEnd};
+use crate::errors::{ImageEnd, ImageError};
 
 /// What every file begins with: `PUMP`, read as a number.
 const MAGIC: u32 = 0x504D_5550;
@@ -17,22 +17,22 @@ const VERSION: u16 = 1;
 const MOST_RAM: u32 = 16_777_216;
 
 /// Two bytes, the low one first.
-pub(crate) fn half_of(size: usize, bytes: &[u8]) -> Result<(u16, &[u8]), ReadEnd>
+pub(crate) fn half_of(size: usize, bytes: &[u8]) -> Result<(u16, &[u8]), ImageEnd>
     ensures { Gives (λ x. (x.0, x.1.now)) result (number_at w16 size bytes.now) }
 {
     if bytes.len() < 2 {
-        return Err(ReadEnd::Bad(Fault::Short(size)));
+        return Err(ImageEnd::Bad(ImageError::Short(size)));
     }
     let (front, rest) = bytes.split_at(2);
     Ok((u16::from_le_bytes([front[0], front[1]]), rest))
 }
 
 /// Four bytes, the low one first.
-pub(crate) fn number_of(size: usize, bytes: &[u8]) -> Result<(u32, &[u8]), ReadEnd>
+pub(crate) fn number_of(size: usize, bytes: &[u8]) -> Result<(u32, &[u8]), ImageEnd>
     ensures { Gives (λ x. (x.0, x.1.now)) result (number_at w32 size bytes.now) }
 {
     if bytes.len() < 4 {
-        return Err(ReadEnd::Bad(Fault::Short(size)));
+        return Err(ImageEnd::Bad(ImageError::Short(size)));
     }
     let (front, rest) = bytes.split_at(4);
     let number = u32::from_le_bytes([front[0], front[1], front[2], front[3]]);
@@ -40,31 +40,31 @@ pub(crate) fn number_of(size: usize, bytes: &[u8]) -> Result<(u32, &[u8]), ReadE
 }
 
 /// That the field at the front of the bytes fails its condition.
-fn bad_field(number: u8, size: usize, bytes: &[u8]) -> ReadEnd
-    ensures { result ≡ ReadEnd.Bad (Fault.Field number (size - length bytes.now)) }
+fn bad_field(number: u8, size: usize, bytes: &[u8]) -> ImageEnd
+    ensures { result ≡ ImageEnd.Bad (ImageError.Field number (size - length bytes.now)) }
 {
-    ReadEnd::Bad(Fault::Field(number, size.saturating_sub(bytes.len())))
+    ImageEnd::Bad(ImageError::Field(number, size.saturating_sub(bytes.len())))
 }
 
 /// The magic and the version: what stands behind them.
 #[tactic(auto, unfolding(crate::specs::Reading::opening_at, crate::specs::Reading::tested_at))]
-pub(crate) fn opening_of(size: usize, bytes: &[u8]) -> Result<&[u8], ReadEnd>
+pub(crate) fn opening_of(size: usize, bytes: &[u8]) -> Result<&[u8], ImageEnd>
     ensures { Gives (λ rest. rest.now) result (opening_at size bytes.now) }
 {
     let (magic, rest) = number_of(size, bytes)?;
     if magic != MAGIC {
-        return Err(ReadEnd::Bad(Fault::Magic));
+        return Err(ImageEnd::Bad(ImageError::Magic));
     }
     let (version, rest) = half_of(size, rest)?;
     if version != VERSION {
-        return Err(ReadEnd::Bad(Fault::Version(version)));
+        return Err(ImageEnd::Bad(ImageError::Version(version)));
     }
     Ok(rest)
 }
 
 /// The number of harts.
 #[tactic(auto, unfolding(crate::specs::Reading::tested_at))]
-pub(crate) fn harts_of(size: usize, bytes: &[u8]) -> Result<(u16, &[u8]), ReadEnd>
+pub(crate) fn harts_of(size: usize, bytes: &[u8]) -> Result<(u16, &[u8]), ImageEnd>
     ensures { Gives (λ x. (x.0, x.1.now)) result (harts_at size bytes.now) }
 {
     let (harts, rest) = half_of(size, bytes)?;
@@ -76,7 +76,7 @@ pub(crate) fn harts_of(size: usize, bytes: &[u8]) -> Result<(u16, &[u8]), ReadEn
 
 /// The bytes of the RAM.
 #[tactic(auto, unfolding(crate::specs::Reading::tested_at))]
-pub(crate) fn ram_of(size: usize, bytes: &[u8]) -> Result<(u32, &[u8]), ReadEnd>
+pub(crate) fn ram_of(size: usize, bytes: &[u8]) -> Result<(u32, &[u8]), ImageEnd>
     ensures { Gives (λ x. (x.0, x.1.now)) result (field_at size 2 is_ram bytes.now) }
 {
     let (ram, rest) = number_of(size, bytes)?;
@@ -88,7 +88,7 @@ pub(crate) fn ram_of(size: usize, bytes: &[u8]) -> Result<(u32, &[u8]), ReadEnd>
 
 /// Where the heap region begins.
 #[tactic(auto, unfolding(crate::specs::Reading::tested_at))]
-pub(crate) fn heap_base_of(size: usize, ram: u32, bytes: &[u8]) -> Result<(u32, &[u8]), ReadEnd>
+pub(crate) fn heap_base_of(size: usize, ram: u32, bytes: &[u8]) -> Result<(u32, &[u8]), ImageEnd>
     ensures { Gives (λ x. (x.0, x.1.now)) result (field_at size 3 (is_heap_base ram) bytes.now) }
 {
     let (base, rest) = number_of(size, bytes)?;
@@ -105,7 +105,7 @@ pub(crate) fn heap_bytes_of(
     ram: u32,
     base: u32,
     bytes: &[u8],
-) -> Result<(u32, &[u8]), ReadEnd>
+) -> Result<(u32, &[u8]), ImageEnd>
     ensures { Gives (λ x. (x.0, x.1.now)) result (field_at size 4 (is_heap_bytes ram base) bytes.now) }
 {
     let (heap, rest) = number_of(size, bytes)?;
@@ -122,7 +122,7 @@ pub(crate) fn place_of(
     size: usize,
     ram: u32,
     bytes: &[u8],
-) -> Result<(u32, &[u8]), ReadEnd>
+) -> Result<(u32, &[u8]), ImageEnd>
     ensures { Gives (λ x. (x.0, x.1.now)) result (field_at size field (is_place ram) bytes.now) }
 {
     let (address, rest) = number_of(size, bytes)?;
@@ -134,7 +134,7 @@ pub(crate) fn place_of(
 
 /// A multiple of 4.
 #[tactic(auto, unfolding(crate::specs::Reading::tested_at))]
-pub(crate) fn aligned_of(field: u8, size: usize, bytes: &[u8]) -> Result<(u32, &[u8]), ReadEnd>
+pub(crate) fn aligned_of(field: u8, size: usize, bytes: &[u8]) -> Result<(u32, &[u8]), ImageEnd>
     ensures { Gives (λ x. (x.0, x.1.now)) result (field_at size field is_aligned bytes.now) }
 {
     let (address, rest) = number_of(size, bytes)?;
@@ -152,7 +152,7 @@ pub(crate) fn word_count_of(
     ram: u32,
     address: u32,
     bytes: &[u8],
-) -> Result<(u32, &[u8]), ReadEnd>
+) -> Result<(u32, &[u8]), ImageEnd>
     ensures { Gives (λ x. (x.0, x.1.now)) result (field_at size field (is_word_count ram address) bytes.now) }
 {
     let (words, rest) = number_of(size, bytes)?;
@@ -164,7 +164,7 @@ pub(crate) fn word_count_of(
 
 /// A compartment's number.
 #[tactic(auto, unfolding(crate::specs::Reading::tested_at))]
-pub(crate) fn owner_of(size: usize, bytes: &[u8]) -> Result<(u32, &[u8]), ReadEnd>
+pub(crate) fn owner_of(size: usize, bytes: &[u8]) -> Result<(u32, &[u8]), ImageEnd>
     ensures { Gives (λ x. (x.0, x.1.now)) result (field_at size 14 is_owner bytes.now) }
 {
     let (owner, rest) = number_of(size, bytes)?;

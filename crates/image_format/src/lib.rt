@@ -1,15 +1,18 @@
-//! The image file: the sizes, entries and lists that a machine starts from.
+//! The image file: the sizes, entries and lists that a machine starts from, in the project's image
+//! format, version 1.
 //!
-//! `read_image` takes a file's bytes and gives the image whose one spelling they are, or says that
-//! they are none that is taken yet. An `Image` keeps the conditions of the format for whoever reads it.
+//! `read_image` takes a file's bytes and gives the image whose one spelling they are, or the first of the
+//! format's conditions, in the order of reading, that they fail. An `Image` keeps those conditions for
+//! whoever reads it. Of its five lists only the segments may have rows so far. `front_law` says what
+//! becomes of a file that is cut.
 #![tactic(auto)]
 
 mod errors;
-mod faults;
 mod fields;
-mod first_image;
 mod image;
+mod law;
 mod lists;
+mod others;
 mod reading;
 mod room;
 mod rows;
@@ -17,8 +20,9 @@ mod segments;
 mod sizes;
 
 pub use errors::{ImageEnd, ImageError};
-pub use first_image::read_image;
 pub use image::Image;
+pub use law::front_law;
+pub use reading::read_image;
 pub use rows::{CompartmentRange, Edge, Label, WordRange};
 
 #[cfg(test)]

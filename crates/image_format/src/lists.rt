@@ -2,11 +2,12 @@
 
 ghost use Rattle.std.specs.Prelude.{◌≡◌, ℕ, Bool, ◌+◌, ◌<◌, Some};
 ghost use Rattle.std.proofs.Common.{arith};
-ghost use Rattle.image_format.specs.Conditions.{is_clear_of, is_label_after, is_edge_after, is_compartment_after, in_order};
-ghost use Rattle.image_format.specs.Reading.{Gives, Reads, range_at, label_at, edge_at, compartment_at, row_at, rows_at, list_at};
+ghost use Rattle.image_format.specs.Conditions.{is_clear_of, is_label_after, is_edge_after, is_compartment_after, in_order, takes_count};
+ghost use Rattle.image_format.specs.Reading.{Gives, Reads, range_at, label_at, edge_at, compartment_at, row_at, rows_at, count_at, list_at};
 
-use crate::faults::{Fault, ReadEnd};
+use crate::errors::{ImageEnd, ImageError};
 use crate::fields::{aligned_of, number_of, owner_of, place_of, word_count_of};
+use crate::others::OtherLists;
 use crate::room::room_for;
 use crate::rows::{CompartmentRange, Edge, Label, WordRange};
 use std::alloc::Global;
@@ -38,7 +39,7 @@ pub(crate) trait Row: Copy {
     const BYTES: usize;
 
     /// The row at the front of the bytes.
-    fn read(bounds: Bounds, bytes: &[u8]) -> Result<(Self, &[u8]), ReadEnd>
+    fn read(bounds: Bounds, bytes: &[u8]) -> Result<(Self, &[u8]), ImageEnd>
         ensures { Gives (λ x. (x.0, x.1.now)) result (fields bounds.size bounds.ram bytes.now) };
 
     /// Whether the row may stand behind the other.
@@ -54,7 +55,7 @@ pub(crate) fn range_of(
     field: u8,
     bounds: Bounds,
     bytes: &[u8],
-) -> Result<(WordRange, &[u8]), ReadEnd>
+) -> Result<(WordRange, &[u8]), ImageEnd>
     requires { field < 255 }
     ensures { Gives (λ x. (x.0, x.1.now)) result (range_at bounds.size bounds.ram field bytes.now) }
 {
@@ -74,7 +75,7 @@ impl Row for WordRange {
 
     ghost has_bytes = { Prim.omega arith };
 
-    fn read(bounds: Bounds, bytes: &[u8]) -> Result<(WordRange, &[u8]), ReadEnd> {
+    fn read(bounds: Bounds, bytes: &[u8]) -> Result<(WordRange, &[u8]), ImageEnd> {
         range_of(8, bounds, bytes)
     }
 
@@ -95,7 +96,7 @@ impl Row for Label {
     ghost has_bytes = { Prim.omega arith };
 
     #[tactic(auto, unfolding(crate::specs::Reading::label_at))]
-    fn read(bounds: Bounds, bytes: &[u8]) -> Result<(Label, &[u8]), ReadEnd> {
+    fn read(bounds: Bounds, bytes: &[u8]) -> Result<(Label, &[u8]), ImageEnd> {
         let (address, rest) = place_of(10, bounds.size, bounds.ram, bytes)?;
         let (id, rest) = number_of(bounds.size, rest)?;
         Ok((Label { address, id }, rest))
@@ -118,7 +119,7 @@ impl Row for Edge {
     ghost has_bytes = { Prim.omega arith };
 
     #[tactic(auto, unfolding(crate::specs::Reading::edge_at))]
-    fn read(bounds: Bounds, bytes: &[u8]) -> Result<(Edge, &[u8]), ReadEnd> {
+    fn read(bounds: Bounds, bytes: &[u8]) -> Result<(Edge, &[u8]), ImageEnd> {
         let (source, rest) = number_of(bounds.size, bytes)?;
         let (target, rest) = number_of(bounds.size, rest)?;
         Ok((Edge { source, target }, rest))
@@ -141,7 +142,7 @@ impl Row for CompartmentRange {
     ghost has_bytes = { Prim.omega arith };
 
     #[tactic(auto, unfolding(crate::specs::Reading::compartment_at))]
-    fn read(bounds: Bounds, bytes: &[u8]) -> Result<(CompartmentRange, &[u8]), ReadEnd> {
+    fn read(bounds: Bounds, bytes: &[u8]) -> Result<(CompartmentRange, &[u8]), ImageEnd> {
         let (range, rest) = range_of(12, bounds, bytes)?;
         let (owner, rest) = owner_of(bounds.size, rest)?;
         let (into, rest) = number_of(bounds.size, rest)?;
@@ -174,13 +175,13 @@ pub(crate) fn in_place<R: Row>(row: R, before: Option<R>) -> bool
 
 /// The row at the front of the bytes, in order behind the one before it.
 #[tactic(auto, unfolding(crate::specs::Reading::row_at))]
-fn row_of<R: Row>(place: RowPlace<R>, bounds: Bounds, bytes: &[u8]) -> Result<(R, &[u8]), ReadEnd>
+fn row_of<R: Row>(place: RowPlace<R>, bounds: Bounds, bytes: &[u8]) -> Result<(R, &[u8]), ImageEnd>
     ensures { Gives (λ x. (x.0, record { row = place.row + 1; before = Some x.0; bytes = x.1.now })) result
         (row_at place.list R.follows (R.fields bounds.size bounds.ram) (record { row = place.row; before = place.before; bytes = bytes.now })) }
 {
     let (row, rest) = R::read(bounds, bytes)?;
     if !in_place(row, place.before) {
-        return Err(ReadEnd::Bad(Fault::Order(place.list, place.row)));
+        return Err(ImageEnd::Bad(ImageError::Order(place.list, place.row)));
     }
     Ok((row, rest))
 }
@@ -192,7 +193,7 @@ fn rows_of<R: Row>(
     count: u32,
     bounds: Bounds,
     bytes: &[u8],
-) -> Result<(Vec<R>, &[u8]), ReadEnd>
+) -> Result<(Vec<R>, &[u8]), ImageEnd>
     ensures { Gives (λ x. (x.0.items, x.1.now)) result (rows_at count (row_at list R.follows (R.fields bounds.size bounds.ram)) bytes.now) }
 {
     let mut rows = room_for(alloc, count as usize, R::BYTES, bytes.len())?;
@@ -208,16 +209,34 @@ fn rows_of<R: Row>(
     Ok((rows, rest))
 }
 
-/// A count, and that many rows.
+/// How many rows a list behind the segments has, if that many are taken.
+#[tactic(auto, unfolding(crate::specs::Reading::tested_at))]
+fn count_of(
+    list: u8,
+    others: OtherLists,
+    size: usize,
+    bytes: &[u8],
+) -> Result<(u32, &[u8]), ImageEnd>
+    ensures { Gives (λ x. (x.0, x.1.now)) result (count_at size list (takes_count others) bytes.now) }
+{
+    let (count, rest) = number_of(size, bytes)?;
+    if !others.takes(count) {
+        return Err(ImageEnd::Bad(ImageError::Order(list, 0)));
+    }
+    Ok((count, rest))
+}
+
+/// A list behind the segments: a count that is taken, and that many rows.
 #[tactic(auto, unfolding(crate::specs::Reading::list_at))]
 pub(crate) fn list_of<R: Row>(
     alloc: Global,
     list: u8,
+    others: OtherLists,
     bounds: Bounds,
     bytes: &[u8],
-) -> Result<(Vec<R>, &[u8]), ReadEnd>
-    ensures { Gives (λ x. (x.0.items, x.1.now)) result (list_at bounds.size (row_at list R.follows (R.fields bounds.size bounds.ram)) bytes.now) }
+) -> Result<(Vec<R>, &[u8]), ImageEnd>
+    ensures { Gives (λ x. (x.0.items, x.1.now)) result (list_at bounds.size list (takes_count others) (row_at list R.follows (R.fields bounds.size bounds.ram)) bytes.now) }
 {
-    let (count, rest) = number_of(bounds.size, bytes)?;
+    let (count, rest) = count_of(list, others, bounds.size, bytes)?;
     rows_of(alloc, list, count, bounds, rest)
 }

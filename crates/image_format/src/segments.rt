@@ -2,9 +2,10 @@
 
 ghost use Rattle.std.specs.Prelude.{◌≡◌, ◌<◌, length, slice_index_or};
 ghost use Rattle.std.specs.Int.{w32};
+ghost use Rattle.image_format.specs.Conditions.{any_count};
 ghost use Rattle.image_format.specs.Reading.{Gives, number_at, times, with_front, range_behind_at, segment_at, rows_at, list_at};
 
-use crate::faults::{Fault, ReadEnd};
+use crate::errors::{ImageEnd, ImageError};
 use crate::fields::number_of;
 use crate::lists::{Bounds, in_place, range_of};
 use crate::room::room_for;
@@ -76,12 +77,12 @@ fn range_behind(
     before: Option<WordRange>,
     bounds: Bounds,
     bytes: &[u8],
-) -> Result<(WordRange, &[u8]), ReadEnd>
+) -> Result<(WordRange, &[u8]), ImageEnd>
     ensures { Gives (λ x. (x.0, x.1.now)) result (range_behind_at bounds.size bounds.ram row before bytes.now) }
 {
     let (range, rest) = range_of(6, bounds, bytes)?;
     if !in_place(range, before) {
-        return Err(ReadEnd::Bad(Fault::Order(1, row)));
+        return Err(ImageEnd::Bad(ImageError::Order(1, row)));
     }
     Ok((range, rest))
 }
@@ -92,7 +93,7 @@ fn words_of<'a>(
     count: u32,
     size: usize,
     bytes: &'a [u8],
-) -> Result<&'a [u8], ReadEnd>
+) -> Result<&'a [u8], ImageEnd>
     ensures { Gives (λ rest. (contents.new.items, rest.now)) result (with_front contents.old.items (times count (number_at w32 size) bytes.now)) }
 {
     let mut rest = bytes;
@@ -110,7 +111,7 @@ fn segments_of(
     count: u32,
     bounds: Bounds,
     bytes: &[u8],
-) -> Result<(Segments, &[u8]), ReadEnd>
+) -> Result<(Segments, &[u8]), ImageEnd>
     ensures { Gives (λ x. (x.0, x.1.now)) result (rows_at count (segment_at bounds.size bounds.ram) bytes.now) }
 {
     // A row takes at least the bytes of an extent, and the words of all rows together lie in the RAM.
@@ -134,13 +135,13 @@ fn segments_of(
 }
 
 /// The first list: a count, and that many segments.
-#[tactic(auto, unfolding(crate::specs::Reading::list_at))]
+#[tactic(auto, unfolding(crate::specs::Reading::list_at, crate::specs::Reading::tested_at))]
 pub(crate) fn segment_list_of(
     alloc: Global,
     bounds: Bounds,
     bytes: &[u8],
-) -> Result<(Segments, &[u8]), ReadEnd>
-    ensures { Gives (λ x. (x.0, x.1.now)) result (list_at bounds.size (segment_at bounds.size bounds.ram) bytes.now) }
+) -> Result<(Segments, &[u8]), ImageEnd>
+    ensures { Gives (λ x. (x.0, x.1.now)) result (list_at bounds.size 1 any_count (segment_at bounds.size bounds.ram) bytes.now) }
 {
     let (count, rest) = number_of(bounds.size, bytes)?;
     segments_of(alloc, count, bounds, rest)

@@ -1,5 +1,5 @@
 use super::*;
-use crate::faults::{Fault, ReadEnd};
+use crate::others::OtherLists;
 use crate::reading::read_whole;
 use std::alloc::{AllocError, Global};
 use std::test::Fail;
@@ -99,7 +99,7 @@ fn hello_is_read(rt: HostRuntime) -> Result<(), Fail> {
 #[test]
 fn sizes_and_segments_are_read(rt: HostRuntime) -> Result<(), Fail> {
     let bytes = bytes_of(rt.alloc(), &FULL)?;
-    let image = read_whole(rt.alloc(), &bytes)
+    let image = read_whole(rt.alloc(), OtherLists::Taken, &bytes)
         .ok()
         .ok_or("it is the file of an image")?;
     assert_eq!(rt;
@@ -169,7 +169,7 @@ const COMPARTMENTS: [CompartmentRange; 2] = [
 #[test]
 fn other_lists_are_read(rt: HostRuntime) -> Result<(), Fail> {
     let bytes = bytes_of(rt.alloc(), &FULL)?;
-    let image = read_whole(rt.alloc(), &bytes)
+    let image = read_whole(rt.alloc(), OtherLists::Taken, &bytes)
         .ok()
         .ok_or("it is the file of an image")?;
     assert_eq!(rt; image.code(), CODE.as_slice());
@@ -179,129 +179,227 @@ fn other_lists_are_read(rt: HostRuntime) -> Result<(), Fail> {
     Ok(())
 }
 
-/// The fault of bytes that are refused.
-fn fault_of(alloc: Global, bytes: &[u8]) -> Option<Fault> {
-    match read_whole(alloc, bytes) {
-        Err(ReadEnd::Bad(fault)) => Some(fault),
-        Err(ReadEnd::Memory) | Ok(_) => None,
+/// Why bytes were refused.
+fn error_of(read: Result<Image, ImageEnd>) -> Option<ImageError> {
+    match read {
+        Err(ImageEnd::Bad(error)) => Some(error),
+        Err(ImageEnd::Memory) | Ok(_) => None,
     }
 }
 
-/// A word of the full file, another value for it, how many bytes are left of the file, and its fault then.
-const DAMAGES: [(usize, u32, usize, Fault); 41] = [
-    (0, 0x504D_5551, 172, Fault::Magic),
-    (1, 0x0002_0002, 172, Fault::Version(2)),
+/// A word of the full file, another value for it, how many bytes are left of the file, and its error then.
+const DAMAGES: [(usize, u32, usize, ImageError); 41] = [
+    (0, 0x504D_5551, 172, ImageError::Magic),
+    (1, 0x0002_0002, 172, ImageError::Version(2)),
     // The sizes.
-    (1, 0x0000_0001, 172, Fault::Field(1, 6)),
-    (1, 0x0009_0001, 172, Fault::Field(1, 6)),
-    (2, 66, 172, Fault::Field(2, 8)),
-    (2, 0, 172, Fault::Field(2, 8)),
-    (2, 16_777_220, 172, Fault::Field(2, 8)),
-    (3, 34, 172, Fault::Field(3, 12)),
-    (3, 68, 172, Fault::Field(3, 12)),
-    (4, 18, 172, Fault::Field(4, 16)),
-    (4, 36, 172, Fault::Field(4, 16)),
-    (4, 0xFFFF_FFF0, 172, Fault::Field(4, 16)),
-    (5, 2, 172, Fault::Field(5, 20)),
-    (6, 64, 172, Fault::Field(5, 24)),
+    (1, 0x0000_0001, 172, ImageError::Field(1, 6)),
+    (1, 0x0009_0001, 172, ImageError::Field(1, 6)),
+    (2, 66, 172, ImageError::Field(2, 8)),
+    (2, 0, 172, ImageError::Field(2, 8)),
+    (2, 16_777_220, 172, ImageError::Field(2, 8)),
+    (3, 34, 172, ImageError::Field(3, 12)),
+    (3, 68, 172, ImageError::Field(3, 12)),
+    (4, 18, 172, ImageError::Field(4, 16)),
+    (4, 36, 172, ImageError::Field(4, 16)),
+    (4, 0xFFFF_FFF0, 172, ImageError::Field(4, 16)),
+    (5, 2, 172, ImageError::Field(5, 20)),
+    (6, 64, 172, ImageError::Field(5, 24)),
     // The rows.
-    (8, 2, 172, Fault::Field(6, 32)),
-    (9, 0, 172, Fault::Field(7, 36)),
-    (9, 17, 172, Fault::Field(7, 36)),
-    (9, 0x4000_0001, 172, Fault::Field(7, 36)),
-    (13, 14, 172, Fault::Field(7, 52)),
-    (16, 1, 172, Fault::Field(8, 64)),
-    (19, 16, 172, Fault::Field(9, 76)),
-    (21, 6, 172, Fault::Field(10, 84)),
-    (23, 64, 172, Fault::Field(10, 92)),
-    (33, 3, 172, Fault::Field(12, 132)),
-    (39, 16, 172, Fault::Field(13, 156)),
-    (35, 32, 172, Fault::Field(14, 140)),
+    (8, 2, 172, ImageError::Field(6, 32)),
+    (9, 0, 172, ImageError::Field(7, 36)),
+    (9, 17, 172, ImageError::Field(7, 36)),
+    (9, 0x4000_0001, 172, ImageError::Field(7, 36)),
+    (13, 14, 172, ImageError::Field(7, 52)),
+    (16, 1, 172, ImageError::Field(8, 64)),
+    (19, 16, 172, ImageError::Field(9, 76)),
+    (21, 6, 172, ImageError::Field(10, 84)),
+    (23, 64, 172, ImageError::Field(10, 92)),
+    (33, 3, 172, ImageError::Field(12, 132)),
+    (39, 16, 172, ImageError::Field(13, 156)),
+    (35, 32, 172, ImageError::Field(14, 140)),
     // Their order.
-    (12, 4, 172, Fault::Order(1, 1)),
-    (18, 0, 172, Fault::Order(2, 1)),
-    (23, 4, 172, Fault::Order(3, 1)),
-    (29, 2, 172, Fault::Order(4, 1)),
-    (29, 1, 172, Fault::Order(4, 1)),
-    (28, 0, 172, Fault::Order(4, 1)),
-    (30, 1, 172, Fault::Order(4, 2)),
-    (38, 0, 172, Fault::Order(5, 1)),
+    (12, 4, 172, ImageError::Order(1, 1)),
+    (18, 0, 172, ImageError::Order(2, 1)),
+    (23, 4, 172, ImageError::Order(3, 1)),
+    (29, 2, 172, ImageError::Order(4, 1)),
+    (29, 1, 172, ImageError::Order(4, 1)),
+    (28, 0, 172, ImageError::Order(4, 1)),
+    (30, 1, 172, ImageError::Order(4, 2)),
+    (38, 0, 172, ImageError::Order(5, 1)),
     // A segment's order comes before its words, which are missing here.
-    (12, 4, 56, Fault::Order(1, 1)),
+    (12, 4, 56, ImageError::Order(1, 1)),
     // A label's order comes after its id, and that of a compartment range after its last mask.
-    (23, 4, 96, Fault::Short(96)),
-    (38, 0, 168, Fault::Short(168)),
+    (23, 4, 96, ImageError::Short(96)),
+    (38, 0, 168, ImageError::Short(168)),
     // A field's condition comes before the fields behind it.
-    (2, 66, 12, Fault::Field(2, 8)),
+    (2, 66, 12, ImageError::Field(2, 8)),
     // Fewer rows are counted than there are, and more.
-    (32, 1, 172, Fault::Trailing(152)),
-    (32, 3, 172, Fault::Short(172)),
-    (32, 0xFFFF_FFFF, 172, Fault::Short(172)),
+    (32, 1, 172, ImageError::Trailing(152)),
+    (32, 3, 172, ImageError::Short(172)),
+    (32, 0xFFFF_FFFF, 172, ImageError::Short(172)),
 ];
 
 #[test]
-fn the_first_fault_is_named(rt: HostRuntime) -> Result<(), Fail> {
-    for (place, value, left, fault) in &DAMAGES {
+fn the_first_error_is_named(rt: HostRuntime) -> Result<(), Fail> {
+    for (place, value, left, error) in &DAMAGES {
         let mut bytes = full_with(rt.alloc(), *place, *value)?;
         bytes.truncate(*left);
-        let found = fault_of(rt.alloc(), &bytes);
-        assert_eq!(rt; found, Some(*fault), "the word at {place} is {value}");
+        let found = error_of(read_whole(rt.alloc(), OtherLists::Taken, &bytes));
+        assert_eq!(rt; found, Some(*error), "the word at {place} is {value}");
     }
+    let full = bytes_of(rt.alloc(), &FULL)?;
+    for left in 0..full.len() {
+        let found = error_of(read_whole(rt.alloc(), OtherLists::Taken, &full[..left]));
+        assert_eq!(rt; found, Some(ImageError::Short(left)));
+    }
+    Ok(())
+}
+
+/// From where to where bytes of `HELLO` are gone, what stands in their place, and the error then.
+const HELLO_DAMAGES: [(usize, usize, &[u8], ImageError); 23] = [
+    (0, 1, &[0], ImageError::Magic),
+    (4, 5, &[3], ImageError::Version(3)),
+    (6, 7, &[9], ImageError::Field(1, 6)),
+    (8, 9, &[66], ImageError::Field(2, 8)),
+    (12, 13, &[68], ImageError::Field(3, 12)),
+    (12, 17, &[60, 0, 0, 0, 8], ImageError::Field(4, 16)),
+    (20, 21, &[64], ImageError::Field(5, 20)),
+    (28, 29, &[2], ImageError::Field(6, 28)),
+    (32, 33, &[0], ImageError::Field(7, 32)),
+    (32, 33, &[17], ImageError::Field(7, 32)),
+    (32, 36, &[0xFF; 4], ImageError::Field(7, 32)),
+    (32, 33, &[16], ImageError::Short(76)),
+    (24, 28, &[0xFF; 4], ImageError::Field(7, 64)),
+    (76, 76, &[0], ImageError::Trailing(76)),
+    // Rows of the other lists are not taken yet.
+    (60, 61, &[1], ImageError::Order(2, 0)),
+    (64, 65, &[1], ImageError::Order(3, 0)),
+    (68, 69, &[1], ImageError::Order(4, 0)),
+    (72, 73, &[1], ImageError::Order(5, 0)),
+    (60, 64, &[0xFF; 4], ImageError::Order(2, 0)),
+    // That is told ahead of what comes later, and once the whole count is there.
+    (
+        60,
+        73,
+        &[1, 0, 0, 0, 1, 0, 0, 0, 1, 0, 0, 0, 1],
+        ImageError::Order(2, 0),
+    ),
+    (72, 76, &[1, 0, 0, 0, 9], ImageError::Order(5, 0)),
+    (60, 76, &[1, 0, 0, 0], ImageError::Order(2, 0)),
+    (60, 76, &[1, 0, 0], ImageError::Short(63)),
+];
+
+/// The bytes with others in place of those between two offsets.
+fn spliced(
+    alloc: Global,
+    bytes: &[u8],
+    from: usize,
+    to: usize,
+    put: &[u8],
+) -> Result<Vec<u8>, AllocError> {
+    let mut file = Vec::from_slice(alloc, &bytes[..from.min(bytes.len())])?;
+    file.extend_from_slice(put)?;
+    file.extend_from_slice(&bytes[to.min(bytes.len())..])?;
+    Ok(file)
+}
+
+#[test]
+fn damaged_files_are_refused(rt: HostRuntime) -> Result<(), Fail> {
+    for (from, to, put, error) in &HELLO_DAMAGES {
+        let file = spliced(rt.alloc(), &HELLO, *from, *to, put)?;
+        let found = error_of(read_image(rt.alloc(), &file));
+        assert_eq!(rt; found, Some(*error), "from {from} to {to}");
+    }
+    for left in 0..HELLO.len() {
+        let found = error_of(read_image(rt.alloc(), &HELLO[..left]));
+        assert_eq!(rt; found, Some(ImageError::Short(left)));
+    }
+    // A second segment that begins where the first does.
+    let counted = spliced(rt.alloc(), &HELLO, 24, 25, &[2])?;
+    let row = [0, 0, 0, 0, 1, 0, 0, 0, 0x13, 0, 0, 0];
+    let file = spliced(rt.alloc(), &counted, 60, 60, &row)?;
+    let found = error_of(read_image(rt.alloc(), &file));
+    assert_eq!(rt; found, Some(ImageError::Order(1, 1)));
     Ok(())
 }
 
 #[test]
-fn files_of_another_length_are_refused(rt: HostRuntime) -> Result<(), Fail> {
-    let full = bytes_of(rt.alloc(), &FULL)?;
-    for left in 0..full.len() {
-        assert_eq!(rt;
-            fault_of(rt.alloc(), &full[..left]),
-            Some(Fault::Short(left))
-        );
-    }
-    assert_eq!(rt; fault_of(rt.alloc(), &HELLO[..10]), Some(Fault::Short(10)));
-    let mut longer = Vec::from_slice(rt.alloc(), &HELLO)?;
-    longer.push(0)?;
-    assert_eq!(rt; fault_of(rt.alloc(), &longer), Some(Fault::Trailing(76)));
+fn up_to_eight_harts_are_read(rt: HostRuntime) -> Result<(), Fail> {
+    let mut eight = bytes_of(rt.alloc(), &[0x504D_5550, 0x0008_0001, 64, 0, 0])?;
+    // The entries, and five lists without rows.
+    eight.extend_from_slice(&[0; 52])?;
+    let image = read_image(rt.alloc(), &eight)
+        .ok()
+        .ok_or("it is the file of an image")?;
+    assert_eq!(rt; image.entries(), [0; 8].as_slice());
+    let mut nine = bytes_of(rt.alloc(), &[0x504D_5550, 0x0009_0001, 64, 0, 0])?;
+    nine.extend_from_slice(&[0; 56])?;
+    let found = error_of(read_image(rt.alloc(), &nine));
+    assert_eq!(rt; found, Some(ImageError::Field(1, 6)));
     Ok(())
 }
 
-/// Files with 64 bytes of RAM and no segment: two harts; a code range, a label, an edge, a compartment range.
-const UNBUILT: [&[u32]; 5] = [
-    &[0x504D_5550, 0x0002_0001, 64, 0, 0, 0, 0, 0, 0, 0, 0, 0],
-    &[0x504D_5550, 0x0001_0001, 64, 0, 0, 0, 0, 1, 0, 1, 0, 0, 0],
-    &[0x504D_5550, 0x0001_0001, 64, 0, 0, 0, 0, 0, 1, 0, 7, 0, 0],
-    &[0x504D_5550, 0x0001_0001, 64, 0, 0, 0, 0, 0, 0, 1, 1, 2, 0],
-    &[
-        0x504D_5550,
-        0x0001_0001,
-        64,
-        0,
-        0,
-        0,
-        0,
-        0,
-        0,
-        0,
-        1,
-        0,
-        1,
-        1,
-        0,
-        0,
-    ],
+/// Files of one hart with 64 bytes of RAM and one row in all their lists: a code range, a label, an
+/// edge, a compartment range. How they are refused so far.
+const LISTED: [(&[u32], ImageError); 4] = [
+    (
+        &[0x504D_5550, 0x0001_0001, 64, 0, 0, 0, 0, 1, 0, 1, 0, 0, 0],
+        ImageError::Order(2, 0),
+    ),
+    (
+        &[0x504D_5550, 0x0001_0001, 64, 0, 0, 0, 0, 0, 1, 0, 7, 0, 0],
+        ImageError::Order(3, 0),
+    ),
+    (
+        &[0x504D_5550, 0x0001_0001, 64, 0, 0, 0, 0, 0, 0, 1, 1, 2, 0],
+        ImageError::Order(4, 0),
+    ),
+    (
+        &[
+            0x504D_5550,
+            0x0001_0001,
+            64,
+            0,
+            0,
+            0,
+            0,
+            0,
+            0,
+            0,
+            1,
+            0,
+            1,
+            1,
+            0,
+            0,
+        ],
+        ImageError::Order(5, 0),
+    ),
 ];
 
 #[test]
-fn other_files_are_unbuilt(rt: HostRuntime) -> Result<(), Fail> {
-    let unbuilt = Some(ImageEnd::Bad(ImageError::Unbuilt));
-    for words in UNBUILT {
+fn other_lists_are_not_taken_yet(rt: HostRuntime) -> Result<(), Fail> {
+    for (words, error) in &LISTED {
         let bytes = bytes_of(rt.alloc(), words)?;
-        assert!(rt; read_whole(rt.alloc(), &bytes).is_ok());
-        assert_eq!(rt; read_image(rt.alloc(), &bytes).err(), unbuilt);
+        assert!(rt; read_whole(rt.alloc(), OtherLists::Taken, &bytes).is_ok());
+        assert_eq!(rt; error_of(read_image(rt.alloc(), &bytes)), Some(*error));
     }
-    for left in [0, 10, 75] {
-        assert_eq!(rt; read_image(rt.alloc(), &HELLO[..left]).err(), unbuilt);
+    Ok(())
+}
+
+const TEXTS: [(ImageError, &str); 6] = [
+    (ImageError::Magic, "magic"),
+    (ImageError::Version(3), "version 3"),
+    (ImageError::Short(75), "short at 75"),
+    (ImageError::Field(7, 32), "field 7 at 32"),
+    (ImageError::Order(1, 2), "order 1 row 2"),
+    (ImageError::Trailing(76), "trailing at 76"),
+];
+
+#[test]
+fn errors_are_told(rt: HostRuntime) -> Result<(), Fail> {
+    for (error, text) in &TEXTS {
+        assert_eq!(rt; format!(in rt.alloc(); "{error}")?.as_str(), *text);
     }
     Ok(())
 }

@@ -1,24 +1,18 @@
 -- Outcomes, as what was put on the two sinks.
-use Rattle.std.proofs.Common.{◌≡◌, ℕ, ◌<◌, nat_le, if◌then◌else◌, arith, Bool, true, false, List, [], ◌++◌, length, codes, Option, Some, None, Result, Ok, Err, IfOk, IfSome, refl, ap, sym, subst, ◌∙◌, append-nil}
-use Rattle.std.proofs.lemmas.Bool.Decides.{nat_tests}
+use Rattle.std.proofs.Common.{◌≡◌, ℕ, List, [], ◌++◌, Option, Some, None, Result, Ok, Err, IfOk, IfSome, ap, sym, subst, ◌∙◌, append-nil}
 use Rattle.std.specs.Io.KnownBytes.{append_known}
-use Rattle.host_io.specs.Fronts.{SoFar, TakesAll, TakesFront}
-use Rattle.pump_cli.specs.Causes.{NamedRose, ReadBy, cut_result, status_of_cut}
-use Rattle.pump_cli.specs.Command.{RunCommand}
+use Rattle.host_io.specs.Fronts.{TakesAll, TakesFront}
+use Rattle.pump_cli.specs.Causes.{cut_result}
 use Rattle.pump_cli.specs.Follows.{Follows}
 use Rattle.pump_cli.specs.declared.cut.Cut.{Cut}
-use Rattle.pump_cli.specs.declared.cut.Cut.TheVariants as cut
 use Rattle.host_io.specs.declared.traits.sink.PutEnd.{PutEnd}
 use Rattle.engine_trait.specs.Runs.{Ran, hart_stops}
 use Rattle.engine_trait.specs.declared.ends.Stop.{Stop}
 use Rattle.pump_cli.specs.Endings.{last_line, lines_of, puts_of, status_of}
-use Rattle.image_format.specs.FirstImage.{first_image_of}
-use Rattle.pump_cli.specs.Program.{Outcome, file_limit, outcome_of_bytes, outcome_of_image, outcome_of_ran, refused}
+use Rattle.pump_cli.specs.Program.{Outcome, outcome_of_ran, refused}
 use Rattle.pump_cli.specs.Texts.{line}
 use Rattle.pump_cli.specs.Writes.{Writes}
 use Rattle.pump_cli.specs.declared.status.Status.{Status}
-use Rattle.pump_cli.specs.declared.status.Status.TheVariants as status
-use Rattle.pump_cli.specs.declared.status.Status.TheVariants.{TooLong}
 use Rattle.pump_cli.proofs.Fronts.{all_is_front, append_known-append, append_known-nil, begins, is_cut, takes_none}
 
 module _ {E : Type 0} (outcome : Outcome) where
@@ -92,19 +86,3 @@ if_some_all (Some x) Q each = each x
 pub if_some_each : {A : Type 0} (told : Option A) (P Q : A → Type 0) → ((x : A) → P x → Q x) → IfSome told P → IfSome told Q
 if_some_each None P Q each p = tt
 if_some_each (Some x) P Q each p = each x p
-
--- a file over its limit
-pub outcome_of_bytes-long : (seal : Bool) (bytes : List ℕ) → 33554432 < length bytes → outcome_of_bytes seal bytes ≡ refused (codes "pump: too long") TooLong
-unfolding outcome_of_bytes file_limit
-outcome_of_bytes-long seal bytes long =
-    let test : nat_le (length bytes) 33554432 ≡ false = grind (arith, nat_tests) in
-    ap (λ (within : Bool). if within then outcome_of_image seal (first_image_of bytes) else refused (codes "pump: too long") TooLong) test
-
--- the status of a cut says which count rose
-pub read_failed : (command : Option RunCommand) (before now : List ℕ → ℕ) (end : Cut) → ReadBy command before now (Err end) → status_of_cut end ≡ status.ReadFailed → NamedRose command before now
-read_failed None before now cut.ReadFailed read is = absurd read
-read_failed (Some command) before now cut.ReadFailed read is = read
-read_failed None before now cut.PutFailed read is = absurd (let h : status.PutFailed ≡ status.ReadFailed = is in cc)
-read_failed (Some command) before now cut.PutFailed read is = absurd (let h : status.PutFailed ≡ status.ReadFailed = is in cc)
-read_failed None before now cut.Memory read is = absurd (let h : status.Memory ≡ status.ReadFailed = is in cc)
-read_failed (Some command) before now cut.Memory read is = absurd (let h : status.Memory ≡ status.ReadFailed = is in cc)

@@ -1,3 +1,5 @@
+pub mod Contents
 pub mod Endings
 pub mod Fronts
+pub mod Statuses
 pub mod Turning

@@ -3,10 +3,10 @@ use Rattle.std.proofs.Common.{◌≡◌, ℕ, zero, suc, ◌+◌, ◌-◌, ◌<�
 use Rattle.std.proofs.lemmas.List.Concat.{flat_map-cons}
 use Rattle.host_io.specs.Fronts.{SoFar, TakesAll, TakesFront}
 use Rattle.policy_trait.specs.Model.{PolicyModel}
-use Rattle.engine_trait.specs.Events.{Event, event_of, event_of-ended, event_of-hart}
+use Rattle.engine_trait.specs.Events.{event_of, event_of-ended, event_of-hart}
 use Rattle.engine_trait.specs.Machine.{CoreState, Machine, stop_at}
 use Rattle.engine_trait.specs.Runs.{Ran, first_ready, next_hart, picked, round_robin, rounds, run_along, turn, with_event}
-use Rattle.engine_trait.specs.Standing.{Idles, IsIdle, IsReady, Makes, Standing, Turns, accounted-out, engine, hart}
+use Rattle.engine_trait.specs.Standing.{IsIdle, Makes, Standing, Turns, accounted-out, engine, hart}
 use Rattle.engine_trait.specs.Turn.{turn_of}
 use Rattle.engine_trait.specs.declared.ends.Stop.{Stop}
 use Rattle.engine_trait.specs.declared.ends.TurnEnd.{TurnEnd}

@@ -1,9 +1,8 @@
 -- What a run shows on the outside, and how it ended.
-use Rattle.std.specs.Prelude.{ℕ, Bool, true, false, ◌==◌, not, List, [], ◌∷◌, codes, Option, Some, None, if◌then◌else◌}
+use Rattle.std.specs.Prelude.{ℕ, Bool, true, false, ◌==◌, not, List, [], ◌∷◌, codes, Option, Some, if◌then◌else◌}
 use Rattle.std.specs.List.{flat_map, list_any}
 use Rattle.engine_trait.specs.Events.{Event}
-use Rattle.engine_trait.specs.Machine.{Machine}
-use Rattle.engine_trait.specs.Runs.{hart_stops, is_ready}
+use Rattle.engine_trait.specs.Runs.{is_ready}
 use Rattle.engine_trait.specs.declared.ends.Stop.{Stop}
 use Rattle.engine_trait.specs.declared.ends.Stop.TheVariants as stop
 use Rattle.engine_trait.specs.declared.ends.TurnEnd.{TurnEnd}

@@ -1,5 +1,5 @@
 -- A call that did what an outcome says, or was cut short.
-use Rattle.std.specs.Prelude.{◌≡◌, ℕ, List, Option, Result, Ok, Err, IfOk}
+use Rattle.std.specs.Prelude.{◌≡◌, ℕ, List, Option, Result, IfOk}
 use Rattle.host_io.specs.Fronts.{TakesAll, TakesFront}
 use Rattle.pump_cli.specs.Program.{Outcome}
 use Rattle.pump_cli.specs.Writes.{Writes}

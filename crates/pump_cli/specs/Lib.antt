@@ -1,9 +1,8 @@
-pub mod Asked
 pub mod Causes
 pub mod Codes
-pub mod Command
 pub mod Endings
 pub mod Follows
+pub mod Inputs
 pub mod Kinds
 pub mod Program
 pub mod Texts

@@ -1,13 +1,13 @@
--- The program: what it writes and its status, from the words and what the files hold.
+-- The program: what it writes and its status, from the words, what the files hold and what the input gives.
 use Rattle.std.specs.Prelude.{ℕ, Bool, nat_le, List, [], ◌++◌, length, codes, Option, Some, None, Result, Ok, Err, if◌then◌else◌}
-use Rattle.image_format.specs.FirstImage.{first_image_of}
 use Rattle.image_format.specs.Picture.{Picture}
+use Rattle.image_format.specs.Reading.{image_of}
 use Rattle.image_format.specs.declared.errors.ImageError.{ImageError}
 use Rattle.engine_trait.specs.Runs.{Ran, hart_stops, rounds}
 use Rattle.tag_loader.specs.Choice.{chosen_model, start_of}
-use Rattle.pump_cli.specs.Command.{RunCommand, command_of}
+use Rattle.pump_line.specs.Task.{RunTask, task_of}
 use Rattle.pump_cli.specs.Endings.{last_line, lines_of, puts_of, status_of}
-use Rattle.pump_cli.specs.Texts.{line}
+use Rattle.pump_cli.specs.Texts.{bad_image_text, line}
 use Rattle.pump_cli.specs.declared.status.Status.{Status}
 use Rattle.pump_cli.specs.declared.status.Status.TheVariants.{BadImage, BadWords, TooLong}
 
@@ -21,13 +21,17 @@ pub record Outcome : Type 0 where
 abbrev pub refused : List ℕ → Status → Outcome
 refused text status = record { out = []; err = line text; status = status }
 
--- the most turns of a run
-unfoldable pub turn_limit : ℕ
-turn_limit = 1000000
+-- a file or an input that is longer than its limit
+abbrev pub too_long : Outcome
+too_long = refused (codes "pump: too long") TooLong
 
 -- the most bytes of an image's file
 unfoldable pub file_limit : ℕ
 file_limit = 33554432
+
+-- the most bytes of the input
+unfoldable pub input_limit : ℕ
+input_limit = 16777216
 
 -- the bytes put out, the stops' lines, and how the harts stand at the end
 abbrev pub outcome_of_ran : {S T : Type 0} → Ran S T → Outcome
@@ -37,29 +41,38 @@ outcome_of_ran ran = record {
   status = status_of (hart_stops ran.machine.core);
 }
 
--- one round robin from the start of the image under the chosen policy
-unfoldable pub outcome_of_run : ℕ → Bool → Picture → Outcome
-outcome_of_run limit seal picture = outcome_of_ran (rounds chosen_model limit 0 (start_of seal picture) [])
+-- one round robin from the start of the image under the chosen policy, on a feed of these bytes
+unfoldable pub outcome_of_run : ℕ → Bool → Picture → List ℕ → Outcome
+outcome_of_run turns seal picture fed = outcome_of_ran (rounds chosen_model turns 0 (start_of seal picture) fed)
 
-abbrev pub outcome_of_picture : Bool → Picture → Outcome
-outcome_of_picture seal picture = outcome_of_run turn_limit seal picture
+-- the input is fed as a whole, within its limit
+unfoldable pub outcome_of_input : RunTask → Picture → List ℕ → Outcome
+outcome_of_input task picture input =
+    if nat_le (length input) input_limit then outcome_of_run task.turns task.seal picture input else too_long
 
-abbrev pub outcome_of_image : Bool → Result Picture ImageError → Outcome
-outcome_of_image seal (Ok picture) = outcome_of_picture seal picture
-outcome_of_image seal (Err error) = refused (codes "pump: bad image") BadImage
+-- an input whose bytes are not told leaves the outcome unsaid
+abbrev pub outcome_of_told : RunTask → Picture → Option (List ℕ) → Option Outcome
+outcome_of_told task picture None = None
+outcome_of_told task picture (Some input) = Some (outcome_of_input task picture input)
 
-unfoldable pub outcome_of_bytes : Bool → List ℕ → Outcome
-outcome_of_bytes seal bytes = if nat_le (length bytes) file_limit then outcome_of_image seal (first_image_of bytes) else refused (codes "pump: too long") TooLong
+-- the first condition of the format that fails is told, and the input is not looked at
+abbrev pub outcome_of_image : RunTask → Result Picture ImageError → Option (List ℕ) → Option Outcome
+outcome_of_image task (Ok picture) input = outcome_of_told task picture input
+outcome_of_image task (Err error) input = Some (refused (bad_image_text error) BadImage)
 
--- a file whose content is not told leaves the outcome unsaid
-abbrev pub outcome_of_held : Bool → Option (List ℕ) → Option Outcome
-outcome_of_held seal None = None
-outcome_of_held seal (Some bytes) = Some (outcome_of_bytes seal bytes)
+unfoldable pub outcome_of_bytes : RunTask → List ℕ → Option (List ℕ) → Option Outcome
+outcome_of_bytes task bytes input =
+    if nat_le (length bytes) file_limit then outcome_of_image task (image_of bytes) input else Some too_long
 
-abbrev pub outcome_of_command : Option RunCommand → (List ℕ → Option (List ℕ)) → Option Outcome
-outcome_of_command None held = Some (refused (codes "pump: bad command line") BadWords)
-outcome_of_command (Some command) held = outcome_of_held command.seal (held command.image)
+-- so does a file whose content is not told
+abbrev pub outcome_of_held : RunTask → Option (List ℕ) → Option (List ℕ) → Option Outcome
+outcome_of_held task None input = None
+outcome_of_held task (Some bytes) input = outcome_of_bytes task bytes input
 
--- the words, and what the files hold by name where it is told
-unfoldable pub program : List (List ℕ) → (List ℕ → Option (List ℕ)) → Option Outcome
-program words held = outcome_of_command (command_of words) held
+abbrev pub outcome_of_task : Option RunTask → (List ℕ → Option (List ℕ)) → Option (List ℕ) → Option Outcome
+outcome_of_task None held input = Some (refused (codes "pump: bad command line") BadWords)
+outcome_of_task (Some task) held input = outcome_of_held task (held task.image) input
+
+-- the words, what the files hold by name where it is told, and the bytes of the input where they are
+unfoldable pub program : List (List ℕ) → (List ℕ → Option (List ℕ)) → Option (List ℕ) → Option Outcome
+program words held input = outcome_of_task (task_of words) held input

@@ -10,6 +10,8 @@ use Rattle.policy_trait.specs.declared.rules.Part.{Part}
 use Rattle.policy_trait.specs.declared.rules.Part.TheVariants.{Seal, Comp, Flow, Heap}
 use Rattle.policy_trait.specs.declared.rules.Why.{Why}
 use Rattle.policy_trait.specs.declared.rules.Why.TheVariants as why
+use Rattle.image_format.specs.declared.errors.ImageError.{ImageError}
+use Rattle.image_format.specs.declared.errors.ImageError.TheVariants as image
 use Rattle.engine_trait.specs.declared.ends.Stop.{Stop}
 use Rattle.engine_trait.specs.declared.ends.Stop.TheVariants as stop
 
@@ -76,3 +78,15 @@ stop_text (stop.Violation part reason pc) = codes "violation " ++ part_text part
 -- the line of a hart's stop
 unfoldable pub stop_line : ℕ → Stop → List ℕ
 stop_line h why = line (codes "stop " ++ decimal h ++ codes " " ++ stop_text why)
+
+-- the first condition of the image format that bytes fail; numbers and offsets are decimal
+abbrev pub image_error_text : ImageError → List ℕ
+image_error_text image.Magic = codes "magic"
+image_error_text (image.Version version) = codes "version " ++ decimal version
+image_error_text (image.Short length) = codes "short at " ++ decimal length
+image_error_text (image.Field number offset) = codes "field " ++ decimal number ++ codes " at " ++ decimal offset
+image_error_text (image.Order list row) = codes "order " ++ decimal list ++ codes " row " ++ decimal row
+image_error_text (image.Trailing offset) = codes "trailing at " ++ decimal offset
+
+abbrev pub bad_image_text : ImageError → List ℕ
+bad_image_text error = codes "pump: bad image: " ++ image_error_text error

@@ -9,6 +9,8 @@ use host_io::PutEnd;
 pub(crate) enum Cut {
     /// The image's file could not be read.
     ReadFailed,
+    /// A read of the input failed.
+    InputFailed,
     /// A put failed.
     PutFailed,
     /// Memory ran out.
@@ -22,6 +24,7 @@ impl Cut {
     {
         match self {
             Cut::ReadFailed => Status::ReadFailed,
+            Cut::InputFailed => Status::InputFailed,
             Cut::PutFailed => Status::PutFailed,
             Cut::Memory => Status::Memory,
         }

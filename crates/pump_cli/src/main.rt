@@ -1,7 +1,6 @@
 //! The program `pump`: runs an image of a tagged RISC-V machine and tells how it ended.
 #![tactic(auto)]
 
-mod command;
 mod cut;
 mod ending;
 mod program;

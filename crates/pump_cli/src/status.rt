@@ -8,7 +8,7 @@ pub enum Status {
     Done,
     /// Every hart exited, some with another code than 0.
     ExitedNonzero,
-    /// The words are no command.
+    /// The words are no command line.
     BadWords,
     /// The file is no image that is taken.
     BadImage,
@@ -20,11 +20,13 @@ pub enum Status {
     TurnsSpent,
     /// The image's file could not be read.
     ReadFailed,
+    /// A read of the input failed.
+    InputFailed,
     /// A put on standard output or standard error failed.
     PutFailed,
     /// Memory ran out.
     Memory,
-    /// The image's file is longer than its limit.
+    /// The image's file or the input is longer than its limit.
     TooLong,
 }
 
@@ -42,6 +44,7 @@ impl Status {
             Status::Faulted => 5,
             Status::TurnsSpent => 6,
             Status::ReadFailed => 8,
+            Status::InputFailed => 9,
             Status::PutFailed => 10,
             Status::Memory => 11,
             Status::TooLong => 13,

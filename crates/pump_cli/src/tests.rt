@@ -1,3 +1,4 @@
+// The program over memory: what is put out, what is told, how it ends, and what is left of the input.
 ghost use Rattle.std.specs.Prelude.{IfOk};
 ghost use Rattle.host_io.specs.Held.{AreNamesDistinct, files_of};
 
@@ -8,24 +9,31 @@ use std::alloc::{AllocError, Global};
 use std::process::Abort;
 use std::test::Fail;
 
-/// What a call of the program wrote, and its status.
+/// What a call of the program finds outside: the file of the name "image", the input, and the numbers of the reads and of
+/// the puts on standard output that fail.
+#[derive(Clone, Copy)]
+struct Outside<'a> {
+    image: &'a [u8],
+    input: &'a [u8],
+    failing_reads: &'a [u64],
+    failing_puts: &'a [u64],
+}
+
+/// The bytes on standard output and standard error, and the status.
+#[derive(Clone, Copy)]
+struct Expected<'a> {
+    out: &'a [u8],
+    err: &'a [u8],
+    status: Status,
+}
+
+/// What a call of the program wrote, its status, and the bytes that it left of the input.
 #[derive(Drop)]
 struct Wrote {
     out: Vec<u8>,
     err: Vec<u8>,
     status: Status,
-}
-
-/// A call of the program, and what it is to write.
-#[derive(Drop)]
-struct Case<'a> {
-    words: &'a [&'a str],
-    image: &'a [u8],
-    /// The numbers of the puts on standard output that fail.
-    failing: &'a [u64],
-    out: &'a [u8],
-    err: &'a [u8],
-    status: Status,
+    left: usize,
 }
 
 fn one_file(alloc: Global, bytes: &[u8]) -> Result<Vec<(String, Vec<u8>)>, AllocError>
@@ -35,49 +43,38 @@ fn one_file(alloc: Global, bytes: &[u8]) -> Result<Vec<(String, Vec<u8>)>, Alloc
     Ok(vec![in alloc; image]?)
 }
 
-/// The program over memory, whose files hold `image` under the name "image".
-fn ran(alloc: Global, words: &[&str], image: &[u8], failing: &[u64]) -> Result<Wrote, AllocError> {
+/// The program over memory.
+fn ran(alloc: Global, words: &[&str], outside: Outside<'_>) -> Result<Wrote, AllocError> {
     let mut texts = Vec::new(alloc);
     for word in words {
         texts.push(String::from_str(alloc, word)?)?;
     }
-    let mut files = MemFiles::new(alloc, one_file(alloc, image)?, Vec::new(alloc));
-    let mut input = MemSource::new(Vec::new(alloc), Vec::new(alloc));
-    let mut out = MemSink::new(alloc, failing.to_vec(alloc)?);
+    let mut files = MemFiles::new(alloc, one_file(alloc, outside.image)?, Vec::new(alloc));
+    let reads = outside.failing_reads.to_vec(alloc)?;
+    let mut input = MemSource::new(outside.input.to_vec(alloc)?, reads);
+    let mut out = MemSink::new(alloc, outside.failing_puts.to_vec(alloc)?);
     let mut err = MemSink::new(alloc, Vec::new(alloc));
     let status = pump(alloc, &texts, &mut files, &mut input, &mut out, &mut err);
     Ok(Wrote {
         out: out.bytes().to_vec(alloc)?,
         err: err.bytes().to_vec(alloc)?,
         status,
+        left: input.left().len(),
     })
 }
 
-/// An image of one hart with 256 bytes of memory, whose one segment has these words at 0.
-fn image_of(alloc: Global, words: &[u32]) -> Result<Vec<u8>, AllocError> {
-    let mut bytes = b"PUMP\x01\x00\x01\x00\x00\x01\x00\x00".to_vec(alloc)?;
-    for field in [0u32, 0, 0, 1, 0, u32::try_from(words.len()).unwrap_or(0)] {
-        bytes.extend_from_slice(&field.to_le_bytes())?;
-    }
-    for word in words {
-        bytes.extend_from_slice(&word.to_le_bytes())?;
-    }
-    for count in [0u32, 0, 0, 0] {
-        bytes.extend_from_slice(&count.to_le_bytes())?;
-    }
-    Ok(bytes)
-}
-
-fn check<R: Abort + AllocGlobal>(rt: &R, case: &Case<'_>) -> Result<(), Fail> {
-    let wrote = ran(rt.alloc(), case.words, case.image, case.failing)?;
-    let words = case.words;
-    assert_eq!(rt; wrote.out.as_slice(), case.out, "out of {words:?}");
-    assert_eq!(rt; wrote.err.as_slice(), case.err, "err of {words:?}");
-    assert_eq!(rt;
-        wrote.status.code(),
-        case.status.code(),
-        "status of {words:?}"
-    );
+fn check<R: Abort + AllocGlobal>(
+    rt: &R,
+    words: &[&str],
+    outside: Outside<'_>,
+    expected: Expected<'_>,
+    left: usize,
+) -> Result<(), Fail> {
+    let wrote = ran(rt.alloc(), words, outside)?;
+    assert_eq!(rt; wrote.out.as_slice(), expected.out, "out of {words:?}");
+    assert_eq!(rt; wrote.err.as_slice(), expected.err, "err of {words:?}");
+    assert_eq!(rt; wrote.status, expected.status, "status of {words:?}");
+    assert_eq!(rt; wrote.left, left, "input left by {words:?}");
     Ok(())
 }
 
@@ -89,104 +86,188 @@ const HELLO: [u8; 76] = [
     0, 0, 0, 0, 0, 0,
 ];
 
+/// What a line that is no command line is answered with.
+const BAD_WORDS: Expected<'static> = Expected {
+    out: b"",
+    err: b"pump: bad command line\n",
+    status: Status::BadWords,
+};
+
 #[test]
-fn words_are_a_command_or_are_refused(rt: HostRuntime) -> Result<(), Fail> {
-    let refused: [&[&str]; 9] = [
+fn bad_lines_are_refused(rt: HostRuntime) -> Result<(), Fail> {
+    let refused: [&[&str]; 13] = [
         &[],
         &["pump"],
         &["pump", "run"],
         &["pump", "walk", "image"],
+        &["pump", "help"],
         &["pump", "run", "--policy"],
         &["pump", "run", "image", "more"],
         &["pump", "run", "image", "--policy"],
         &["pump", "run", "image", "--policy", "seal,seal"],
+        &["pump", "run", "image", "--turns", "5", "--turns", "5"],
+        &["pump", "run", "image", "--turns", "0"],
+        &["pump", "run", "image", "--turns", "1000000001"],
         &["pump", "run", "image", "--tags", "0"],
     ];
+    let outside = Outside {
+        image: &HELLO,
+        input: b"abc",
+        failing_reads: &[],
+        failing_puts: &[],
+    };
     for words in refused {
-        check(
-            &rt,
-            &Case {
-                words,
-                image: &HELLO,
-                failing: &[],
-                out: b"",
-                err: b"pump: bad command line\n",
-                status: Status::BadWords,
-            },
-        )?;
+        check(&rt, words, outside, BAD_WORDS, 3)?;
     }
     Ok(())
+}
+
+/// Runs the file as an image on three bytes of input, of which so many are left.
+fn check_image<R: Abort + AllocGlobal>(
+    rt: &R,
+    image: &[u8],
+    expected: Expected<'_>,
+    left: usize,
+) -> Result<(), Fail> {
+    let outside = Outside {
+        image,
+        input: b"abc",
+        failing_reads: &[],
+        failing_puts: &[],
+    };
+    check(rt, &["pump", "run", "image"], outside, expected, left)
+}
+
+fn refused(err: &[u8], status: Status) -> Expected<'_> {
+    Expected {
+        out: b"",
+        err,
+        status,
+    }
+}
+
+/// What the image `HELLO` does.
+const GREETED: Expected<'static> = Expected {
+    out: b"A",
+    err: b"stop 0 exit 0\n",
+    status: Status::Done,
+};
+
+#[test]
+fn images_are_read_or_refused(rt: HostRuntime) -> Result<(), Fail> {
+    let mut longer = HELLO.to_vec(rt.alloc())?;
+    longer.push(0)?;
+    let mut nine_harts = HELLO;
+    nine_harts[6] = 9;
+    let mut later = HELLO;
+    later[4] = 3;
+    let mut labelled = HELLO;
+    labelled[64] = 1;
+    let table: [(&[u8], &[u8]); 7] = [
+        (&HELLO[..10], b"pump: bad image: short at 10\n"),
+        (&[], b"pump: bad image: short at 0\n"),
+        (&longer, b"pump: bad image: trailing at 76\n"),
+        (b"pumpkin", b"pump: bad image: magic\n"),
+        (&later, b"pump: bad image: version 3\n"),
+        (&nine_harts, b"pump: bad image: field 1 at 6\n"),
+        (&labelled, b"pump: bad image: order 3 row 0\n"),
+    ];
+    for (image, err) in table {
+        check_image(&rt, image, refused(err, Status::BadImage), 3)?;
+    }
+    let over_limit: Vec<u8> = vec![in rt.alloc(); 0; 33_554_433]?;
+    let too_long = refused(b"pump: too long\n", Status::TooLong);
+    check_image(&rt, &over_limit, too_long, 3)?;
+    check_image(&rt, &HELLO, GREETED, 0)
 }
 
 #[test]
-fn images_run_or_are_refused(rt: HostRuntime) -> Result<(), Fail> {
-    let alloc = rt.alloc();
-    let run: &[&str] = &["pump", "run", "image"];
-    let cut = &HELLO[..10];
-    let mut longer = HELLO.to_vec(alloc)?;
-    longer.push(0)?;
-    let over_limit: Vec<u8> = vec![in alloc; 0; 33_554_433]?;
-    let table: [(&[&str], &[u8], &[u8], &[u8], Status); 6] = [
-        (run, &HELLO, b"A", b"stop 0 exit 0\n", Status::Done),
-        (run, cut, b"", b"pump: bad image\n", Status::BadImage),
-        (run, &[], b"", b"pump: bad image\n", Status::BadImage),
-        (
-            run,
-            longer.as_slice(),
-            b"",
-            b"pump: bad image\n",
-            Status::BadImage,
-        ),
-        (
-            run,
-            over_limit.as_slice(),
-            b"",
-            b"pump: too long\n",
-            Status::TooLong,
-        ),
-        (
-            &["pump", "run", "missing"],
-            &HELLO,
-            b"",
-            b"",
-            Status::ReadFailed,
-        ),
-    ];
-    for (words, image, out, err, status) in table {
-        check(
-            &rt,
-            &Case {
-                words,
-                image,
-                failing: &[],
-                out,
-                err,
-                status,
-            },
-        )?;
+fn the_input_has_a_limit(rt: HostRuntime) -> Result<(), Fail> {
+    let most: Vec<u8> = vec![in rt.alloc(); 0; 16_777_216]?;
+    let more: Vec<u8> = vec![in rt.alloc(); 0; 16_777_217]?;
+    let too_long = refused(b"pump: too long\n", Status::TooLong);
+    for (input, expected) in [(&most, GREETED), (&more, too_long)] {
+        let outside = Outside {
+            image: &HELLO,
+            input,
+            failing_reads: &[],
+            failing_puts: &[],
+        };
+        check(&rt, &["pump", "run", "image"], outside, expected, 0)?;
     }
     Ok(())
 }
 
-/// Runs each program under the policy, and compares what standard error got, and the status.
+/// An image of some harts with so much memory, whose one segment has these words at 0.
+#[derive(Clone, Copy)]
+struct Program<'a> {
+    entries: &'a [u32],
+    ram: u32,
+    words: &'a [u32],
+}
+
+/// The file of a program's image.
+fn image_of(alloc: Global, program: Program<'_>) -> Result<Vec<u8>, AllocError> {
+    let harts = u16::try_from(program.entries.len()).unwrap_or(0);
+    let count = u32::try_from(program.words.len()).unwrap_or(0);
+    let mut bytes = b"PUMP\x01\x00".to_vec(alloc)?;
+    bytes.extend_from_slice(&harts.to_le_bytes())?;
+    let fields: [&[u32]; 5] = [
+        &[program.ram, 0, 0],
+        program.entries,
+        &[1, 0, count],
+        program.words,
+        &[0, 0, 0, 0],
+    ];
+    for field in fields {
+        for word in field {
+            bytes.extend_from_slice(&word.to_le_bytes())?;
+        }
+    }
+    Ok(bytes)
+}
+
+/// A run of a program with these options and this input.
+#[derive(Clone, Copy)]
+struct Run<'a> {
+    options: &'a [&'a str],
+    program: Program<'a>,
+    input: &'a [u8],
+    expected: Expected<'a>,
+}
+
+fn check_run<R: Abort + AllocGlobal>(rt: &R, run: Run<'_>) -> Result<(), Fail> {
+    let image = image_of(rt.alloc(), run.program)?;
+    let mut words = vec![in rt.alloc(); "pump", "run", "image"]?;
+    words.extend_from_slice(run.options)?;
+    let outside = Outside {
+        image: &image,
+        input: run.input,
+        failing_reads: &[],
+        failing_puts: &[],
+    };
+    check(rt, &words, outside, run.expected, 0)
+}
+
+/// Runs each program of one hart with 256 bytes of memory under the policy, and compares what standard error got, and the
+/// status.
 fn check_all<R: Abort + AllocGlobal>(
     rt: &R,
     policy: &str,
     table: &[(&[u32], &[u8], Status)],
 ) -> Result<(), Fail> {
-    for (program, err, status) in table {
-        let image = image_of(rt.alloc(), program)?;
-        check(
-            rt,
-            &Case {
-                words: &["pump", "run", "image", "--policy", policy],
-                image: image.as_slice(),
-                failing: &[],
-                out: b"",
-                err,
-                status: *status,
+    for (words, err, status) in table {
+        let run = Run {
+            options: &["--policy", policy],
+            program: Program {
+                entries: &[0],
+                ram: 256,
+                words,
             },
-        )?;
+            input: b"",
+            expected: refused(err, *status),
+        };
+        check_run(rt, run)?;
     }
     Ok(())
 }
@@ -196,9 +277,9 @@ fn faults_are_told(rt: HostRuntime) -> Result<(), Fail> {
     check_all(&rt, "none", &FAULTS)
 }
 
-/// A shift with bit 5 of its amount, a FENCE with another f3, a taken branch to 2, a load from 2 and one past the end of
-/// memory, and a service that no policy offers.
-const FAULTS: [(&[u32], &[u8], Status); 6] = [
+/// A shift with bit 5 of its amount; a FENCE, and one with another f3; a branch to 2 that is not taken, up to the word at 8,
+/// and the same taken; a load from 2; a service that no policy offers; an EBREAK, which is passed, up to the zero word.
+const FAULTS: [(&[u32], &[u8], Status); 7] = [
     (
         &[0x0200_1013],
         b"stop 0 fault illegal 02001013\n",
@@ -207,6 +288,11 @@ const FAULTS: [(&[u32], &[u8], Status); 6] = [
     (
         &[0x0000_000F, 0x0000_100F],
         b"stop 0 fault illegal 0000100F\n",
+        Status::Faulted,
+    ),
+    (
+        &[0x0010_0293, 0x0050_0163, 0x0000_0088],
+        b"stop 0 fault illegal 00000088\n",
         Status::Faulted,
     ),
     (
@@ -220,13 +306,13 @@ const FAULTS: [(&[u32], &[u8], Status); 6] = [
         Status::Faulted,
     ),
     (
-        &[0x1000_2283],
-        b"stop 0 fault loadrange 00000100\n",
+        &[0x0100_0893, 0x73],
+        b"stop 0 fault noservice 16\n",
         Status::Faulted,
     ),
     (
-        &[0x0100_0893, 0x73],
-        b"stop 0 fault noservice 16\n",
+        &[0x0010_0073],
+        b"stop 0 fault illegal 00000000\n",
         Status::Faulted,
     ),
 ];
@@ -236,8 +322,8 @@ fn ends_are_told(rt: HostRuntime) -> Result<(), Fail> {
     check_all(&rt, "none", &ENDS)
 }
 
-/// An exit with 7, and a loop.
-const ENDS: [(&[u32], &[u8], Status); 2] = [
+/// An exit with 7; a loop; a jump by x5 with bit 0 cleared to 10, where x5, which is 8 then, is the exit's code.
+const ENDS: [(&[u32], &[u8], Status); 3] = [
     (
         &[0x0070_0513, 0x0000_0893, 0x73],
         b"stop 0 exit 7\n",
@@ -247,6 +333,19 @@ const ENDS: [(&[u32], &[u8], Status); 2] = [
         &[0x0012_8293, 0xFFDF_F06F],
         b"turns spent\n",
         Status::TurnsSpent,
+    ),
+    (
+        &[
+            0x0110_0293,
+            0x0002_82E7,
+            0,
+            0,
+            0x0002_8513,
+            0x0000_0893,
+            0x73,
+        ],
+        b"stop 0 exit 8\n",
+        Status::ExitedNonzero,
     ),
 ];
 
@@ -318,17 +417,304 @@ const SEALED: [(&[u32], &[u8], Status); 4] = [
 ];
 
 #[test]
-fn a_failed_put_ends_the_program(rt: HostRuntime) -> Result<(), Fail> {
-    let image = image_of(rt.alloc(), &[0x0410_0513, 0x0010_0893, 0x73, 0x73])?;
+fn options_memory_and_input_are_taken(rt: HostRuntime) -> Result<(), Fail> {
+    for run in RUNS {
+        check_run(&rt, run)?;
+    }
+    Ok(())
+}
+
+/// The end of memory as a fetch and as a load; a loop cut after 5 turns; two bytes fetched by get where one is fed: the
+/// first is put, the second is the exit's code.
+const RUNS: [Run<'static>; 4] = [
+    Run {
+        options: &[],
+        program: Program {
+            entries: &[0],
+            ram: 4,
+            words: &[0x0000_0013],
+        },
+        input: b"",
+        expected: Expected {
+            out: b"",
+            err: b"stop 0 fault fetch 00000004\n",
+            status: Status::Faulted,
+        },
+    },
+    Run {
+        options: &[],
+        program: Program {
+            entries: &[0],
+            ram: 64,
+            words: &[0x0400_2283],
+        },
+        input: b"",
+        expected: Expected {
+            out: b"",
+            err: b"stop 0 fault loadrange 00000040\n",
+            status: Status::Faulted,
+        },
+    },
+    Run {
+        options: &["--turns", "5"],
+        program: Program {
+            entries: &[0],
+            ram: 256,
+            words: &[0x0012_8293, 0xFFDF_F06F],
+        },
+        input: b"",
+        expected: Expected {
+            out: b"",
+            err: b"turns spent\n",
+            status: Status::TurnsSpent,
+        },
+    },
+    Run {
+        options: &[],
+        program: Program {
+            entries: &[0],
+            ram: 256,
+            words: &[
+                0x0020_0893,
+                0x73,
+                0x0010_0893,
+                0x73,
+                0x0020_0893,
+                0x73,
+                0x0000_0893,
+                0x73,
+            ],
+        },
+        input: b"*",
+        expected: Expected {
+            out: b"*",
+            err: b"stop 0 exit 4294967295\n",
+            status: Status::ExitedNonzero,
+        },
+    },
+];
+
+#[test]
+fn failures_of_the_outside_end_the_program(rt: HostRuntime) -> Result<(), Fail> {
+    let program = Program {
+        entries: &[0],
+        ram: 256,
+        words: &[0x0410_0513, 0x0010_0893, 0x73, 0x73],
+    };
+    let image = image_of(rt.alloc(), program)?;
+    let failing_put = Outside {
+        image: &image,
+        input: b"abc",
+        failing_reads: &[],
+        failing_puts: &[1],
+    };
+    let failing_read = Outside {
+        failing_reads: &[0],
+        failing_puts: &[],
+        ..failing_put
+    };
+    let put_failed = Expected {
+        out: b"A",
+        err: b"",
+        status: Status::PutFailed,
+    };
+    let run: &[&str] = &["pump", "run", "image"];
+    check(&rt, run, failing_put, put_failed, 0)?;
+    check(&rt, run, failing_read, refused(b"", Status::InputFailed), 3)?;
+    let missing: &[&str] = &["pump", "run", "missing"];
     check(
         &rt,
-        &Case {
-            words: &["pump", "run", "image"],
-            image: image.as_slice(),
-            failing: &[1],
-            out: b"A",
-            err: b"",
-            status: Status::PutFailed,
-        },
+        missing,
+        failing_read,
+        refused(b"", Status::ReadFailed),
+        3,
     )
 }
+
+/// Copies its input: the program of `examples/filter.txt`, as those below are of the examples with their names.
+const FILTER: Program<'static> = Program {
+    entries: &[0],
+    ram: 64,
+    words: &[
+        0x0020_0893,
+        0x73,
+        0x0005_4863,
+        0x0010_0893,
+        0x73,
+        0xFEDF_F06F,
+        0x0513,
+        0x0893,
+        0x73,
+    ],
+};
+
+const UPPER: Program<'static> = Program {
+    entries: &[0],
+    ram: 64,
+    words: &[
+        0x0020_0893,
+        0x73,
+        0x0205_4063,
+        0xF9F5_0293,
+        0x01A2_B293,
+        0x0052_9293,
+        0x4055_0533,
+        0x0010_0893,
+        0x73,
+        0xFDDF_F06F,
+        0x0513,
+        0x0893,
+        0x73,
+    ],
+};
+
+const MAILBOX: Program<'static> = Program {
+    entries: &[0, 0x1C],
+    ram: 128,
+    words: &[
+        0x04D0_0293,
+        0x0450_2023,
+        0x0010_0293,
+        0x0250_2E23,
+        0x0513,
+        0x0893,
+        0x73,
+        0x03C0_2283,
+        0xFE02_8EE3,
+        0x0400_2503,
+        0x0010_0893,
+        0x73,
+        0x0513,
+        0x0893,
+        0x73,
+        0,
+        0,
+    ],
+};
+
+const SEALED_SUM: Program<'static> = Program {
+    entries: &[0],
+    ram: 64,
+    words: &[
+        0x0100_0893,
+        0x73,
+        0x0005_0593,
+        0x0070_0513,
+        0x0110_0893,
+        0x73,
+        0x0015_0513,
+    ],
+};
+
+const UNSEALED_SUM: Program<'static> = Program {
+    entries: &[0],
+    ram: 64,
+    words: &[
+        0x0100_0893,
+        0x73,
+        0x0005_0593,
+        0x0070_0513,
+        0x0110_0893,
+        0x73,
+        0x0120_0893,
+        0x73,
+        0x0015_0513,
+        0x0305_0513,
+        0x0010_0893,
+        0x73,
+        0x0513,
+        0x0893,
+        0x73,
+    ],
+};
+
+#[test]
+fn the_examples_do_what_they_tell(rt: HostRuntime) -> Result<(), Fail> {
+    for run in EXAMPLES {
+        check_run(&rt, run)?;
+    }
+    Ok(())
+}
+
+const EXAMPLES: [Run<'static>; 8] = [
+    Run {
+        options: &[],
+        program: FILTER,
+        input: b"one\ntwo\n",
+        expected: Expected {
+            out: b"one\ntwo\n",
+            err: b"stop 0 exit 0\n",
+            status: Status::Done,
+        },
+    },
+    Run {
+        options: &[],
+        program: FILTER,
+        input: b"\x00\x7F\x80\xFF\x0A",
+        expected: Expected {
+            out: b"\x00\x7F\x80\xFF\x0A",
+            err: b"stop 0 exit 0\n",
+            status: Status::Done,
+        },
+    },
+    Run {
+        options: &[],
+        program: FILTER,
+        input: b"",
+        expected: Expected {
+            out: b"",
+            err: b"stop 0 exit 0\n",
+            status: Status::Done,
+        },
+    },
+    Run {
+        options: &[],
+        program: UPPER,
+        input: b"`az{@AZ[\x00\xE1\xFF",
+        expected: Expected {
+            out: b"`AZ{@AZ[\x00\xE1\xFF",
+            err: b"stop 0 exit 0\n",
+            status: Status::Done,
+        },
+    },
+    Run {
+        options: &[],
+        program: MAILBOX,
+        input: b"",
+        expected: Expected {
+            out: b"M",
+            err: b"stop 0 exit 0\nstop 1 exit 0\n",
+            status: Status::Done,
+        },
+    },
+    Run {
+        options: &["--policy", "seal"],
+        program: SEALED_SUM,
+        input: b"",
+        expected: Expected {
+            out: b"",
+            err: b"stop 0 violation seal rule(addimm) pc 00000018\n",
+            status: Status::Violated,
+        },
+    },
+    Run {
+        options: &[],
+        program: SEALED_SUM,
+        input: b"",
+        expected: Expected {
+            out: b"",
+            err: b"stop 0 fault noservice 16\n",
+            status: Status::Faulted,
+        },
+    },
+    Run {
+        options: &["--policy", "seal"],
+        program: UNSEALED_SUM,
+        input: b"",
+        expected: Expected {
+            out: b"8",
+            err: b"stop 0 exit 0\n",
+            status: Status::Done,
+        },
+    },
+];

@@ -2,9 +2,10 @@ ghost use Rattle.std.specs.Prelude.{◌≡◌, ◌+◌, ◌≤◌, ◌++◌, len
 ghost use Rattle.std.specs.Fmt.{decimal};
 ghost use Rattle.arrayvec.specs.ArrayVec.{array_vec_len};
 ghost use Rattle.pump_words.specs.Texts.{hex8_text};
-ghost use Rattle.pump_cli.specs.Texts.{fault_text, group_text, part_text, stop_line, stop_text, why_text};
+ghost use Rattle.pump_cli.specs.Texts.{fault_text, group_text, image_error_text, part_text, stop_line, stop_text, why_text};
 
 use engine_trait::Stop;
+use image_format::ImageError;
 use policy_trait::{Part, Why};
 use pump_words::{Line, dec, hex8, write_text};
 use rv_decode::Group;
@@ -63,8 +64,30 @@ fn write_fault(line: &mut Line, fault: Fault)
         Fault::LoadRange(address) => write_at(line, b"loadrange ", address),
         Fault::StoreRange(address) => write_at(line, b"storerange ", address),
         Fault::JumpAlign(target) => write_at(line, b"jumpalign ", target),
-        Fault::NoService(number) => write_number(line, b"noservice ", number),
-        Fault::Spent(number) => write_number(line, b"spent ", number),
+        Fault::NoService(number) => write_number(line, b"noservice ", u64::from(number)),
+        Fault::Spent(number) => write_number(line, b"spent ", u64::from(number)),
+    }
+}
+
+/// Appends why bytes are no image.
+pub(crate) fn write_image_error(line: &mut Line, error: ImageError)
+    requires { array_vec_len line.old + 60 ≤ 512 }
+    ensures text { line.new.items ≡ line.old.items ++ image_error_text error }
+    ensures short { array_vec_len line.new ≤ array_vec_len line.old + 60 }
+{
+    match error {
+        ImageError::Magic => write_text(line, b"magic"),
+        ImageError::Version(version) => write_number(line, b"version ", u64::from(version)),
+        ImageError::Short(length) => write_number(line, b"short at ", length as u64),
+        ImageError::Field(number, offset) => {
+            write_number(line, b"field ", u64::from(number));
+            write_number(line, b" at ", offset as u64);
+        }
+        ImageError::Order(list, row) => {
+            write_number(line, b"order ", u64::from(list));
+            write_number(line, b" row ", u64::from(row));
+        }
+        ImageError::Trailing(offset) => write_number(line, b"trailing at ", offset as u64),
     }
 }
 
@@ -79,13 +102,13 @@ fn write_at(line: &mut Line, text: &[u8], word: u32)
 }
 
 /// Appends a text and a number in decimal.
-fn write_number(line: &mut Line, text: &[u8], number: u32)
+fn write_number(line: &mut Line, text: &[u8], number: u64)
     requires { array_vec_len line.old + length text.now + 20 ≤ 512 }
     ensures text { line.new.items ≡ line.old.items ++ (text.now ++ decimal number) }
     ensures short { array_vec_len line.new ≤ array_vec_len line.old + length text.now + 20 }
 {
     write_text(line, text);
-    dec(line, u64::from(number));
+    dec(line, number);
 }
 
 /// Appends a policy's name.

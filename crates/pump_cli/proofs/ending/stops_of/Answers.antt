@@ -1,4 +1,4 @@
-use Rattle.std.proofs.Common.{rules, arith, ap, sym, ◌∙◌, ◌≡◌, ◌∷◌, ◌++◌, [], List, Option}
+use Rattle.std.proofs.Common.{arith, ap, sym, ◌∙◌, ◌∷◌, ◌++◌, [], List, Option}
 use Rattle.std.proofs.lemmas.List.FromFn.{map-range_with_len_more}
 use Rattle.engine_trait.specs.Machine.{stop_at}
 use Rattle.engine_trait.specs.declared.ends.Stop.{Stop}

@@ -1,4 +1,4 @@
-use Rattle.std.proofs.Common.{arith, refl, ap, sym, ◌∙◌, ◌≡◌, ◌-◌, ◌+◌}
+use Rattle.std.proofs.Common.{arith, refl, ap, sym, ◌∙◌, ◌≡◌, ◌-◌}
 use Rattle.std.proofs.lemmas.Result.{err_from_is_err_and}
 use Rattle.engine_trait.specs.Runs.{rounds}
 use Rattle.pump_cli.proofs.Turning.{lines_are_all, lines_are_cut, lines_begin, lines_go_on, machine_is, machine_stays, puts_are_all, puts_are_cut, puts_begin, puts_go_on, rounds-none, rounds-over}

@@ -1,4 +1,4 @@
-use Rattle.std.proofs.Common.{◌≡◌, ◌-◌, ◌≤◌, false}
+use Rattle.std.proofs.Common.{◌≡◌, ◌-◌, false}
 use Rattle.host_io.specs.Fronts.{SoFar}
 use Rattle.engine_trait.specs.Runs.{rounds}
 use Rattle.pump_cli.specs.Endings.{lines_of, puts_of}
