@@ -1,4 +1,5 @@
 pub mod Births
 pub mod Choice
 pub mod Loads
+pub mod Memory
 pub mod Start

@@ -1,7 +1,8 @@
-//! From an image to an engine at its start.
+//! From an image to an engine at its start. `memory_law` says what its memory then holds.
 #![tactic(auto)]
 
 mod births;
+mod law;
 mod load;
 mod parts;
 mod start;
@@ -9,4 +10,5 @@ mod start;
 mod tests;
 
 pub use births::birth;
+pub use law::memory_law;
 pub use load::PlainLoad;
