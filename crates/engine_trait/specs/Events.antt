@@ -17,8 +17,9 @@ use Rattle.monitor_calls.specs.Service.{Job}
 use Rattle.turn_steps.specs.Services.{args_on}
 use Rattle.turn_steps.specs.declared.look.Look.{Look}
 use Rattle.engine_trait.specs.Machine.{Machine, hart_at, stop_at}
-use Rattle.engine_trait.specs.Turn.{is_call, prepared, ruled, service_on, turn_of}
-use Rattle.engine_trait.specs.declared.ends.Stop.{Stop}
+use Rattle.turn_steps.specs.Looks.{is_call}
+use Rattle.engine_trait.specs.Turn.{prepared, ruled, service_on, turn_of}
+use Rattle.turn_steps.specs.declared.stop.Stop.{Stop}
 use Rattle.engine_trait.specs.declared.ends.TurnEnd.{TurnEnd}
 
 -- what the rule was asked with

@@ -1,7 +1,7 @@
 -- The state of a machine: the policy's value, and the core of harts with their stops and of memory. The feed stands
 -- beside it.
 use Rattle.std.specs.Prelude.{◌≡◌, ℕ, ◌≤◌, List, length, Option, Some, None, replicate, slice_index_or, slice_set}
-use Rattle.engine_trait.specs.declared.ends.Stop.{Stop}
+use Rattle.turn_steps.specs.declared.stop.Stop.{Stop}
 use Rattle.tag_memory.specs.Hart.{HartState, fresh_hart}
 use Rattle.tag_memory.specs.Ram.{RamState}
 

@@ -5,7 +5,7 @@ use Rattle.policy_trait.specs.Model.{PolicyModel}
 use Rattle.engine_trait.specs.Events.{Event, event_of}
 use Rattle.engine_trait.specs.Machine.{CoreState, Machine, stop_at}
 use Rattle.engine_trait.specs.Turn.{turn_of}
-use Rattle.engine_trait.specs.declared.ends.Stop.{Stop}
+use Rattle.turn_steps.specs.declared.stop.Stop.{Stop}
 
 -- a turn of a hart, or a byte that is fed
 pub data Item : Type 0 where

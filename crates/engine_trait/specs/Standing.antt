@@ -5,8 +5,8 @@ use Rattle.policy_trait.specs.Model.{PolicyModel}
 use Rattle.engine_trait.specs.Machine.{Machine, stop_at}
 use Rattle.engine_trait.specs.Turn.{prepared, stopped_at, turn_of}
 use Rattle.engine_trait.specs.declared.ends.Counts.{Counts}
-use Rattle.engine_trait.specs.declared.ends.Stop.{Stop}
-use Rattle.engine_trait.specs.declared.ends.Stop.TheVariants as stop
+use Rattle.turn_steps.specs.declared.stop.Stop.{Stop}
+use Rattle.turn_steps.specs.declared.stop.Stop.TheVariants as stop
 use Rattle.engine_trait.specs.declared.ends.TurnEnd.{TurnEnd}
 use Rattle.engine_trait.specs.declared.ends.TurnEnd.TheVariants as ends
 

@@ -1,7 +1,5 @@
 -- One turn of one hart. The first step that fails decides; a failure sets that hart's stop and changes nothing else.
 use Rattle.std.specs.Prelude.{ℕ, Bool, true, false, ◌||◌, not, List, Option, Some, None, Result, Ok, Err, if◌then◌else◌}
-use Rattle.rv_decode.specs.declared.groups.Group.{Group}
-use Rattle.rv_decode.specs.declared.groups.Group.TheVariants as group
 use Rattle.rv_step.specs.declared.faults.Fault.{Fault}
 use Rattle.rv_step.specs.declared.faults.Fault.TheVariants.{NoService, Spent}
 use Rattle.policy_trait.specs.Model.{PolicyModel}
@@ -13,14 +11,14 @@ use Rattle.policy_trait.specs.declared.services.PlanEnd.TheVariants as plan_end
 use Rattle.tag_memory.specs.Ram.{ram_tag, ram_word}
 use Rattle.monitor_calls.specs.Service.{Job, served}
 use Rattle.turn_steps.specs.Effects.{Carried, carried_out, moved_to}
-use Rattle.turn_steps.specs.Looks.{looked}
+use Rattle.turn_steps.specs.Looks.{is_call, looked}
 use Rattle.turn_steps.specs.Services.{args_on, with_answer, with_words}
 use Rattle.turn_steps.specs.declared.effects.Done.{Done}
 use Rattle.turn_steps.specs.declared.effects.Done.TheVariants as done
 use Rattle.turn_steps.specs.declared.look.Look.{Look}
 use Rattle.engine_trait.specs.Machine.{CoreState, Machine, hart_at, stop_at, stopping, with_hart}
-use Rattle.engine_trait.specs.declared.ends.Stop.{Stop}
-use Rattle.engine_trait.specs.declared.ends.Stop.TheVariants as stop
+use Rattle.turn_steps.specs.declared.stop.Stop.{Stop}
+use Rattle.turn_steps.specs.declared.stop.Stop.TheVariants as stop
 use Rattle.engine_trait.specs.declared.ends.TurnEnd.{TurnEnd}
 use Rattle.engine_trait.specs.declared.ends.TurnEnd.TheVariants as ends
 
@@ -29,10 +27,6 @@ pub record Turned (S T : Type 0) : Type 0 where
   pub machine : Machine S T
   pub feed : List ℕ
   pub ended : TurnEnd
-
-abbrev pub is_call : Group → Bool
-is_call group.Call = true
-is_call _ = false
 
 -- a policy's refusal at that pc, as a stop
 abbrev pub violation : ℕ → Refused → Stop

@@ -9,12 +9,12 @@ ghost use Rattle.engine_trait.specs.Runs.{is_ready};
 ghost use Rattle.engine_trait.specs.Standing.{IsFailure};
 ghost use Rattle.engine_trait.specs.Turn.{carried_at, core_effected, core_served, end_of};
 
-use crate::ends::{Stop, TurnEnd};
+use crate::ends::TurnEnd;
 use policy_trait::{Answer, Args, Outs};
 use rv_step::Fault;
 use std::marker::Model;
 use tag_memory::{Hart, Ram};
-use turn_steps::{Done, Feed, Look, answer_to, arguments_of, carry_out, look_ahead, write_words};
+use turn_steps::{Done, Feed, Look, Stop, answer_to, arguments_of, carry_out, look_ahead, write_words};
 
 /// Harts, their stops, and memory, for any type of tags: what every engine stands on. Contracts see it as a `CoreState`.
 #[derive(Drop)]

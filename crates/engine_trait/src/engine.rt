@@ -4,9 +4,9 @@ ghost use Rattle.tag_memory.specs.Ram.{ram_bytes, ram_tag, ram_word};
 ghost use Rattle.engine_trait.specs.Machine.{hart_at, stop_at};
 ghost use Rattle.engine_trait.specs.Standing.{IsFailure, StopsOnly, Turns, Unchanged, counts_of};
 
-use crate::ends::{Counts, LoadEnd, Stop, TurnEnd};
+use crate::ends::{Counts, LoadEnd, TurnEnd};
 use policy_trait::Policy;
-use turn_steps::Feed;
+use turn_steps::{Feed, Stop};
 
 /// A machine that runs. `standing` is what it is: a machine by the definitions, and its account.
 pub trait Engine {

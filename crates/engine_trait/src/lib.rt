@@ -9,6 +9,6 @@ mod ends;
 mod engine;
 
 pub use cores::Core;
-pub use ends::{Counts, LoadEnd, Stop, TurnEnd};
+pub use ends::{Counts, LoadEnd, TurnEnd};
 pub use engine::{Engine, Loader};
-pub use turn_steps::Feed;
+pub use turn_steps::{Feed, Stop};

@@ -6,7 +6,8 @@ use Rattle.tag_memory.specs.Ram.{RamState, ram_bytes}
 use Rattle.turn_steps.specs.declared.look.Look.{Look}
 use Rattle.engine_trait.specs.Machine.{Machine, fresh_core}
 use Rattle.engine_trait.specs.Standing.{Account, Standing, counted, fresh_account, with_turn}
-use Rattle.engine_trait.specs.Turn.{finish_service, is_call, prepared, service_on, settled}
+use Rattle.turn_steps.specs.Looks.{is_call}
+use Rattle.engine_trait.specs.Turn.{finish_service, prepared, service_on, settled}
 use Rattle.engine_trait.specs.declared.ends.TurnEnd.{TurnEnd}
 use Rattle.engine_trait.specs.declared.ends.TurnEnd.TheVariants as ends
 use Rattle.rv_step.specs.declared.faults.Fault.{Fault}

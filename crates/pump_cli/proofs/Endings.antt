@@ -7,7 +7,7 @@ use Rattle.pump_cli.specs.Follows.{Follows}
 use Rattle.pump_cli.specs.declared.cut.Cut.{Cut}
 use Rattle.host_io.specs.declared.traits.sink.PutEnd.{PutEnd}
 use Rattle.engine_trait.specs.Runs.{Ran, hart_stops}
-use Rattle.engine_trait.specs.declared.ends.Stop.{Stop}
+use Rattle.turn_steps.specs.declared.stop.Stop.{Stop}
 use Rattle.pump_cli.specs.Endings.{last_line, lines_of, puts_of, status_of}
 use Rattle.pump_cli.specs.Program.{Outcome, outcome_of_ran, refused}
 use Rattle.pump_cli.specs.Texts.{line}

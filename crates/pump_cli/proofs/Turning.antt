@@ -8,7 +8,7 @@ use Rattle.engine_trait.specs.Machine.{CoreState, Machine, stop_at}
 use Rattle.engine_trait.specs.Runs.{Ran, first_ready, next_hart, picked, round_robin, rounds, run_along, turn, with_event}
 use Rattle.engine_trait.specs.Standing.{IsIdle, Makes, Standing, Turns, accounted-out, engine, hart}
 use Rattle.engine_trait.specs.Turn.{turn_of}
-use Rattle.engine_trait.specs.declared.ends.Stop.{Stop}
+use Rattle.turn_steps.specs.declared.stop.Stop.{Stop}
 use Rattle.engine_trait.specs.declared.ends.TurnEnd.{TurnEnd}
 use Rattle.engine_trait.specs.declared.ends.TurnEnd.TheVariants as ends
 use Rattle.pump_cli.specs.Endings.{line_of, line_of_end, lines_of, put_of, put_of_end, puts_of}

@@ -3,8 +3,8 @@ use Rattle.std.specs.Prelude.{ℕ, Bool, true, false, ◌==◌, not, List, [], �
 use Rattle.std.specs.List.{flat_map, list_any}
 use Rattle.engine_trait.specs.Events.{Event}
 use Rattle.engine_trait.specs.Runs.{is_ready}
-use Rattle.engine_trait.specs.declared.ends.Stop.{Stop}
-use Rattle.engine_trait.specs.declared.ends.Stop.TheVariants as stop
+use Rattle.turn_steps.specs.declared.stop.Stop.{Stop}
+use Rattle.turn_steps.specs.declared.stop.Stop.TheVariants as stop
 use Rattle.engine_trait.specs.declared.ends.TurnEnd.{TurnEnd}
 use Rattle.engine_trait.specs.declared.ends.TurnEnd.TheVariants as ends
 use Rattle.pump_cli.specs.Texts.{line, stop_line}

@@ -1,7 +1,7 @@
 -- Kinds of stops.
 use Rattle.std.specs.Prelude.{Bool, Option}
 use Rattle.engine_trait.specs.Runs.{is_ready}
-use Rattle.engine_trait.specs.declared.ends.Stop.{Stop}
+use Rattle.turn_steps.specs.declared.stop.Stop.{Stop}
 use Rattle.pump_cli.specs.Endings.{is_fault, is_nonzero_exit, is_violation}
 use Rattle.pump_cli.specs.declared.ending.Kind.{Kind}
 use Rattle.pump_cli.specs.declared.ending.Kind.TheVariants.{Violation, Fault, Ready, NonzeroExit}

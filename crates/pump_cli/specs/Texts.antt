@@ -12,8 +12,8 @@ use Rattle.policy_trait.specs.declared.rules.Why.{Why}
 use Rattle.policy_trait.specs.declared.rules.Why.TheVariants as why
 use Rattle.image_format.specs.declared.errors.ImageError.{ImageError}
 use Rattle.image_format.specs.declared.errors.ImageError.TheVariants as image
-use Rattle.engine_trait.specs.declared.ends.Stop.{Stop}
-use Rattle.engine_trait.specs.declared.ends.Stop.TheVariants as stop
+use Rattle.turn_steps.specs.declared.stop.Stop.{Stop}
+use Rattle.turn_steps.specs.declared.stop.Stop.TheVariants as stop
 
 -- a text and the newline
 abbrev pub line : List ℕ → List ℕ

@@ -1,8 +1,10 @@
 -- What a hart is about to do: the checks of a turn that no policy decides, in their order, and what a rule is asked with.
-use Rattle.std.specs.Prelude.{ℕ, ◌/◌, Option, Some, None, Result, Ok, Err, slice_get}
+use Rattle.std.specs.Prelude.{ℕ, ◌/◌, Bool, true, false, Option, Some, None, Result, Ok, Err, slice_get}
 use Rattle.policy_trait.specs.Steps.{◌>>=◌}
 use Rattle.rv_decode.specs.Decoding.{decoded}
 use Rattle.rv_decode.specs.Groups.{a7, group_of, reads_of}
+use Rattle.rv_decode.specs.declared.groups.Group.{Group}
+use Rattle.rv_decode.specs.declared.groups.Group.TheVariants as group
 use Rattle.rv_decode.specs.declared.instructions.Instr.{Instr}
 use Rattle.rv_step.specs.Effects.{effect_of}
 use Rattle.rv_step.specs.Checks.{first_fault}
@@ -78,3 +80,8 @@ looked hart ram = do
   instr ← read_instr word
   effect ← passed (effect_at hart instr) (first_fault (effect_at hart instr) (ram_bytes ram))
   Ok (look_at hart ram word instr effect)
+
+-- the group of a call of a policy's service
+abbrev pub is_call : Group → Bool
+is_call group.Call = true
+is_call _ = false

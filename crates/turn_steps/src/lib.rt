@@ -7,9 +7,11 @@ mod feed;
 mod look;
 mod looking;
 mod services;
+mod stop;
 
 pub use effects::{Done, carry_out};
 pub use feed::Feed;
 pub use look::Look;
 pub use looking::look_ahead;
 pub use services::{answer_to, arguments_of, write_words};
+pub use stop::Stop;

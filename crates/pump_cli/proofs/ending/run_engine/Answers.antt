@@ -3,7 +3,7 @@ use Rattle.std.proofs.lemmas.Result.{err_from_is_err_and}
 use Rattle.host_io.specs.Fronts.{TakesAll, TakesFront}
 use Rattle.engine_trait.specs.Machine.{Machine}
 use Rattle.engine_trait.specs.Runs.{hart_stops, rounds}
-use Rattle.engine_trait.specs.declared.ends.Stop.{Stop}
+use Rattle.turn_steps.specs.declared.stop.Stop.{Stop}
 use Rattle.pump_cli.specs.Endings.{last_line, status_of}
 use Rattle.pump_cli.proofs.Endings.{last_cut, ran_cut, ran_whole}
 use Rattle.pump_cli.proofs.ending.run_engine.Goals as goal

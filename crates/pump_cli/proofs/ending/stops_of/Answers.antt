@@ -1,7 +1,7 @@
 use Rattle.std.proofs.Common.{arith, ap, sym, ◌∙◌, ◌∷◌, ◌++◌, [], List, Option}
 use Rattle.std.proofs.lemmas.List.FromFn.{map-range_with_len_more}
 use Rattle.engine_trait.specs.Machine.{stop_at}
-use Rattle.engine_trait.specs.declared.ends.Stop.{Stop}
+use Rattle.turn_steps.specs.declared.stop.Stop.{Stop}
 use Rattle.pump_cli.proofs.ending.stops_of.Goals as goal
 
 pub loop-h-preserved : goal.loop-h-preserved
