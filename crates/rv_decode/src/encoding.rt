@@ -1,6 +1,7 @@
 //! From instructions to words: each format puts its fields at their places.
 
-ghost use Rattle.std.specs.Prelude.{◌≡◌, ℕ, ◌+◌, ◌*◌, ◌^◌, ◌<◌, ◌↔◌};
+ghost use Rattle.std.specs.Prelude.{◌≡◌, ℕ, ◌+◌, ◌*◌, ◌^◌, ◌<◌, ◌↔◌, Some};
+ghost use Rattle.rv_decode.specs.Decoding.{decoded};
 ghost use Rattle.rv_decode.specs.Formats.{IsRegisterWord, IsShiftWord, IsImmediateWord, IsStoreWord, IsBranchWord, IsUpperWord, IsJumpWord};
 ghost use Rattle.rv_decode.specs.Table.{Table};
 
@@ -10,6 +11,14 @@ use crate::instructions::Instr;
 
 /// The word of an instruction: the one that is decoded to it.
 pub fn encode(instr: &Instr) -> u32
+    ensures table { (word : ℕ) → (result ≡ word) ↔ Table word instr.now }
+    ensures decoded { (w : ℕ) → w < 2 ^ 32 → (result ≡ w) ↔ (decoded w ≡ Some instr.now) }
+{
+    table_word(instr)
+}
+
+// The word of the instruction's line in the table.
+fn table_word(instr: &Instr) -> u32
     ensures { (word : ℕ) → (result ≡ word) ↔ Table word instr.now }
 {
     match *instr {

@@ -1,14 +1,10 @@
 //! Laws of the table of instructions, for callers that reason about words and instructions.
-//! The functions without a result do nothing.
+//! The functions do nothing.
 
 ghost use Rattle.std.specs.Prelude.{◌≡◌, ℕ, ◌^◌, ◌<◌, ◌↔◌, Some};
 ghost use Rattle.rv_decode.specs.Decoding.{decoded};
 ghost use Rattle.rv_decode.specs.Table.{Table};
 ghost use Rattle.rv_decode.specs.declared.instructions.Instr.{Instr};
-
-use crate::decoding::decode;
-use crate::encoding::encode;
-use crate::instructions::Instr;
 
 /// No instruction has two words, and no word has two instructions.
 pub fn one_form()
@@ -20,10 +16,3 @@ pub fn one_form()
 pub fn decoded_is_table()
     ensures { (w : ℕ) → w < 2 ^ 32 → (instr : Instr) → (decoded w ≡ Some instr) ↔ Table w instr }
 {}
-
-/// The instruction that an instruction's word is decoded to: itself.
-pub fn redecoded(instr: &Instr) -> Option<Instr>
-    ensures { result ≡ Some instr.now }
-{
-    decode(encode(instr))
-}
