@@ -1,3 +1,3 @@
-pub mod Maps
+pub mod Choice
 pub mod Maybe
 pub mod MaybeLaws

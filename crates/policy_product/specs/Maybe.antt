@@ -13,7 +13,7 @@ use Rattle.policy_trait.specs.declared.services.Args.{Args}
 use Rattle.policy_trait.specs.declared.services.Plan.{Plan}
 use Rattle.policy_trait.specs.declared.services.PlanEnd.{PlanEnd}
 use Rattle.policy_trait.specs.declared.services.PlanEnd.TheVariants as plan_end
-use Rattle.policy_product.specs.Maps.{args_by, ins_by, ok_by, outs_by, plan_by}
+use Rattle.policy_trait.specs.Maps.{args_by, ins_by, ok_by, outs_by, plan_by}
 use Rattle.policy_product.specs.declared.maybe.Maybe.{Maybe}
 
 abbrev pub tag_or : {T : Type 0} → T → Option T → T

@@ -1,5 +1,5 @@
 -- A policy that may be off keeps the laws that the policy keeps.
-use Rattle.std.proofs.Common.{◌≡◌, ℕ, ◌≤◌, Bool, true, false, Option, Some, None, Result, Ok, Err, IsTrue, refl, sym, ap, ◌∙◌, subst, if◌then◌else◌}
+use Rattle.std.proofs.Common.{◌≡◌, ℕ, ◌≤◌, Bool, true, false, Option, Some, None, Result, Ok, Err, IsTrue, option_map, refl, sym, ap, ◌∙◌, subst, if◌then◌else◌}
 use Rattle.std.specs.Option.{ForSome}
 use Rattle.rv_decode.specs.declared.groups.Group.{Group}
 use Rattle.policy_trait.specs.Laws.{IsRange, KeepsLaws, KeepsValue, SameRules}
@@ -11,12 +11,12 @@ use Rattle.policy_trait.specs.declared.services.Args.{Args}
 use Rattle.policy_trait.specs.declared.services.Plan.{Plan}
 use Rattle.policy_trait.specs.declared.services.PlanEnd.{PlanEnd}
 use Rattle.policy_trait.specs.declared.services.Words.{Words}
-use Rattle.policy_product.specs.Maps.{answer_by, args_by, ins_by, ok_by, outs_by, plan_by}
-use Rattle.policy_product.specs.Maybe.{HoldsIn, MaybeHolds, commit_in, ignores_in, knows_in, maybe, plain_in, plan_in, read_by, rule_in, some_tag, tag_or}
+use Rattle.policy_trait.specs.Maps.{answer_by, args_by, ins_by, ok_by, outs_by, plan_by}
+use Rattle.policy_product.specs.Maybe.{HoldsIn, MaybeHolds, commit_in, ignores_in, knows_in, maybe, plain_in, plan_in, read_by, rule_in, some_tag, tag_or, uses_in}
 use Rattle.policy_product.specs.declared.maybe.Maybe.{Maybe}
 
 -- a plan put on and read again is the plan
-answer_again : {T : Type 0} (plain : T) (x : Option (Answer T)) → answer_by (tag_or plain) (answer_by some_tag x) ≡ x
+answer_again : {T : Type 0} (plain : T) (x : Option (Answer T)) → option_map (answer_by (tag_or plain)) (option_map (answer_by some_tag) x) ≡ x
 answer_again plain None = refl
 answer_again plain (Some x) = refl
 
@@ -130,6 +130,10 @@ module _ {T S : Type 0} (m : PolicyModel T S) (holds : S → Type 0) (laws : Kee
       subst (λ (range : Option Words). ForSome range (IsRange a.ram)) (ap (λ (q : Plan (Option T)). q.range) from.put_on)
       (laws.ranges s k (args_by (read_by m s) a) (read_by m s pc) from.plan (record { known = can.known; room = can.room }) held from.given)
 
+  few : (part : Option S) (k : ℕ) → IsTrue (knows_in m part k) → uses_in m part k ≤ 3
+  few None k known = off_knows known
+  few (Some s) k known = laws.few s k known
+
   service : (part : Option S) (k : ℕ) (a : Args (Option T)) (pc : Option T) (p : Plan (Option T)) → IsTrue (knows_in m part k)
       → plan_in m part k a pc ≡ Ok p → p.service ≡ k
   service None k a pc p known e = off_knows known
@@ -138,7 +142,7 @@ module _ {T S : Type 0} (m : PolicyModel T S) (holds : S → Type 0) (laws : Kee
       ap (λ (q : Plan (Option T)). q.service) (sym from.put_on) ∙ laws.service s k (args_by (read_by m s) a) (read_by m s pc) from.plan known from.given
 
   -- an answer put on keeps the value
-  value_by : (a : Args T) (b : Args (Option T)) (answer : Option (Answer T)) → a.a0 ≡ b.a0 → ForSome answer (KeepsValue a) → ForSome (answer_by some_tag answer) (KeepsValue b)
+  value_by : (a : Args T) (b : Args (Option T)) (answer : Option (Answer T)) → a.a0 ≡ b.a0 → ForSome answer (KeepsValue a) → ForSome (option_map (answer_by some_tag) answer) (KeepsValue b)
   value_by a b None same all = λ x e. absurd (let h : None ≡ Some x = e in cc)
   value_by a b (Some y) same all = λ x e as_a0.
       ap (λ (z : Answer (Option T)). z.value) (sym (some_is (record { value = y.value; tag = Some y.tag; rest = y.rest }) x e))
@@ -162,6 +166,7 @@ module _ {T S : Type 0} (m : PolicyModel T S) (holds : S → Type 0) (laws : Kee
     keeps = λ s p given. keeps s.part p given;
     stays = λ s p given held. stays s.part p given held;
     ranges = λ s k a pc p can held e. ranges s.part k a pc p can held e;
+    few = λ s k known. few s.part k known;
     service = λ s k a pc p known e. service s.part k a pc p known e;
     value = λ s k a pc p known e. value s.part k a pc p known e;
   }

@@ -1,12 +1,11 @@
 ghost use Rattle.std.specs.Prelude.{◌≡◌, ◌≤◌, ◌++◌, Some, None, length};
-ghost use Rattle.policy_product.specs.Maps.{answer_by, args_by, ins_by, plan_by};
-ghost use Rattle.policy_product.specs.Maybe.{maybe, tag_or};
+ghost use Rattle.policy_product.specs.Maybe.{maybe, some_tag, tag_or};
 
-use crate::maps::{outs_on, plan_on};
-use policy_trait::{Answer, Args, Birth, Ins, Mask, Outs, Part, Plan, PlanEnd, Policy, Refused};
+use policy_trait::{Args, Birth, Ins, Mask, Outs, Part, Plan, PlanEnd, Policy, Refused, TagMap};
 use pump_words::Line;
 use rv_decode::Group;
 use std::alloc::AllocError;
+use std::marker::PhantomData;
 
 /// A policy that may be off. On, a missing tag is read as the policy's plain tag. Off, it allows and ignores everything,
 /// knows no service, and has `None` as its one tag.
@@ -16,65 +15,51 @@ pub struct Maybe<P> {
     pub part: Option<P>,
 }
 
-/// A tag as the policy with this plain tag reads it.
-fn read<T: Copy>(plain: T, tag: Option<T>) -> T
-    ensures { result ≡ tag_or plain tag }
-{
-    match tag {
-        None => plain,
-        Some(tag) => tag,
+/// A policy's reading of tags that may be missing, by its plain tag.
+#[derive(Clone, Copy)]
+struct Reading<T> {
+    plain: T,
+}
+
+impl<T: Copy> TagMap for Reading<T> {
+    type From = Option<T>;
+
+    type To = T;
+
+    ghost image = { λ reading. tag_or reading.plain };
+
+    fn image(&self, tag: Option<T>) -> T {
+        match tag {
+            None => self.plain,
+            Some(tag) => tag,
+        }
     }
 }
 
-fn read_inputs<T: Copy>(plain: T, x: &Ins<Option<T>>) -> Ins<T>
-    ensures { result ≡ ins_by (tag_or plain) x.now }
+/// How the policy reads tags that may be missing.
+fn reading_of<P: Policy>(part: &P) -> Reading<P::Tag>
+    ensures { result ≡ record { plain = P.model.plain part.now } }
 {
-    Ins {
-        pc: read(plain, x.pc),
-        ci: read(plain, x.ci),
-        t1: read(plain, x.t1),
-        t2: read(plain, x.t2),
-        tm: read(plain, x.tm),
+    Reading {
+        plain: part.plain(),
     }
 }
 
-fn read_arguments<T: Copy>(plain: T, a: &Args<Option<T>>) -> Args<T>
-    ensures { result ≡ args_by (tag_or plain) a.now }
-{
-    Args {
-        a0: a.a0,
-        a1: a.a1,
-        a2: a.a2,
-        t0: read(plain, a.t0),
-        t1: read(plain, a.t1),
-        t2: read(plain, a.t2),
-        ram: a.ram,
-    }
+/// A policy's tags as those of the policy that may be off.
+#[derive(Clone, Copy)]
+struct Present<T> {
+    of: PhantomData<T>,
 }
 
-fn read_answer<T: Copy>(plain: T, answer: Option<Answer<Option<T>>>) -> Option<Answer<T>>
-    ensures { result ≡ answer_by (tag_or plain) answer }
-{
-    match answer {
-        None => None,
-        Some(answer) => Some(Answer {
-            value: answer.value,
-            tag: read(plain, answer.tag),
-            rest: answer.rest,
-        }),
-    }
-}
+impl<T: Copy> TagMap for Present<T> {
+    type From = T;
 
-fn read_plan<T: Copy>(plain: T, p: &Plan<Option<T>>) -> Plan<T>
-    ensures { result ≡ plan_by (tag_or plain) p.now }
-{
-    Plan {
-        service: p.service,
-        pc: read(plain, p.pc),
-        note: p.note,
-        range: p.range,
-        zero: p.zero,
-        answer: read_answer(plain, p.answer),
+    type To = Option<T>;
+
+    ghost image = { λ present. some_tag };
+
+    fn image(&self, tag: T) -> Option<T> {
+        Some(tag)
     }
 }
 
@@ -109,8 +94,8 @@ impl<P: Policy> Policy for Maybe<P> {
                 pc: None,
                 result: None,
             }),
-            Some(part) => match part.rule(group, read_inputs(part.plain(), &inputs)) {
-                Ok(outs) => Ok(outs_on(outs)),
+            Some(part) => match part.rule(group, inputs.map(&reading_of(part))) {
+                Ok(outs) => Ok(outs.map(&Present { of: PhantomData })),
                 Err(refused) => Err(refused),
             },
         }
@@ -146,7 +131,7 @@ impl<P: Policy> Policy for Maybe<P> {
     fn lend(&self, tag: Option<P::Tag>) -> Result<(), Part> {
         match &self.part {
             None => Ok(()),
-            Some(part) => part.lend(read(part.plain(), tag)),
+            Some(part) => part.lend(reading_of(part).image(tag)),
         }
     }
 
@@ -159,9 +144,9 @@ impl<P: Policy> Policy for Maybe<P> {
         match &self.part {
             None => Err(PlanEnd::Spent),
             Some(part) => {
-                let plain = part.plain();
-                match part.plan(number, &read_arguments(plain, arguments), read(plain, pc)) {
-                    Ok(plan) => Ok(plan_on(plan)),
+                let reading = reading_of(part);
+                match part.plan(number, &arguments.map(&reading), reading.image(pc)) {
+                    Ok(plan) => Ok(plan.map(&Present { of: PhantomData })),
                     Err(end) => Err(end),
                 }
             }
@@ -176,8 +161,8 @@ impl<P: Policy> Policy for Maybe<P> {
         match &self.part {
             None => Ok(None),
             Some(part) => {
-                let plain = part.plain();
-                match part.retag(&read_plan(plain, plan), read(plain, old)) {
+                let reading = reading_of(part);
+                match part.retag(&plan.map(&reading), reading.image(old)) {
                     Ok(tag) => Ok(Some(tag)),
                     Err(refused) => Err(refused),
                 }
@@ -189,8 +174,8 @@ impl<P: Policy> Policy for Maybe<P> {
         match &self.part {
             None => Ok(None),
             Some(part) => {
-                let plain = part.plain();
-                match part.wipe(read(plain, pc), read(plain, old)) {
+                let reading = reading_of(part);
+                match part.wipe(reading.image(pc), reading.image(old)) {
                     Ok(tag) => Ok(Some(tag)),
                     Err(refused) => Err(refused),
                 }
@@ -202,7 +187,8 @@ impl<P: Policy> Policy for Maybe<P> {
         match &mut self.part {
             None => Ok(()),
             Some(part) => {
-                let read = read_plan(part.plain(), plan);
+                let reading = reading_of(part);
+                let read = plan.map(&reading);
                 part.commit(&read)
             }
         }
@@ -225,7 +211,7 @@ impl<P: Policy> Policy for Maybe<P> {
     fn show(&self, tag: Option<P::Tag>, to: &mut Line) {
         match &self.part {
             None => {}
-            Some(part) => part.show(read(part.plain(), tag), to),
+            Some(part) => part.show(reading_of(part).image(tag), to),
         }
     }
 

@@ -1,11 +1,12 @@
-//! What a small policy answers, on and off.
+//! What a small policy answers, on and off; and the policies that can be chosen.
 
-use crate::Maybe;
+use crate::{Choice, Maybe, choose, read_choice};
 use policy_trait::{
     Answer, Args, Birth, Ins, Mask, Outs, Part, Plan, PlanEnd, Policy, Refused, Rest, Why,
 };
 use pump_words::{Line, write_text};
 use rv_decode::Group;
+use sealing_policy::SealTag;
 use std::alloc::AllocError;
 use std::test::Fail;
 
@@ -148,6 +149,7 @@ impl Policy for Noting {
       };
       stays = λ s p given holds. tt;
       ranges = λ s k a pc p can holds given. Prim.search rules;
+      few = λ s k known. Prim.search rules;
       service = λ s k a pc p known given. Prim.search rules;
       value = λ s k a pc p known given. Prim.search rules;
     } };
@@ -295,6 +297,26 @@ fn plan_of_a_service(rt: HostRuntime) -> Result<(), Fail> {
             })
     );
     Ok(())
+}
+
+#[test]
+fn policies_by_their_names(rt: HostRuntime) {
+    let none = Choice { seal: false };
+    let sealing = Choice { seal: true };
+    // a text, and the choice that it names
+    let rows = [
+        (b"none".as_slice(), Some(none)),
+        (b"seal".as_slice(), Some(sealing)),
+        (b"".as_slice(), None),
+        (b"Seal".as_slice(), None),
+        (b"seal,".as_slice(), None),
+        (b"seal,seal".as_slice(), None),
+    ];
+    for (text, choice) in rows {
+        assert!(rt; read_choice(text) == choice);
+    }
+    assert!(rt; choose(none).part.is_none());
+    assert!(rt; choose(sealing).plain() == Some(SealTag::Data));
 }
 
 fn birth() -> Birth {

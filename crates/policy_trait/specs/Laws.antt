@@ -44,6 +44,8 @@ pub record KeepsLaws {T S : Type 0} (m : PolicyModel T S) (holds : S → Type 0)
   pub stays : (s : S) (p : Plan T) → IsGiven m s p → holds s → holds (m.commit s p)
   -- a plan's range is one within memory
   pub ranges : (s : S) (k : ℕ) (a : Args T) (pc : T) (p : Plan T) → CanPlan m s k a → holds s → m.plan s k a pc ≡ Ok p → ForSome p.range (IsRange a.ram)
+  -- at most the three arguments are used
+  pub few : (s : S) (k : ℕ) → IsTrue (m.knows s k) → m.uses s k ≤ 3
   -- a plan's service is the number that was asked
   pub service : (s : S) (k : ℕ) (a : Args T) (pc : T) (p : Plan T) → IsTrue (m.knows s k) → m.plan s k a pc ≡ Ok p → p.service ≡ k
   pub value : (s : S) (k : ℕ) (a : Args T) (pc : T) (p : Plan T) → IsTrue (m.knows s k) → m.plan s k a pc ≡ Ok p → ForSome p.answer (KeepsValue a)

@@ -1,4 +1,6 @@
 pub mod Laws
 pub mod LawsLemmas
+pub mod Maps
 pub mod Model
 pub mod Steps
+pub mod Uses

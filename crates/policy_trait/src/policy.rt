@@ -43,7 +43,8 @@ pub trait Policy: Drop {
     /// How many arguments the service uses, from a0 on.
     fn uses(&self, number: u32) -> u8
         requires { IsTrue (model.knows self.now number) }
-        ensures { result ≡ model.uses self.now number };
+        ensures value { result ≡ model.uses self.now number }
+        ensures few { result ≤ 3 };
 
     /// Whether a value with this tag may be an argument of another policy's service; else the part that refuses.
     fn lend(&self, tag: Self::Tag) -> Result<(), Part>

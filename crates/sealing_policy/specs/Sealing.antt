@@ -1,5 +1,5 @@
 -- Dynamic sealing: values sealed by a key, which only that key unseals. The policy's value is how many keys were made.
-use Rattle.std.specs.Prelude.{ℕ, ◌+◌, ◌≤◌, ◌==◌, nat_lt, Bool, true, false, ◌&&◌, ◌||◌, List, ◌++◌, codes, Some, None, Result, Ok, Err, if◌then◌else◌}
+use Rattle.std.specs.Prelude.{ℕ, ◌+◌, ◌≤◌, ◌==◌, nat_lt, Bool, true, false, not, ◌&&◌, ◌||◌, List, ◌++◌, codes, Some, None, Result, Ok, Err, if◌then◌else◌}
 use Rattle.std.specs.Fmt.{decimal}
 use Rattle.rv_decode.specs.declared.groups.Group.{Group}
 use Rattle.rv_decode.specs.declared.groups.Group.TheVariants as group
@@ -18,6 +18,9 @@ use Rattle.policy_trait.specs.declared.services.PlanEnd.{PlanEnd}
 use Rattle.policy_trait.specs.declared.services.PlanEnd.TheVariants as plan_end
 use Rattle.policy_trait.specs.declared.services.Rest.{Rest}
 use Rattle.policy_trait.specs.declared.services.Rest.TheVariants as rest
+use Rattle.sealing_policy.specs.declared.table.Row.{Row}
+use Rattle.sealing_policy.specs.declared.table.Source.{Source}
+use Rattle.sealing_policy.specs.declared.table.Source.TheVariants.{Plain, OfFirst, OfSecond, OfWord}
 use Rattle.sealing_policy.specs.declared.tag.SealTag.{SealTag}
 use Rattle.sealing_policy.specs.declared.tag.SealTag.TheVariants.{Data, Key, Sealed}
 
@@ -30,64 +33,58 @@ HasFewKeys keys = keys ≤ key_limit
 
 -- ---- the rules, one row a group
 
--- which of the two operands and of the memory word a group uses
-pub record Operands : Type 0 where
-  pub t1 : Bool
-  pub t2 : Bool
-  pub tm : Bool
+-- the row of a group that needs nothing and whose result is data
+abbrev pub free : Row
+free = record { first = false; second = false; word = false; result = Plain }
 
-abbrev pub uses_none : Operands
-uses_none = record { t1 = false; t2 = false; tm = false }
+-- the table of sealing: what a group needs to be data, and where its result's tag is from
+abbrev pub row_of : Group → Row
+row_of group.Const = free
+row_of group.Here = free
+row_of group.Jal = free
+row_of group.Jalr = record free { first = true }
+row_of group.Branch = record free { first = true; second = true }
+row_of group.LoadWord = record free { first = true; result = OfWord }
+row_of group.LoadPart = record free { first = true; word = true }
+row_of group.StoreWord = record free { first = true; result = OfSecond }
+row_of group.StorePart = record free { first = true; second = true; word = true }
+row_of group.Move = record free { result = OfFirst }
+row_of group.AddImm = record free { first = true }
+row_of group.AluImm = record free { first = true }
+row_of group.Add = record free { first = true; second = true }
+row_of group.Sub = record free { first = true; second = true }
+row_of group.Alu = record free { first = true; second = true }
+row_of group.Fence = free
+row_of group.Exit = record free { first = true; second = true }
+row_of group.Put = record free { first = true; second = true }
+row_of group.Get = record free { first = true; second = true }
+row_of group.Break = free
+row_of group.Call = record free { second = true }
 
-abbrev pub uses_first : Operands
-uses_first = record { t1 = true; t2 = false; tm = false }
+-- ---- what a row says
 
-abbrev pub uses_second : Operands
-uses_second = record { t1 = false; t2 = true; tm = false }
+-- which of the operands and of the memory word the result has its tag from
 
-abbrev pub uses_both : Operands
-uses_both = record { t1 = true; t2 = true; tm = false }
+abbrev pub is_of_first : Source → Bool
+is_of_first OfFirst = true
+is_of_first _ = false
 
-abbrev pub uses_first_and_word : Operands
-uses_first_and_word = record { t1 = true; t2 = false; tm = true }
+abbrev pub is_of_second : Source → Bool
+is_of_second OfSecond = true
+is_of_second _ = false
 
-abbrev pub uses_all : Operands
-uses_all = record { t1 = true; t2 = true; tm = true }
+abbrev pub is_of_word : Source → Bool
+is_of_word OfWord = true
+is_of_word _ = false
 
-abbrev pub operands_of : Group → Operands
-operands_of group.Const = uses_none
-operands_of group.Here = uses_none
-operands_of group.Jal = uses_none
-operands_of group.Jalr = uses_first
-operands_of group.Branch = uses_both
-operands_of group.LoadWord = uses_first_and_word
-operands_of group.LoadPart = uses_first_and_word
-operands_of group.StoreWord = uses_both
-operands_of group.StorePart = uses_all
-operands_of group.Move = uses_first
-operands_of group.AddImm = uses_first
-operands_of group.AluImm = uses_first
-operands_of group.Add = uses_both
-operands_of group.Sub = uses_both
-operands_of group.Alu = uses_both
-operands_of group.Fence = uses_none
-operands_of group.Exit = uses_both
-operands_of group.Put = uses_both
-operands_of group.Get = uses_both
-operands_of group.Break = uses_none
-operands_of group.Call = uses_second
-
-abbrev pub not_used : Bool → Bool
-not_used used = if used then false else true
-
--- the pc's tag is ignored, the instruction's is not
-abbrev pub sealing_ignores : Group → Mask
-sealing_ignores g = record {
+-- what the result has its tag from is used, and what has to be data; the instruction's tag always, the pc's never
+abbrev pub row_ignores : Row → Mask
+row_ignores row = record {
   pc = true;
   ci = false;
-  t1 = not_used (operands_of g).t1;
-  t2 = not_used (operands_of g).t2;
-  tm = not_used (operands_of g).tm;
+  t1 = not (row.first || is_of_first row.result);
+  t2 = not (row.second || is_of_second row.result);
+  tm = not (row.word || is_of_word row.result);
 }
 
 abbrev pub is_data : SealTag → Bool
@@ -95,43 +92,32 @@ is_data Data = true
 is_data (Key k) = false
 is_data (Sealed k) = false
 
--- the operands that must be data
-abbrev pub meets_row : Group → Ins SealTag → Bool
-meets_row group.Const x = true
-meets_row group.Here x = true
-meets_row group.Jal x = true
-meets_row group.Jalr x = is_data x.t1
-meets_row group.Branch x = is_data x.t1 && is_data x.t2
-meets_row group.LoadWord x = is_data x.t1
-meets_row group.LoadPart x = is_data x.t1 && is_data x.tm
-meets_row group.StoreWord x = is_data x.t1
-meets_row group.StorePart x = is_data x.t1 && is_data x.t2 && is_data x.tm
-meets_row group.Move x = true
-meets_row group.AddImm x = is_data x.t1
-meets_row group.AluImm x = is_data x.t1
-meets_row group.Add x = is_data x.t1 && is_data x.t2
-meets_row group.Sub x = is_data x.t1 && is_data x.t2
-meets_row group.Alu x = is_data x.t1 && is_data x.t2
-meets_row group.Fence x = true
-meets_row group.Exit x = is_data x.t1 && is_data x.t2
-meets_row group.Put x = is_data x.t1 && is_data x.t2
-meets_row group.Get x = is_data x.t1 && is_data x.t2
-meets_row group.Break x = true
-meets_row group.Call x = is_data x.t2
+-- a tag is data where it has to be
+abbrev pub is_fit : Bool → SealTag → Bool
+is_fit needed tag = if needed then is_data tag else true
 
--- whole words keep the tag of what is moved, loaded or stored; every other result is data
-abbrev pub result_tag : Group → Ins SealTag → SealTag
-result_tag group.Move x = x.t1
-result_tag group.LoadWord x = x.tm
-result_tag group.StoreWord x = x.t2
-result_tag _ x = Data
+abbrev pub meets_row : Row → Ins SealTag → Bool
+meets_row row x = is_data x.ci && is_fit row.first x.t1 && is_fit row.second x.t2 && is_fit row.word x.tm
+
+abbrev pub tag_from : Source → Ins SealTag → SealTag
+tag_from Plain x = Data
+tag_from OfFirst x = x.t1
+tag_from OfSecond x = x.t2
+tag_from OfWord x = x.tm
 
 abbrev pub refused_for : Why → Refused
 refused_for reason = record { part = Seal; why = reason }
 
+-- the rule of a group with this row
+abbrev pub rule_by : Row → Group → Ins SealTag → Result (Outs SealTag) Refused
+rule_by row g x =
+    if meets_row row x then Ok (record { pc = Data; result = tag_from row.result x }) else Err (refused_for (why.Rule g))
+
 abbrev pub sealing_rule : Group → Ins SealTag → Result (Outs SealTag) Refused
-sealing_rule g x =
-    if is_data x.ci && meets_row g x then Ok (record { pc = Data; result = result_tag g x }) else Err (refused_for (why.Rule g))
+sealing_rule g x = rule_by (row_of g) g x
+
+abbrev pub sealing_ignores : Group → Mask
+sealing_ignores g = row_ignores (row_of g)
 
 -- ---- the services: 16 makes a key, 17 seals, 18 unseals
 

@@ -1,5 +1,5 @@
 -- Sealing keeps the laws of a policy.
-use Rattle.std.proofs.Common.{◌≡◌, ℕ, ◌+◌, ◌<◌, ◌==◌, Bool, true, false, Some, None, Result, Ok, Err, IsTrue, nat_lt, if◌then◌else◌, refl, sym, ap, ◌∙◌, arith}
+use Rattle.std.proofs.Common.{◌≡◌, ℕ, ◌+◌, ◌<◌, ◌≤◌, ◌==◌, Bool, true, false, Some, None, Result, Ok, Err, IsTrue, nat_lt, if◌then◌else◌, refl, sym, ap, ◌∙◌, arith}
 use Rattle.std.proofs.lemmas.Bool.Decides.{nat_tests}
 use Rattle.rv_decode.specs.declared.groups.Group.{Group}
 use Rattle.rv_decode.specs.declared.groups.Group.TheVariants as group
@@ -128,6 +128,10 @@ stays_by false keys below few = few
 no_range : {P : Type 0} (x : Words) → None ≡ Some x → P
 no_range x e = cc
 
+uses_by : (sixteen : Bool) → (if sixteen then 0 else 2) ≤ 3
+uses_by true = omega arith
+uses_by false = omega arith
+
 pub sealing_laws : KeepsLaws sealing HasFewKeys
 sealing_laws = record {
   masks = λ keys g x. rule_masked g x;
@@ -150,6 +154,7 @@ sealing_laws = record {
   ranges = λ keys k a pc p can few given x x_is.
       let plan : IsSealPlan keys k a.a0 p = planned keys k a pc p can.known given in
       no_range x (sym plan.range ∙ x_is);
+  few = λ keys k known. uses_by (k == 16);
   service = λ keys k a pc p known given. let plan : IsSealPlan keys k a.a0 p = planned keys k a pc p known given in plan.service;
   value = λ keys k a pc p known given x x_is. let plan : IsSealPlan keys k a.a0 p = planned keys k a pc p known given in plan.value x x_is;
 }

@@ -2,6 +2,7 @@
 //! A sealed value can be moved, loaded and stored as a whole, and nothing else can be done with it.
 #![tactic(auto)]
 
+mod law;
 mod policy;
 mod services;
 mod table;
@@ -9,5 +10,6 @@ mod tag;
 #[cfg(test)]
 mod tests;
 
+pub use law::ignores_law;
 pub use policy::Sealing;
 pub use tag::SealTag;

@@ -5,7 +5,7 @@ ghost use Rattle.arrayvec.specs.ArrayVec.{array_vec_len};
 ghost use Rattle.sealing_policy.specs.Sealing.{key_plan, sealing};
 
 use crate::services::{MAKE_KEY, SEAL, UNSEAL, answer, seal, unseal};
-use crate::table::{is_data, mask_of, meets_row, refused, result_of};
+use crate::table::{is_data, refused, row_of};
 use crate::tag::SealTag;
 use policy_trait::{Args, Birth, Ins, Mask, Outs, Part, Plan, PlanEnd, Policy, Refused, Rest, Why};
 use pump_words::{Line, dec, write_text};
@@ -55,6 +55,7 @@ impl Policy for Sealing {
     ghost longest = { 90 };
 
     fn plain(&self) -> SealTag {
+        // read for the proof of `valid` alone: what reads the keys knows their invariant
         let _keys = &self.keys;
         SealTag::Data
     }
@@ -62,10 +63,11 @@ impl Policy for Sealing {
     fn rule(&self, group: Group, inputs: Ins<SealTag>) -> Result<Outs<SealTag>, Refused>
         ensures { result ≡ sealing.rule self.now group inputs }
     {
-        if is_data(inputs.ci) && meets_row(group, &inputs) {
+        let row = row_of(group);
+        if row.is_met(&inputs) {
             Ok(Outs {
                 pc: SealTag::Data,
-                result: result_of(group, &inputs),
+                result: row.tag(&inputs),
             })
         } else {
             Err(refused(Why::Rule(group)))
@@ -73,7 +75,7 @@ impl Policy for Sealing {
     }
 
     fn ignores(&self, group: Group) -> Mask {
-        mask_of(group)
+        row_of(group).mask()
     }
 
     fn knows(&self, number: u32) -> bool {

@@ -1,12 +1,8 @@
-use Rattle.std.proofs.Common.{ap, subst, sym, ◌∙◌}
-use Rattle.policy_trait.specs.Model.{IsGiven}
-use Rattle.policy_product.specs.Maps.{plan_by}
-use Rattle.policy_product.specs.Maybe.{tag_or}
+use Rattle.std.proofs.Common.{rules}
 use Rattle.policy_product.specs.MaybeLaws.{on_given_at}
 use Rattle.policy_product.proofs.maybe.MaybePolicy.commit.Goals as goal
 
 pub commit-requires : goal.commit-requires
 commit-requires g c =
-    subst (IsGiven g.P.Policy.model c.in-Some.part)
-    (sym (c.read_plan-read.ensures ∙ ap (λ (plain : g.row.P-Tag.Denot). plan_by (tag_or plain) c.args.plan.now) c.plain.ensures.value))
-    (on_given_at g.P.Policy.model g.P.Policy.holds g.met.P.Policy.lawful c.args.self.now c.in-Some.part c.args.plan.now c.in-Some.is c.requires)
+    let given = on_given_at g.P.Policy.model g.P.Policy.holds g.met.P.Policy.lawful c.args.self.now c.in-Some.part c.args.plan.now c.in-Some.is c.requires in
+    search rules

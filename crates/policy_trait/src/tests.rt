@@ -1,0 +1,88 @@
+//! Tags changed by one function.
+
+use crate::{Answer, Args, Ins, Outs, Plan, Rest, TagMap, Words};
+
+/// Small tags as those of another type, raised by a number.
+#[derive(Clone, Copy)]
+struct Raising {
+    by: u32,
+}
+
+impl TagMap for Raising {
+    ghost use Rattle.std.specs.Prelude.{◌+◌};
+
+    type From = u8;
+
+    type To = u64;
+
+    ghost image = { λ raising tag. raising.by + tag };
+
+    fn image(&self, tag: u8) -> u64 {
+        u64::from(self.by) + u64::from(tag)
+    }
+}
+
+#[test]
+fn tags_of_a_rule_are_changed(rt: HostRuntime) {
+    let inputs = Ins {
+        pc: 1,
+        ci: 2,
+        t1: 3,
+        t2: 4,
+        tm: 5,
+    };
+    let changed = Ins {
+        pc: 101,
+        ci: 102,
+        t1: 103,
+        t2: 104,
+        tm: 105,
+    };
+    assert!(rt; inputs.map(&Raising { by: 100 }) == changed);
+    let outputs = Outs { pc: 1, result: 2 };
+    let changed = Outs {
+        pc: 101,
+        result: 102,
+    };
+    assert!(rt; outputs.map(&Raising { by: 100 }) == changed);
+}
+
+#[test]
+fn tags_of_a_service_are_changed(rt: HostRuntime) {
+    let arguments = Args {
+        a0: 1,
+        a1: 2,
+        a2: 3,
+        t0: 4,
+        t1: 5,
+        t2: 6,
+        ram: 7,
+    };
+    let changed = Args {
+        a0: 1,
+        a1: 2,
+        a2: 3,
+        t0: 104,
+        t1: 105,
+        t2: 106,
+        ram: 7,
+    };
+    assert!(rt; arguments.map(&Raising { by: 100 }) == changed);
+    assert!(rt; plan(1_u8, 2_u8).map(&Raising { by: 100 }) == plan(101_u64, 102_u64));
+}
+
+/// A plan with these tags of the pc and of the answer.
+fn plan<T: Copy>(pc: T, tag: T) -> Plan<T> {
+    Plan {
+        service: 17,
+        pc,
+        note: 3,
+        range: Some(Words { base: 8, count: 2 }),
+        zero: true,
+        answer: Some(Answer {
+            value: 9,
+            tag,
+            rest: Rest::AsA0,
+        }),
+    }
+}
