@@ -3,6 +3,7 @@ use Rattle.std.proofs.Common.{◌≡◌, ℕ, suc, ◌+◌, ◌-◌, ◌*◌, �
 use Rattle.std.proofs.lemmas.List.{append-nil}
 use Rattle.std.proofs.lemmas.List.Elements.{All-push}
 use Rattle.std.specs.List.{All}
+use Rattle.std.specs.Prelude.{IsOk, is_ok}
 use Rattle.policy_trait.specs.Model.{PolicyModel}
 use Rattle.policy_trait.specs.Steps.{◌>>=◌}
 use Rattle.policy_trait.specs.declared.rules.Refused.{Refused}
@@ -10,7 +11,10 @@ use Rattle.policy_trait.specs.declared.services.Plan.{Plan}
 use Rattle.policy_trait.specs.declared.services.PlanEnd.{PlanEnd}
 use Rattle.policy_trait.specs.declared.services.PlanEnd.TheVariants as plan_end
 use Rattle.tag_memory.specs.Ram.{IsPlace}
+use Rattle.monitor_calls.specs.Ends.{EndsAs}
 use Rattle.monitor_calls.specs.Service.{retagged, tag_or_end}
+use Rattle.monitor_calls.specs.declared.serving.ServeEnd.{ServeEnd}
+use Rattle.monitor_calls.specs.declared.serving.ServeEnd.TheVariants as serve_end
 
 abbrev pub with_front : {A : Type 0} → List A → Result (List A) PlanEnd → Result (List A) PlanEnd
 with_front front (Ok rest) = Ok (front ++ rest)
@@ -25,6 +29,13 @@ put_front : {A : Type 0} (front : List A) (x : A) (r : Result (List A) PlanEnd)
     → with_front front (r >>= λ rest. Ok (x ∷ rest)) ≡ with_front (front ++ x ∷ []) r
 put_front front x (Ok rest) = ap (λ l. Ok l) (sym (append_assoc front (x ∷ []) rest))
 put_front front x (Err end) = refl
+
+-- a way to end is also that of what stands before
+front_ends : {A : Type 0} (front : List A) (e : ServeEnd) (r : Result (List A) PlanEnd) → EndsAs e r → EndsAs e (with_front front r)
+front_ends front (serve_end.Refused refused) r ends = ap (with_front front) ends
+front_ends front serve_end.Spent r ends = ap (with_front front) ends
+front_ends front serve_end.Memory (Ok rest) ends = refl
+front_ends front serve_end.Memory (Err end) ends = absurd cc
 
 module _ {S T : Type 0} (m : PolicyModel T S) (s : S) (word_at : ℕ → ℕ) (tag_at : ℕ → T) (plan : Plan T) where
   abbrev from : ℕ → ℕ → Result (List (ℕ × ℕ × T)) PlanEnd
@@ -81,6 +92,36 @@ module _ {S T : Type 0} (m : PolicyModel T S) (s : S) (word_at : ℕ → ℕ) (t
       sym so_far
       ∙ ap (λ n. with_front front (from (base + 4 * place) n)) (let e : count - place ≡ 0 = omega arith in e)
       ∙ ap (λ l. Ok l) (append-nil front)
+
+  -- ---- how the rest ends, the whole ends
+
+  one_more_ends : (e : ServeEnd) (base count : ℕ) (tag : T) → m.retag s plan (tag_at base) ≡ Ok tag → EndsAs e (from (base + 4) count) → EndsAs e (from base (suc count))
+  one_more_ends e base count tag given ends =
+      subst (EndsAs e) (sym (next_tag base count tag [] given) ∙ with_front-nil (from base (suc count)))
+      (front_ends ((base, value_at base, tag) ∷ []) e (from (base + 4) count) ends)
+
+  pub ends_on : (e : ServeEnd) (base count place : ℕ) (tag : T) → place < count → m.retag s plan (tag_at (base + 4 * place)) ≡ Ok tag
+      → EndsAs e (from (base + 4 * (place + 1)) (count - (place + 1))) → EndsAs e (from (base + 4 * place) (count - place))
+  ends_on e base count place tag below given ends =
+      subst (λ (n : ℕ). EndsAs e (from (base + 4 * place) n)) (let h : suc (count - (place + 1)) ≡ count - place = omega arith in h)
+      (one_more_ends e (base + 4 * place) (count - (place + 1)) tag given
+      (subst (λ (b : ℕ). EndsAs e (from b (count - (place + 1)))) (let h : base + 4 * (place + 1) ≡ base + 4 * place + 4 = omega arith in h) ends))
+
+  pub ends_whole : (e : ServeEnd) (front : List (ℕ × ℕ × T)) (base count place : ℕ) (tag : T) (whole : Result (List (ℕ × ℕ × T)) PlanEnd) → place < count
+      → m.retag s plan (tag_at (base + 4 * place)) ≡ Ok tag → with_front front (from (base + 4 * place) (count - place)) ≡ whole
+      → EndsAs e (from (base + 4 * (place + 1)) (count - (place + 1))) → EndsAs e whole
+  ends_whole e front base count place tag whole below given so_far ends =
+      subst (EndsAs e) so_far (front_ends front e (from (base + 4 * place) (count - place)) (ends_on e base count place tag below given ends))
+
+  -- from a word on that is refused
+  pub refused_here : (base count place : ℕ) (refused : Refused) → place < count → m.retag s plan (tag_at (base + 4 * place)) ≡ Err refused
+      → from (base + 4 * place) (count - place) ≡ Err (plan_end.Refused refused)
+  refused_here base count place refused below given =
+      is_refused [] base count place refused (from (base + 4 * place) (count - place)) below given (with_front-nil (from (base + 4 * place) (count - place)))
+
+  -- with no word left nothing refuses
+  pub none_left : (base count place : ℕ) → place ≡ count → IsOk (from (base + 4 * place) (count - place))
+  none_left base count place all = ap (λ (n : ℕ). is_ok (from (base + 4 * place) n)) (let e : count - place ≡ 0 = omega arith in e)
 
 -- a word in memory more
 pub placed : {T : Type 0} (bytes : ℕ) (front grown : List (ℕ × ℕ × T)) (address value : ℕ) (tag : T)

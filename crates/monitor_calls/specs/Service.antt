@@ -15,6 +15,10 @@ pub record Job (T : Type 0) : Type 0 where
   pub plan : Plan T
   pub words : List (ℕ × ℕ × T)
 
+-- the new value of a word: 0 in a range that becomes 0, else the old one
+abbrev pub new_word : {T : Type 0} → Plan T → ℕ → ℕ
+new_word plan old = if plan.zero then 0 else old
+
 -- a refusal of a word ends the service
 abbrev pub tag_or_end : {A : Type 0} → Result A Refused → Result A PlanEnd
 tag_or_end (Ok tag) = Ok tag
@@ -25,13 +29,13 @@ job_of plan (Ok words) = Ok (record { plan = plan; words = words })
 job_of plan (Err end) = Err end
 
 module _ {S T : Type 0} (m : PolicyModel T S) (s : S) (word_at : ℕ → ℕ) (tag_at : ℕ → T) where
-  -- so many words from an address on: a range that zeroes makes them 0
+  -- so many words from an address on
   abbrev pub retagged : Plan T → ℕ → ℕ → Result (List (ℕ × ℕ × T)) PlanEnd
   retagged plan base zero = Ok []
   retagged plan base (suc count) = do
     tag ← tag_or_end (m.retag s plan (tag_at base))
     rest ← retagged plan (base + 4) count
-    Ok ((base, (if plan.zero then 0 else word_at base), tag) ∷ rest)
+    Ok ((base, new_word plan (word_at base), tag) ∷ rest)
 
   abbrev pub retagged_range : Plan T → Option Words → Result (List (ℕ × ℕ × T)) PlanEnd
   retagged_range plan None = Ok []

@@ -1,4 +1,4 @@
-ghost use Rattle.std.specs.Prelude.{◌≡◌, ◌+◌, ◌*◌, ◌%◌, ◌<◌, ◌≤◌, Ok, IfErr, IfOk, if◌then◌else◌};
+ghost use Rattle.std.specs.Prelude.{◌≡◌, ◌+◌, ◌-◌, ◌*◌, ◌%◌, ◌<◌, ◌≤◌, Err, Ok, IfErr, IfOk, IsOkAnd, length, if◌then◌else◌};
 ghost use Rattle.std.specs.List.{All};
 ghost use Rattle.policy_trait.specs.Laws.{IsRange};
 ghost use Rattle.policy_trait.specs.Model.{CanPlan, IsGiven};
@@ -13,7 +13,7 @@ use std::alloc::{AllocError, Global};
 /// What a service will do when it is carried out: its plan, and each word of the plan's range, ascending, as address,
 /// new value and new tag.
 #[derive(Drop)]
-pub struct Served<T: Drop> {
+pub struct Job<T: Drop> {
     pub plan: Plan<T>,
     pub words: Vec<(u32, u32, T)>,
 }
@@ -25,7 +25,7 @@ pub enum ServeEnd {
     Refused(Refused),
     /// The service has used up its numbers.
     Spent,
-    /// Memory ran out.
+    /// Memory ran out for the words of a range that nothing refuses.
     Memory,
 }
 
@@ -38,7 +38,7 @@ pub fn serve<P: Policy, W: View<Tag = P::Tag>>(
     arguments: &Args<P::Tag>,
     pc: P::Tag,
     view: &W,
-) -> Result<Served<P::Tag>, ServeEnd>
+) -> Result<Job<P::Tag>, ServeEnd>
     requires can { CanPlan P.model policy.now number arguments.now }
     requires bytes { W.bytes_of view.now ≡ arguments.now.ram }
 
@@ -46,11 +46,16 @@ pub fn serve<P: Policy, W: View<Tag = P::Tag>>(
     ensures ok { IfOk result (λ v. served P.model policy.now (W.word_at view.now) (W.tag_at view.now) number arguments.now pc ≡ Ok (job_by v.plan v.words.items)) }
     ensures err { IfErr result (λ e. EndsAs e (served P.model policy.now (W.word_at view.now) (W.tag_at view.now) number arguments.now pc)) }
 
+    // Want of memory is told only of a service that nothing refuses and that has words to write.
+    ensures memory { result ≡ Err ServeEnd.Memory
+        → IsOkAnd (served P.model policy.now (W.word_at view.now) (W.tag_at view.now) number arguments.now pc)
+        (λ job. 1 ≤ length job.words) }
+
     // It can be carried out: each word is in memory, and the policy can take note of the plan.
     ensures places { IfOk result (λ v. All (λ word. IsPlace (W.bytes_of view.now) word.0) v.words.items) }
     ensures given { IfOk result (λ v. IsGiven P.model policy.now v.plan) }
 {
-    let _bytes = view.bytes();
+    // Serves the proof alone: it says that the policy's invariant holds, by which a plan's range lies in memory.
     let _plain = policy.plain();
     let plan = match policy.plan(number, arguments, pc) {
         Ok(plan) => plan,
@@ -64,7 +69,7 @@ pub fn serve<P: Policy, W: View<Tag = P::Tag>>(
             Err(end) => return Err(end),
         },
     };
-    Ok(Served { plan, words })
+    Ok(Job { plan, words })
 }
 
 /// Each word of the range with its new value and its new tag.
@@ -81,6 +86,7 @@ fn retag_words<P: Policy, W: View<Tag = P::Tag>>(
     ensures err { IfErr result (λ e. EndsAs e (retagged P.model policy.now (W.word_at view.now) (W.tag_at view.now) plan.now range.base range.count)) }
     ensures places { IfOk result (λ words. All (λ word. IsPlace (W.bytes_of view.now) word.0) words.items) }
 {
+    // Serves the proof alone: by its type memory has less than 2^32 bytes, so that no address of the range wraps.
     let _bytes = view.bytes();
     let mut words = Vec::new(alloc);
     for place in 0..range.count {
@@ -91,10 +97,36 @@ fn retag_words<P: Policy, W: View<Tag = P::Tag>>(
         };
         let value = new_value(view, plan.zero, address);
         let Ok(()) = words.push((address, value, tag)) else {
-            return Err(ServeEnd::Memory);
+            return Err(end_without_memory(policy, plan, range, place + 1, view));
         };
     }
     Ok(words)
+}
+
+/// How a range ends whose words find no memory, where those before the word of the place `first` are not refused: a
+/// refusal of a later word is told, and want of memory only where there is none.
+fn end_without_memory<P: Policy, W: View<Tag = P::Tag>>(
+    policy: &P,
+    plan: &Plan<P::Tag>,
+    range: Words,
+    first: u32,
+    view: &W,
+) -> ServeEnd
+    requires given { IsGiven P.model policy.now plan.now }
+    requires range { IsRange (W.bytes_of view.now) range }
+    requires first { first ≤ range.count }
+    ensures { EndsAs result
+        (retagged P.model policy.now (W.word_at view.now) (W.tag_at view.now) plan.now
+        (range.base + 4 * first) (range.count - first)) }
+{
+    // Serves the proof alone: by its type memory has less than 2^32 bytes, so that no address of the range wraps.
+    let _bytes = view.bytes();
+    for place in first..range.count {
+        if let Err(refused) = policy.retag(plan, view.tag(range.base + 4 * place)) {
+            return ServeEnd::Refused(refused);
+        }
+    }
+    ServeEnd::Memory
 }
 
 /// The new value of the word at `address`: 0 in a range that becomes 0, else the old one.

@@ -1,6 +1,6 @@
 //! A small policy's services over memory.
 
-use crate::{ServeEnd, Served, View, serve};
+use crate::{Job, ServeEnd, View, serve};
 use policy_trait::{
     Args, Birth, Ins, Mask, Outs, Part, Plan, PlanEnd, Policy, Refused, Why, Words,
 };
@@ -143,6 +143,7 @@ impl Policy for Pair {
       };
       stays = λ s p given holds. tt;
       ranges = λ s k a pc p can holds given. Prim.search rules;
+      few = λ s k known. Prim.search rules;
       service = λ s k a pc p known given. Prim.search rules;
       value = λ s k a pc p known given. Prim.search rules;
     } };
@@ -195,7 +196,7 @@ fn serve_pair(
     alloc: Global,
     zero: bool,
     tags: [u32; 4],
-) -> Result<Result<Served<u32>, ServeEnd>, AllocError> {
+) -> Result<Result<Job<u32>, ServeEnd>, AllocError> {
     let words = [11, 12, 13, 14].to_vec(alloc)?;
     let ram = Ram::from_parts(words, tags.to_vec(alloc)?, 0);
     let arguments = Args {

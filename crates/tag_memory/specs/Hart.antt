@@ -15,6 +15,11 @@ pub record IsHart {T : Type 0} (hart : HartState T) : Type 0 where
   pub tags : length hart.tags ≡ 31
   pub aligned : hart.pc % 4 ≡ 0
 
+-- a hart whose x0, which is 0, has that plain tag, and whose pc is that of a word
+pub record IsHartOf {T : Type 0} (tag : T) (hart : HartState T) : Type 0 where
+  pub shape : IsHart hart
+  pub plain : hart.plain ≡ tag
+
 abbrev pub reg_value : {T : Type 0} → HartState T → ℕ → ℕ
 reg_value hart r = if r == 0 then 0 else slice_index hart.values (r - 1)
 
@@ -27,6 +32,10 @@ with_reg hart r value = if r == 0 then hart else record hart { values = slice_se
 
 abbrev pub with_reg_tag : {T : Type 0} → HartState T → ℕ → T → HartState T
 with_reg_tag hart r tag = if r == 0 then hart else record hart { tags = slice_set hart.tags (r - 1) tag }
+
+-- the pc with its tag written, and every register as it was
+abbrev pub moved_to : {T : Type 0} → HartState T → ℕ → T → HartState T
+moved_to hart pc tag = record hart { pc = pc; pc_tag = tag }
 
 -- a hart at the start: registers 0 and plain
 abbrev pub fresh_hart : {T : Type 0} → ℕ → T → T → HartState T

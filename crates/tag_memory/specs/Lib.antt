@@ -1,2 +1,4 @@
 pub mod Hart
 pub mod Ram
+pub mod Rows
+pub mod Writes

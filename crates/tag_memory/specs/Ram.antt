@@ -13,6 +13,11 @@ pub record IsRam {T : Type 0} (ram : RamState T) : Type 0 where
   pub some : 1 ≤ length ram.words
   pub few : length ram.words ≤ 4194304
 
+-- a memory whose plain tag is that one
+pub record IsRamOf {T : Type 0} (tag : T) (ram : RamState T) : Type 0 where
+  pub shape : IsRam ram
+  pub plain : ram.plain ≡ tag
+
 abbrev pub ram_bytes : {T : Type 0} → RamState T → ℕ
 ram_bytes ram = 4 * length ram.words
 

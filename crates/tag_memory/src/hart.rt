@@ -1,5 +1,5 @@
 ghost use Rattle.std.specs.Prelude.{◌≡◌, ◌≢◌, ℕ, ◌%◌, ◌<◌, IfOk};
-ghost use Rattle.tag_memory.specs.Hart.{fresh_hart, reg_tag, reg_value, with_reg, with_reg_tag};
+ghost use Rattle.tag_memory.specs.Hart.{fresh_hart, moved_to, reg_tag, reg_value, with_reg, with_reg_tag};
 
 use crate::filled::filled;
 use std::alloc::{AllocError, Global};
@@ -110,7 +110,7 @@ impl<T: Copy> Hart<T> {
     /// Writes the pc and its tag. The registers stay.
     pub fn set_pc(&mut self, pc: u32, pc_tag: T)
         requires { pc % 4 ≡ 0 }
-        ensures { self.new ≡ record self.old { pc = pc; pc_tag = pc_tag } }
+        ensures { self.new ≡ moved_to self.old pc pc_tag }
     {
         self.pc = pc;
         self.pc_tag = pc_tag;

@@ -3,9 +3,11 @@
 
 mod filled;
 mod hart;
+mod law;
 mod ram;
 #[cfg(test)]
 mod tests;
 
 pub use hart::Hart;
+pub use law::{hart_law, ram_law};
 pub use ram::Ram;

@@ -1,21 +1,21 @@
 -- What an allowed instruction does to its hart, to memory and to the feed.
-use Rattle.std.specs.Prelude.{◌≡◌, ℕ, ◌%◌, ◌==◌, ◌^◌, List, Option, Some, None, if◌then◌else◌}
+use Rattle.std.specs.Prelude.{◌≡◌, ℕ, ◌%◌, ◌^◌, List, Option, Some, None}
 use Rattle.std.specs.Option.{unwrap_or}
 use Rattle.rv_decode.specs.Groups.{a0, writes_of}
+use Rattle.rv_decode.specs.declared.groups.Group.{Group}
+use Rattle.rv_decode.specs.declared.groups.Group.TheVariants as group
 use Rattle.rv_decode.specs.declared.places.Slot.{Slot}
 use Rattle.rv_decode.specs.declared.places.Slot.TheVariants as slot
-use Rattle.rv_decode.specs.declared.instructions.Instr.{Instr}
-use Rattle.rv_decode.specs.declared.instructions.Instr.TheVariants.{Ebreak, Ecall}
 use Rattle.rv_step.specs.Accesses.{EndsWithin, loaded_from, stored_in}
 use Rattle.rv_step.specs.declared.accesses.Access.{Access}
 use Rattle.rv_step.specs.declared.accesses.Access.TheVariants as access
 use Rattle.rv_step.specs.declared.effects.Effect.{Effect}
 use Rattle.policy_trait.specs.declared.rules.Outs.{Outs}
-use Rattle.tag_memory.specs.Hart.{HartState, reg_value, with_reg, with_reg_tag}
-use Rattle.tag_memory.specs.Ram.{RamState, ram_word, with_ram_tag, with_ram_word}
+use Rattle.tag_memory.specs.Hart.{HartState, IsHartOf, moved_to, reg_value, with_reg, with_reg_tag}
+use Rattle.tag_memory.specs.Ram.{IsRamOf, RamState, ram_bytes, ram_word, with_ram_tag, with_ram_word}
 use Rattle.turn_steps.specs.Feeds.{fed_after, got}
 use Rattle.turn_steps.specs.declared.effects.Done.{Done}
-use Rattle.turn_steps.specs.declared.effects.Done.TheVariants.{Broke, Exited, Ran}
+use Rattle.turn_steps.specs.declared.effects.Done.TheVariants.{Broke, Exited, Stepped}
 use Rattle.turn_steps.specs.declared.look.Look.{Look}
 
 -- the access is in memory, and the next pc is that of a word
@@ -29,6 +29,12 @@ pub record Carried (T : Type 0) : Type 0 where
   pub ram : RamState T
   pub feed : List ℕ
   pub done : Done
+
+-- the hart and memory are those of a machine with that plain tag, and memory has so many bytes
+pub record IsCarriedOf {T : Type 0} (tag : T) (size : ℕ) (carried : Carried T) : Type 0 where
+  pub hart : IsHartOf tag carried.hart
+  pub ram : IsRamOf tag carried.ram
+  pub bytes : ram_bytes carried.ram ≡ size
 
 -- what goes into the result's register
 abbrev pub result_value : {T : Type 0} → RamState T → Option ℕ → Access → ℕ
@@ -49,37 +55,28 @@ with_store ram (access.Load addr width signed) tag = ram
 with_store ram (access.Store addr width value) tag =
     with_ram_tag (with_ram_word ram addr (stored_in (ram_word ram addr) addr width value)) addr tag
 
-abbrev pub moved_to : {T : Type 0} → HartState T → ℕ → T → HartState T
-moved_to hart pc tag = record hart { pc = pc; pc_tag = tag }
-
 -- the instruction's own result, and the next pc
 abbrev pub stepped : {T : Type 0} → HartState T → RamState T → Look T → Outs T → HartState T
 stepped hart ram look outs =
     moved_to (with_result hart (writes_of look.instr look.service) (result_value ram look.effect.value look.effect.access) outs.result) look.effect.next outs.pc
 
--- exit stops the hart where it stands, put gives the low byte of a0, get takes the next byte of the feed into a0; any
--- other service is the policy's
-abbrev pub called_hart : {T : Type 0} → HartState T → List ℕ → Look T → Outs T → HartState T
-called_hart hart feed look outs =
-    if look.service == 0 then hart else
-    if look.service == 2 then moved_to (with_reg_tag (with_reg hart a0 (got feed)) a0 outs.result) look.effect.next outs.pc else
-    moved_to hart look.effect.next outs.pc
+-- a0 takes the next byte of the feed, with the result's tag
+abbrev pub fed_hart : {T : Type 0} → HartState T → List ℕ → T → HartState T
+fed_hart hart feed tag = with_reg_tag (with_reg hart a0 (got feed)) a0 tag
 
-abbrev pub called_feed : {T : Type 0} → List ℕ → Look T → List ℕ
-called_feed feed look = if look.service == 2 then fed_after feed else feed
-
-abbrev pub called_done : {T : Type 0} → HartState T → Look T → Done
-called_done hart look =
-    if look.service == 0 then Exited (reg_value hart a0) else
-    if look.service == 1 then Ran (Some (reg_value hart a0 % 2 ^ 8)) else
-    Ran None
-
-abbrev pub carried_by : {T : Type 0} → Instr → HartState T → RamState T → List ℕ → Look T → Outs T → Carried T
-carried_by Ecall hart ram feed look outs =
-    record { hart = called_hart hart feed look outs; ram = ram; feed = called_feed feed look; done = called_done hart look }
-carried_by Ebreak hart ram feed look outs = record { hart = stepped hart ram look outs; ram = ram; feed = feed; done = Broke }
+-- exit stops the hart where it stands, put gives the low byte of a0, get takes the next byte of the feed into a0, a break
+-- is told, and any other instruction steps and stores
+abbrev pub carried_by : {T : Type 0} → Group → HartState T → RamState T → List ℕ → Look T → Outs T → Carried T
+carried_by group.Exit hart ram feed look outs =
+    record { hart = hart; ram = ram; feed = feed; done = Exited (reg_value hart a0) }
+carried_by group.Put hart ram feed look outs =
+    record { hart = moved_to hart look.effect.next outs.pc; ram = ram; feed = feed; done = Stepped (Some (reg_value hart a0 % 2 ^ 8)) }
+carried_by group.Get hart ram feed look outs =
+    record { hart = moved_to (fed_hart hart feed outs.result) look.effect.next outs.pc; ram = ram; feed = fed_after feed; done = Stepped None }
+carried_by group.Break hart ram feed look outs =
+    record { hart = stepped hart ram look outs; ram = ram; feed = feed; done = Broke }
 carried_by _ hart ram feed look outs =
-    record { hart = stepped hart ram look outs; ram = with_store ram look.effect.access outs.result; feed = feed; done = Ran None }
+    record { hart = stepped hart ram look outs; ram = with_store ram look.effect.access outs.result; feed = feed; done = Stepped None }
 
 unfoldable pub carried_out : {T : Type 0} → HartState T → RamState T → List ℕ → Look T → Outs T → Carried T
-carried_out hart ram feed look outs = carried_by look.instr hart ram feed look outs
+carried_out hart ram feed look outs = carried_by look.group hart ram feed look outs

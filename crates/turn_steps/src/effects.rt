@@ -1,22 +1,25 @@
-ghost use Rattle.std.specs.Prelude.{◌≡◌, ◌%◌, Option};
+ghost use Rattle.std.specs.Prelude.{◌≡◌, ◌%◌, Option, false};
 ghost use Rattle.rv_step.specs.Accesses.{EndsWithin};
 ghost use Rattle.turn_steps.specs.Effects.{IsSound};
 ghost use Rattle.tag_memory.specs.Ram.{ram_bytes};
-ghost use Rattle.turn_steps.specs.Effects.{called_done, called_feed, called_hart, carried_out, moved_to, result_value, stepped, with_store};
+ghost use Rattle.tag_memory.specs.Hart.{moved_to};
+ghost use Rattle.turn_steps.specs.Effects.{carried_out, fed_hart, result_value, stepped, with_store};
+ghost use Rattle.turn_steps.specs.Feeds.{fed_after};
+ghost use Rattle.turn_steps.specs.Looks.{is_call};
 
 use crate::feed::Feed;
 use crate::look::Look;
 use policy_trait::Outs;
-use rv_decode::{Instr, Slot};
+use rv_decode::{Group, Slot};
 use rv_step::{Access, loaded, stored};
 use tag_memory::{Hart, Ram};
 
 /// How an allowed instruction ended.
 #[derive(Clone, Copy, PartialEq, Eq)]
 pub enum Done {
-    /// It ran; the byte is the one that it put out.
-    Ran(Option<u8>),
-    /// It was EBREAK, and ran.
+    /// It stepped on; the byte is the one that it put out.
+    Stepped(Option<u8>),
+    /// It was EBREAK, and stepped on.
     Broke,
     /// It was the exit service: the hart stops with this code.
     Exited(u32),
@@ -25,7 +28,8 @@ pub enum Done {
 /// a0, the first argument and the answer of a service.
 const A0: u32 = 10;
 
-/// Carries out an instruction that the checks and the rule allowed.
+/// Carries out an instruction that the checks and the rule allowed, and that is no call of a policy's service: the
+/// effect of such a call is the policy's, and stands in the job that it gives.
 #[tactic(auto, unfolding(crate::specs::Effects::carried_out))]
 pub fn carry_out<T: Copy>(
     hart: &mut Hart<T>,
@@ -34,23 +38,34 @@ pub fn carry_out<T: Copy>(
     look: &Look<T>,
     outs: Outs<T>,
 ) -> Done
-    requires { IsSound (ram_bytes ram.old) look.now.effect }
+    requires safe { IsSound (ram_bytes ram.old) look.now.effect }
+    requires own { is_call look.now.group ≡ false }
     ensures hart { hart.new ≡ (carried_out hart.old ram.old feed.old look.now outs).hart }
     ensures ram { ram.new ≡ (carried_out hart.old ram.old feed.old look.now outs).ram }
     ensures feed { feed.new ≡ (carried_out hart.old ram.old feed.old look.now outs).feed }
     ensures done { result ≡ (carried_out hart.old ram.old feed.old look.now outs).done }
     ensures bytes { ram_bytes ram.new ≡ ram_bytes ram.old }
 {
-    match look.instr {
-        Instr::Ecall => call(hart, feed, look, outs),
-        Instr::Ebreak => {
+    match look.group {
+        Group::Exit => Done::Exited(hart.reg(A0)),
+        Group::Put => {
+            let byte = (hart.reg(A0) % 256) as u8;
+            go_on(hart, look, outs);
+            Done::Stepped(Some(byte))
+        }
+        Group::Get => {
+            take_byte(hart, feed, outs.result);
+            go_on(hart, look, outs);
+            Done::Stepped(None)
+        }
+        Group::Break => {
             step(hart, ram, look, outs);
             Done::Broke
         }
         _ => {
             step(hart, ram, look, outs);
             store(ram, look.effect.access, outs.result);
-            Done::Ran(None)
+            Done::Stepped(None)
         }
     }
 }
@@ -97,31 +112,13 @@ fn store<T: Copy>(ram: &mut Ram<T>, access: Access, tag: T)
     }
 }
 
-/// The services that every machine has: exit, put and get.
-fn call<T: Copy>(hart: &mut Hart<T>, feed: &mut Feed, look: &Look<T>, outs: Outs<T>) -> Done
-    requires { look.now.effect.next % 4 ≡ 0 }
-    ensures hart { hart.new ≡ (called_hart hart.old feed.old look.now outs) }
-    ensures feed { feed.new ≡ called_feed feed.old look.now }
-    ensures done { result ≡ called_done hart.old look.now }
+/// The next byte of the feed into a0, FFFFFFFF where none is left.
+fn take_byte<T: Copy>(hart: &mut Hart<T>, feed: &mut Feed, tag: T)
+    ensures hart { hart.new ≡ fed_hart hart.old feed.old tag }
+    ensures feed { feed.new ≡ fed_after feed.old }
 {
-    match look.service {
-        0 => Done::Exited(hart.reg(A0)),
-        1 => {
-            let byte = (hart.reg(A0) % 256) as u8;
-            go_on(hart, look, outs);
-            Done::Ran(Some(byte))
-        }
-        2 => {
-            hart.set_reg(A0, feed.next().map_or(u32::MAX, u32::from));
-            hart.set_reg_tag(A0, outs.result);
-            go_on(hart, look, outs);
-            Done::Ran(None)
-        }
-        _ => {
-            go_on(hart, look, outs);
-            Done::Ran(None)
-        }
-    }
+    hart.set_reg(A0, feed.next().map_or(u32::MAX, u32::from));
+    hart.set_reg_tag(A0, tag);
 }
 
 /// The next pc and its tag.

@@ -32,6 +32,13 @@ impl Feed {
         }
     }
 
+    /// A feed of these bytes, which takes no memory.
+    pub fn of(bytes: Vec<u8>) -> Feed
+        ensures { result ≡ bytes.items }
+    {
+        Feed { bytes, place: 0 }
+    }
+
     /// Puts bytes behind those that are left. The only error is want of memory, which leaves the feed as it was.
     pub fn append(&mut self, bytes: &[u8]) -> Result<(), AllocError>
         ensures ok { OnOk result (self.new ≡ self.old ++ bytes.now) }

@@ -4,6 +4,7 @@
 
 mod effects;
 mod feed;
+mod law;
 mod look;
 mod looking;
 mod services;
@@ -11,6 +12,7 @@ mod stop;
 
 pub use effects::{Done, carry_out};
 pub use feed::Feed;
+pub use law::{steps_law, words_law};
 pub use look::Look;
 pub use looking::look_ahead;
 pub use services::{answer_to, arguments_of, write_words};

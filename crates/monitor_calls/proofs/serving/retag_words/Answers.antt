@@ -1,5 +1,5 @@
 use Rattle.std.proofs.Common.{rules, ap, sym, ◌∙◌, ◌+◌, ◌*◌}
-use Rattle.monitor_calls.proofs.Steps.{begins, goes_on, is_refused, placed}
+use Rattle.monitor_calls.proofs.Steps.{begins, ends_whole, goes_on, is_refused, placed}
 use Rattle.monitor_calls.proofs.serving.retag_words.Goals as goal
 
 pub loop-place-init : goal.loop-place-init
@@ -19,3 +19,8 @@ loop-place-preserved g c = record {
       (ap (g.P.Policy.model.retag c.args.policy.now c.args.plan.now) (sym c.tag.ensures) ∙ sym c.retag.ensures ∙ c.in-Ok.is) c.new_value-value.ensures c.in-Ok-push.ensures.items c.loop-place.invariant.whole;
   places = placed (g.W.View.bytes_of c.args.view.now) c.loop-place.words.items c.push.new.self.items (c.args.range.base + 4 * c.loop-place.place) c.new_value-value.result c.in-Ok.tag c.loop-place.invariant.places (record { aligned = search rules; within = search rules }) c.in-Ok-push.ensures.items;
 }
+
+pub returns-in_default-clause-err : goal.returns-in_default-clause-err
+returns-in_default-clause-err g c =
+    ends_whole g.P.Policy.model c.args.policy.now (g.W.View.word_at c.args.view.now) (g.W.View.tag_at c.args.view.now) c.args.plan.now c.end_without_memory.result c.loop-place.words.items c.args.range.base c.args.range.count c.loop-place.place c.in-Ok.tag _ c.loop-place-test.true
+    (ap (g.P.Policy.model.retag c.args.policy.now c.args.plan.now) (sym c.tag.ensures) ∙ sym c.retag.ensures ∙ c.in-Ok.is) c.loop-place.invariant.whole c.end_without_memory.ensures

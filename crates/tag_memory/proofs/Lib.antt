@@ -1,0 +1,2 @@
+pub mod HartLemmas
+pub mod RamLemmas

@@ -1,0 +1,38 @@
+//! What the steps of a turn keep and write, for callers that reason about them.
+
+ghost use Rattle.std.specs.Prelude.{◌≡◌, ℕ, ◌%◌, List, Ok, Option};
+ghost use Rattle.std.specs.List.{All};
+ghost use Rattle.policy_trait.specs.declared.rules.Outs.{Outs};
+ghost use Rattle.policy_trait.specs.declared.services.Answer.{Answer};
+ghost use Rattle.tag_memory.specs.Hart.{HartState, IsHart, IsHartOf, moved_to};
+ghost use Rattle.tag_memory.specs.Ram.{IsPlace, IsRam, IsRamOf, RamState, ram_bytes};
+ghost use Rattle.tag_memory.specs.Rows.{StandFrom};
+ghost use Rattle.turn_steps.specs.Effects.{IsCarriedOf, IsSound, carried_out};
+ghost use Rattle.turn_steps.specs.Looks.{looked};
+ghost use Rattle.turn_steps.specs.Services.{WritesRow, with_answer, with_words};
+ghost use Rattle.turn_steps.specs.declared.look.Look.{Look};
+
+/// What is looked at can be carried out, and each step of a turn keeps the hart's x0 at 0 and plain, its pc at a word,
+/// and memory as large as it was. The function does nothing.
+pub fn steps_law<T: Copy>()
+    ensures looked { (hart : HartState T) (ram : RamState T) (look : Look T) → IsHart hart
+        → looked hart ram ≡ Ok look → IsSound (ram_bytes ram) look.effect }
+    ensures carried { (plain : T) (hart : HartState T) (ram : RamState T) (feed : List ℕ)
+        (look : Look T) (outs : Outs T)
+        → IsSound (ram_bytes ram) look.effect → IsHartOf plain hart → IsRamOf plain ram
+        → IsCarriedOf plain (ram_bytes ram) (carried_out hart ram feed look outs) }
+    ensures answered { (plain : T) (hart : HartState T) (answer : Option (Answer T)) (next : ℕ)
+        (tag : T) → next % 4 ≡ 0 → IsHartOf plain hart
+        → IsHartOf plain (moved_to (with_answer hart answer) next tag) }
+{}
+
+/// The words of a row are written each at its place, and every other word is as it was. The function does nothing.
+pub fn words_law<T: Copy>()
+    ensures row { (ram : RamState T) (base : ℕ) (words : List (ℕ × ℕ × T)) → IsRam ram
+        → base % 4 ≡ 0 → StandFrom base words → All (λ word. IsPlace (ram_bytes ram) word.0) words
+        → WritesRow ram base words (with_words ram words) }
+    ensures kept { (plain : T) (ram : RamState T) (words : List (ℕ × ℕ × T)) → IsRamOf plain ram
+        → IsRamOf plain (with_words ram words) }
+    ensures bytes { (ram : RamState T) (words : List (ℕ × ℕ × T))
+        → ram_bytes (with_words ram words) ≡ ram_bytes ram }
+{}
