@@ -1,26 +1,24 @@
 -- What a turn shows of itself.
-use Rattle.std.specs.Prelude.{◌≡◌, ℕ, ◌/◌, Bool, true, false, List, Option, Some, None, Result, Ok, Err, slice_index, refl}
+use Rattle.std.specs.Prelude.{ℕ, ◌/◌, Bool, true, false, List, Option, Some, None, Result, Ok, Err, slice_index, if◌then◌else◌}
 use Rattle.rv_decode.specs.declared.groups.Group.{Group}
 use Rattle.rv_step.specs.Accesses.{bytes_of}
 use Rattle.rv_step.specs.declared.accesses.Access.{Access}
 use Rattle.rv_step.specs.declared.accesses.Access.TheVariants as access
-use Rattle.rv_step.specs.declared.faults.Fault.{Fault}
 use Rattle.policy_trait.specs.Model.{PolicyModel}
 use Rattle.policy_trait.specs.declared.rules.Ins.{Ins}
-use Rattle.policy_trait.specs.declared.rules.Outs.{Outs}
-use Rattle.policy_trait.specs.declared.rules.Refused.{Refused}
 use Rattle.policy_trait.specs.declared.services.Answer.{Answer}
 use Rattle.policy_trait.specs.declared.services.Args.{Args}
-use Rattle.policy_trait.specs.declared.services.PlanEnd.{PlanEnd}
 use Rattle.policy_trait.specs.declared.services.Words.{Words}
 use Rattle.monitor_calls.specs.Service.{Job}
+use Rattle.turn_steps.specs.Looks.{is_call}
 use Rattle.turn_steps.specs.Services.{args_on}
 use Rattle.turn_steps.specs.declared.look.Look.{Look}
-use Rattle.engine_trait.specs.Machine.{Machine, hart_at, stop_at}
-use Rattle.turn_steps.specs.Looks.{is_call}
-use Rattle.engine_trait.specs.Turn.{prepared, ruled, service_on, turn_of}
 use Rattle.turn_steps.specs.declared.stop.Stop.{Stop}
+use Rattle.turn_steps.specs.declared.stop.Stop.TheVariants as stop
+use Rattle.engine_trait.specs.Machine.{Machine, hart_at, is_ready_in}
+use Rattle.engine_trait.specs.Turn.{job_at, prepared, turn_of}
 use Rattle.engine_trait.specs.declared.ends.TurnEnd.{TurnEnd}
+use Rattle.engine_trait.specs.declared.ends.TurnEnd.TheVariants as ends
 
 -- what the rule was asked with
 pub record Asked (T : Type 0) : Type 0 where
@@ -33,16 +31,19 @@ pub record Touch : Type 0 where
   pub bytes : ℕ
   pub stores : Bool
 
--- a policy's service that retired
-pub record Served (T : Type 0) : Type 0 where
+-- a call of a policy's service
+pub record Call (T : Type 0) : Type 0 where
   pub number : ℕ
   pub arguments : Args T
+
+-- what a policy's service did
+pub record Work (T : Type 0) : Type 0 where
   pub range : Option Words
   pub zero : Bool
   pub answer : Option (Answer T)
 
--- the hart, its pc and the word there, how the turn ended; from the rule on what it was asked with; the access of an
--- instruction and the service that retired
+-- the hart, its pc and the word there, and how the turn ended; from the rule on, what it was asked with, the access and the
+-- policy's service that is called, also where that is refused or spent; and what such a service did, where it retired
 pub record Event (T : Type 0) : Type 0 where
   pub hart : ℕ
   pub pc : ℕ
@@ -50,74 +51,67 @@ pub record Event (T : Type 0) : Type 0 where
   pub ended : TurnEnd
   pub asked : Option (Asked T)
   pub access : Option Touch
-  pub service : Option (Served T)
+  pub call : Option (Call T)
+  pub work : Option (Work T)
 
-abbrev pub asked_in : {T : Type 0} → Result (Look T) Fault → Option (Asked T)
-asked_in (Ok look) = Some (record { group = look.group; inputs = look.inputs })
-asked_in (Err fault) = None
+-- a turn retires where it comes to its effect; an exit retires too
+abbrev pub is_retiring : TurnEnd → Bool
+is_retiring (ends.Ran byte) = true
+is_retiring ends.Break = true
+is_retiring (ends.Stopped (stop.Exit code)) = true
+is_retiring (ends.Stopped (stop.Fault fault)) = false
+is_retiring (ends.Stopped (stop.Violation part why pc)) = false
+is_retiring ends.Idle = false
+is_retiring ends.TagsOut = false
+is_retiring ends.Memory = false
+
+abbrev pub retired : {T : Type 0} → Event T → Bool
+retired event = is_retiring event.ended
 
 abbrev pub touch_of : Access → Option Touch
 touch_of access.None = None
 touch_of (access.Load addr width signed) = Some (record { address = addr; bytes = bytes_of width; stores = false })
 touch_of (access.Store addr width value) = Some (record { address = addr; bytes = bytes_of width; stores = true })
 
-abbrev pub touched_in : {T : Type 0} → Result (Look T) Fault → Option Touch
+abbrev pub asked_in : {T : Type 0} → Result (Look T) Stop → Option (Asked T)
+asked_in (Ok look) = Some (record { group = look.group; inputs = look.inputs })
+asked_in (Err why) = None
+
+abbrev pub touched_in : {T : Type 0} → Result (Look T) Stop → Option Touch
 touched_in (Ok look) = touch_of look.effect.access
-touched_in (Err fault) = None
+touched_in (Err why) = None
 
-abbrev pub job_in : {T : Type 0} → Args T → ℕ → Result (Job T) PlanEnd → Option (Served T)
-job_in arguments number (Ok job) =
-    Some (record { number = number; arguments = arguments; range = job.plan.range; zero = job.plan.zero; answer = job.plan.answer })
-job_in arguments number (Err end) = None
+abbrev pub called_in : {T : Type 0} → Args T → Result (Look T) Stop → Option (Call T)
+called_in arguments (Ok look) = if is_call look.group then Some (record { number = look.service; arguments = arguments }) else None
+called_in arguments (Err why) = None
 
-module _ {S T : Type 0} (m : PolicyModel T S) where
-  abbrev pub served_by : Bool → Machine S T → ℕ → Look T → Outs T → Option (Served T)
-  served_by true s h look outs = job_in (args_on (hart_at s.core h) s.core.ram) look.service (service_on m s h look outs)
-  served_by false s h look outs = None
+abbrev pub work_in : {T : Type 0} → Result (Option (Job T)) Stop → Option (Work T)
+work_in (Ok (Some job)) = Some (record { range = job.plan.range; zero = job.plan.zero; answer = job.plan.answer })
+work_in (Ok None) = None
+work_in (Err why) = None
 
-  abbrev pub served_ruled : Machine S T → ℕ → Look T → Result (Outs T) Refused → Option (Served T)
-  served_ruled s h look (Ok outs) = served_by (is_call look.group) s h look outs
-  served_ruled s h look (Err refused) = None
-
-  abbrev pub served_in : Machine S T → ℕ → Result (Look T) Fault → Option (Served T)
-  served_in s h (Ok look) = served_ruled s h look (ruled m s look)
-  served_in s h (Err fault) = None
-
-  abbrev pub event_by : Machine S T → List ℕ → ℕ → Option Stop → Event T
-  event_by s feed h None = record {
+module _ {S T : Type 0} (m : PolicyModel T S) (s : Machine S T) (feed : List ℕ) (h : ℕ) where
+  abbrev pub event_by : Bool → Event T
+  event_by true = record {
     hart = h;
     pc = (hart_at s.core h).pc;
     word = slice_index s.core.ram.words ((hart_at s.core h).pc / 4);
     ended = (turn_of m s feed h).ended;
     asked = asked_in (prepared m s h);
     access = touched_in (prepared m s h);
-    service = served_in s h (prepared m s h);
+    call = called_in (args_on (hart_at s.core h) s.core.ram) (prepared m s h);
+    work = work_in (job_at m s h);
   }
-  event_by s feed h (Some why) = record {
+  event_by false = record {
     hart = h;
     pc = (hart_at s.core h).pc;
     word = slice_index s.core.ram.words ((hart_at s.core h).pc / 4);
     ended = (turn_of m s feed h).ended;
     asked = None;
     access = None;
-    service = None;
+    call = None;
+    work = None;
   }
 
-  unfoldable pub event_of : Machine S T → List ℕ → ℕ → Event T
-  event_of s feed h = event_by s feed h (stop_at s.core h)
-
-  pub event_of-hart : (s : Machine S T) (feed : List ℕ) (h : ℕ) → (event_of s feed h).hart ≡ h
-  unfolding event_of
-  event_of-hart s feed h = hart_by (stop_at s.core h)
-    where
-      hart_by : (why : Option Stop) → (event_by s feed h why).hart ≡ h
-      hart_by None = refl
-      hart_by (Some why) = refl
-
-  pub event_of-ended : (s : Machine S T) (feed : List ℕ) (h : ℕ) → (event_of s feed h).ended ≡ (turn_of m s feed h).ended
-  unfolding event_of
-  event_of-ended s feed h = ended_by_stop (stop_at s.core h)
-    where
-      ended_by_stop : (why : Option Stop) → (event_by s feed h why).ended ≡ (turn_of m s feed h).ended
-      ended_by_stop None = refl
-      ended_by_stop (Some why) = refl
+  unfoldable pub event_of : Event T
+  event_of = event_by (is_ready_in s.core h)

@@ -1,9 +1,10 @@
 -- The state of a machine: the policy's value, and the core of harts with their stops and of memory. The feed stands
 -- beside it.
-use Rattle.std.specs.Prelude.{◌≡◌, ℕ, ◌≤◌, List, length, Option, Some, None, replicate, slice_index_or, slice_set}
+use Rattle.std.specs.Prelude.{◌≡◌, ℕ, ◌≤◌, Bool, true, false, ◌&&◌, nat_lt, List, All, length, Option, Some, None, replicate, slice_index_or, slice_set}
+use Rattle.policy_trait.specs.Model.{PolicyModel}
+use Rattle.tag_memory.specs.Hart.{HartState, IsHartOf, fresh_hart}
+use Rattle.tag_memory.specs.Ram.{IsRamOf, RamState, ram_bytes}
 use Rattle.turn_steps.specs.declared.stop.Stop.{Stop}
-use Rattle.tag_memory.specs.Hart.{HartState, fresh_hart}
-use Rattle.tag_memory.specs.Ram.{RamState}
 
 pub record CoreState (T : Type 0) : Type 0 where
   pub harts : List (HartState T)
@@ -12,12 +13,21 @@ pub record CoreState (T : Type 0) : Type 0 where
   pub ram : RamState T
 
 pub record IsCore {T : Type 0} (core : CoreState T) : Type 0 where
-  pub harts : length core.harts ≤ 8
+  pub some : 1 ≤ length core.harts
+  pub few : length core.harts ≤ 8
   pub stops : length core.stops ≡ 8
 
 pub record Machine (S T : Type 0) : Type 0 where
   pub policy : S
   pub core : CoreState T
+
+-- one to eight harts; x0 of each is 0 and has the policy's plain tag, as an absent operand has; each pc is that of a word;
+-- memory has a tag for each word, and the bytes that the policy counts on
+pub record IsMachine {S T : Type 0} (m : PolicyModel T S) (s : Machine S T) : Type 0 where
+  pub core : IsCore s.core
+  pub harts : All (IsHartOf (m.plain s.policy)) s.core.harts
+  pub ram : IsRamOf (m.plain s.policy) s.core.ram
+  pub room : m.room s.policy ≤ ram_bytes s.core.ram
 
 -- no hart has stopped
 abbrev pub fresh_core : {T : Type 0} → List (HartState T) → RamState T → CoreState T
@@ -28,6 +38,14 @@ hart_at core h = slice_index_or core.harts h (fresh_hart 0 core.ram.plain core.r
 
 abbrev pub stop_at : {T : Type 0} → CoreState T → ℕ → Option Stop
 stop_at core h = slice_index_or core.stops h None
+
+abbrev pub has_no_stop : Option Stop → Bool
+has_no_stop None = true
+has_no_stop (Some why) = false
+
+-- the hart is there and has not stopped
+abbrev pub is_ready_in : {T : Type 0} → CoreState T → ℕ → Bool
+is_ready_in core h = nat_lt h (length core.harts) && has_no_stop (stop_at core h)
 
 -- with that hart and that memory, or with that hart stopped
 abbrev pub with_hart : {T : Type 0} → CoreState T → ℕ → HartState T → RamState T → CoreState T

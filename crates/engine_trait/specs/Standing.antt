@@ -1,99 +1,78 @@
--- An engine as its callers see it, and what one turn of it may do.
-use Rattle.std.specs.Prelude.{◌≡◌, ℕ, ◌+◌, ◌-◌, ◌^◌, Bool, true, false, min, List, None, Result, Ok, Err, refl}
-use Rattle.rv_step.specs.declared.faults.Fault.{Fault}
+-- An engine as its callers see it, and one step of it: the turn of a hart with what it leaves of the account.
+use Rattle.std.specs.Prelude.{◌≡◌, ℕ, Bool, true, false, ◌&&◌, List, Option, Some, None, IsOk}
 use Rattle.policy_trait.specs.Model.{PolicyModel}
-use Rattle.engine_trait.specs.Machine.{Machine, stop_at}
+use Rattle.engine_trait.specs.Accounts.{Account, accounted, is_over, look_counted}
+use Rattle.engine_trait.specs.Machine.{Machine, is_ready_in}
 use Rattle.engine_trait.specs.Turn.{prepared, stopped_at, turn_of}
-use Rattle.engine_trait.specs.declared.ends.Counts.{Counts}
+use Rattle.engine_trait.specs.declared.ends.Halt.{Halt}
+use Rattle.engine_trait.specs.declared.ends.Halt.TheVariants as halt
 use Rattle.turn_steps.specs.declared.stop.Stop.{Stop}
 use Rattle.turn_steps.specs.declared.stop.Stop.TheVariants as stop
 use Rattle.engine_trait.specs.declared.ends.TurnEnd.{TurnEnd}
 use Rattle.engine_trait.specs.declared.ends.TurnEnd.TheVariants as ends
 
--- the counts of an engine, and whether it is stopped as a whole
-pub record Account : Type 0 where
-  pub turns : ℕ
-  pub hits : ℕ
-  pub misses : ℕ
-  pub out : Bool
-
--- what an engine tells of them
-abbrev pub counts_of : Account → Counts
-counts_of account = record { turns = account.turns; hits = account.hits; misses = account.misses }
-
 -- a machine and its account
 pub record Standing (S T : Type 0) : Type 0 where
   pub machine : Machine S T
-  pub account : Account
+  pub account : Account T
 
--- a count that stands still at its type's end
-abbrev pub counted : ℕ → ℕ
-counted n = min (n + 1) (2 ^ 64 - 1)
+-- after a step: the standing, the feed, and how the turn ended
+pub record Stepped (S T : Type 0) : Type 0 where
+  pub standing : Standing S T
+  pub feed : List ℕ
+  pub ended : TurnEnd
 
--- the account at the start
-abbrev pub fresh_account : Account
-fresh_account = record { turns = 0; hits = 0; misses = 0; out = false }
+abbrev pub is_running : Option Halt → Bool
+is_running None = true
+is_running (Some why) = false
 
--- each turn that passes the checks looks its rule up once; without a rule cache that is a miss
-abbrev pub looked_up : {A : Type 0} → Account → Result A Fault → Account
-looked_up account (Ok look) = record account { misses = counted account.misses }
-looked_up account (Err fault) = account
+-- the engine is not stopped as a whole, and the hart is there and has no stop
+abbrev pub is_ready : {S T : Type 0} → Standing S T → ℕ → Bool
+is_ready e h = is_running e.account.halt && is_ready_in e.machine.core h
 
-abbrev pub with_turn : Account → Account
-with_turn account = record account { turns = counted account.turns }
+module _ {S T : Type 0} (eq : T → T → Bool) (m : PolicyModel T S) (e : Standing S T) (feed : List ℕ) (h : ℕ) where
+  -- the turn is made: it is the machine's, and it is counted
+  abbrev pub made : Stepped S T
+  made = record {
+    standing = record { machine = (turn_of m e.machine feed h).machine; account = accounted eq m e.machine h e.account };
+    feed = (turn_of m e.machine feed h).feed;
+    ended = (turn_of m e.machine feed h).ended;
+  }
 
-module _ {S T : Type 0} (m : PolicyModel T S) where
-  -- the account after a turn of a ready hart
-  unfoldable pub accounted : Machine S T → ℕ → Account → Account
-  accounted s h account = with_turn (looked_up account (prepared m s h))
+  -- the engine ran out of tag words: the look-up is counted, the turn is not, and nothing else changes
+  abbrev pub out_of_words : Stepped S T
+  out_of_words = record {
+    standing = record e { account = record (look_counted eq m e.machine h e.account) { halt = Some halt.TagWords } };
+    feed = feed;
+    ended = ends.TagsOut;
+  }
 
-looked_up-out : {A : Type 0} (account : Account) (looked : Result A Fault) → (looked_up account looked).out ≡ account.out
-looked_up-out account (Ok look) = refl
-looked_up-out account (Err fault) = refl
+  abbrev pub idle : Stepped S T
+  idle = record { standing = e; feed = feed; ended = ends.Idle }
 
--- a turn that was made stops no engine as a whole
-pub accounted-out : {S T : Type 0} (m : PolicyModel T S) (s : Machine S T) (h : ℕ) (account : Account) → (accounted m s h account).out ≡ account.out
-unfolding accounted
-accounted-out m s h account = looked_up-out account (prepared m s h)
+  -- the engine runs out exactly where more tags would have words than may have
+  abbrev pub step_by : Bool → Bool → Stepped S T
+  step_by false over = idle
+  step_by true true = out_of_words
+  step_by true false = made
 
--- the hart has no stop, and the engine is not stopped as a whole
-pub record IsReady {S T : Type 0} (e : Standing S T) (h : ℕ) : Type 0 where
-  pub hart : stop_at e.machine.core h ≡ None
-  pub engine : e.account.out ≡ false
+  unfoldable pub step : Stepped S T
+  step = step_by (is_ready e h) (is_over (accounted eq m e.machine h e.account))
 
--- a turn that was made is the defined turn, and counts
-pub record Makes {S T : Type 0} (m : PolicyModel T S) (e : Standing S T) (feed : List ℕ) (h : ℕ) (ended : TurnEnd) (f : Standing S T) (fed : List ℕ) : Type 0 where
-  pub ready : IsReady e h
-  pub turned : turn_of m e.machine feed h ≡ record { machine = f.machine; feed = fed; ended = ended }
-  pub account : f.account ≡ accounted m e.machine h e.account
-
--- Memory ran out: the engine is stopped, and nothing else changed.
-pub record GivesUp {S T : Type 0} (e : Standing S T) (feed : List ℕ) (h : ℕ) (f : Standing S T) (fed : List ℕ) : Type 0 where
-  pub ready : IsReady e h
-  pub machine : f.machine ≡ e.machine
-  pub unfed : fed ≡ feed
-  pub turns : f.account.turns ≡ e.account.turns
-  pub out : f.account.out ≡ true
-
--- the hart or the engine had stopped, and nothing changed
-pub data IsIdle {S T : Type 0} (e : Standing S T) (h : ℕ) : Type 0 where
-  hart : (stop_at e.machine.core h ≡ None → ⊥) → IsIdle e h
-  engine : e.account.out ≡ true → IsIdle e h
-
-pub record Idles {S T : Type 0} (e : Standing S T) (feed : List ℕ) (h : ℕ) (f : Standing S T) (fed : List ℕ) : Type 0 where
-  pub idle : IsIdle e h
-  pub same : f ≡ e
-  pub unfed : fed ≡ feed
-
--- what a turn of hart h that ended so may have done to the engine and the feed
-abbrev pub Turns : {S T : Type 0} → PolicyModel T S → Standing S T → List ℕ → ℕ → TurnEnd → Standing S T → List ℕ → Type 0
-Turns m e feed h (ends.Ran byte) f fed = Makes m e feed h (ends.Ran byte) f fed
-Turns m e feed h ends.Break f fed = Makes m e feed h ends.Break f fed
-Turns m e feed h (ends.Stopped why) f fed = Makes m e feed h (ends.Stopped why) f fed
-Turns m e feed h ends.Idle f fed = Idles e feed h f fed
--- no engine so far has tag words
-Turns m e feed h ends.TagsOut f fed = ⊥
-Turns m e feed h ends.Memory f fed = GivesUp e feed h f fed
+  -- Memory ran out in a turn that came to its rule: the look-up is counted and the engine is stopped; the machine, the feed,
+  -- the turns and what is seen stay. What is kept is not said.
+  pub record GivesUp (f : Standing S T) (fed : List ℕ) : Type 0 where
+    pub ready : is_ready e h ≡ true
+    pub asked : IsOk (prepared m e.machine h)
+    pub machine : f.machine ≡ e.machine
+    pub unfed : fed ≡ feed
+    pub turns : f.account.turns ≡ e.account.turns
+    pub seen : f.account.seen ≡ e.account.seen
+    pub limit : f.account.limit ≡ e.account.limit
+    pub capacity : f.account.capacity ≡ e.account.capacity
+    pub hits : f.account.hits ≡ (look_counted eq m e.machine h e.account).hits
+    pub misses : f.account.misses ≡ (look_counted eq m e.machine h e.account).misses
+    pub halt : f.account.halt ≡ Some halt.Memory
 
 -- a stop that is no exit: one of the checks or the policy ended the turn
 abbrev pub IsFailure : Stop → Type 0

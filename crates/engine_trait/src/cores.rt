@@ -1,11 +1,10 @@
-ghost use Rattle.std.specs.Prelude.{◌≡◌, ◌≢◌, ◌%◌, ◌<◌, ◌≤◌, IfOk, length};
+ghost use Rattle.std.specs.Prelude.{◌≡◌, ◌≢◌, ◌%◌, ◌<◌, ◌≤◌, false, IfOk, length};
 ghost use Rattle.std.specs.List.{All};
 ghost use Rattle.tag_memory.specs.Ram.{IsPlace, ram_bytes};
 ghost use Rattle.turn_steps.specs.Effects.{IsSound};
-ghost use Rattle.turn_steps.specs.Looks.{looked};
+ghost use Rattle.turn_steps.specs.Looks.{is_call, looked};
 ghost use Rattle.turn_steps.specs.Services.{args_on};
 ghost use Rattle.engine_trait.specs.Machine.{CoreState, fresh_core, hart_at, stop_at, stopping};
-ghost use Rattle.engine_trait.specs.Runs.{is_ready};
 ghost use Rattle.engine_trait.specs.Standing.{IsFailure};
 ghost use Rattle.engine_trait.specs.Turn.{carried_at, core_effected, core_served, end_of};
 
@@ -14,7 +13,9 @@ use policy_trait::{Answer, Args, Outs};
 use rv_step::Fault;
 use std::marker::Model;
 use tag_memory::{Hart, Ram};
-use turn_steps::{Done, Feed, Look, Stop, answer_to, arguments_of, carry_out, look_ahead, write_words};
+use turn_steps::{
+    Done, Feed, Look, Stop, answer_to, arguments_of, carry_out, look_ahead, write_words,
+};
 
 /// Harts, their stops, and memory, for any type of tags: what every engine stands on. Contracts see it as a `CoreState`.
 #[derive(Drop)]
@@ -37,7 +38,8 @@ impl<T: Copy> Model for Core<T> {
 impl<T: Copy> Core<T> {
     /// These harts over this memory, none stopped.
     pub fn new(ram: Ram<T>, harts: Vec<Hart<T>>) -> Core<T>
-        requires { length harts.items ≤ 8 }
+        requires some { 1 ≤ length harts.items }
+        requires few { length harts.items ≤ 8 }
         ensures { result ≡ fresh_core harts.items ram }
     {
         Core {
@@ -47,9 +49,10 @@ impl<T: Copy> Core<T> {
         }
     }
 
-    /// How many harts there are, at most 8.
+    /// How many harts there are, 1 to 8.
     pub fn harts(&self) -> u32
         ensures harts { result ≡ length self.now.harts }
+        ensures some { 1 ≤ result }
         ensures few { result ≤ 8 }
     {
         self.harts.len() as u32
@@ -92,6 +95,7 @@ impl<T: Copy> Core<T> {
     #[tactic(auto, unfolding(crate::specs::Turn::core_effected, crate::specs::Turn::carried_at))]
     pub fn effect(&mut self, h: u32, feed: &mut Feed, look: &Look<T>, outs: Outs<T>) -> TurnEnd
         requires hart { h < length self.old.harts }
+        requires own { is_call look.now.group ≡ false }
         requires safe { IsSound (ram_bytes self.old.ram) look.now.effect }
         ensures core { self.new ≡ core_effected self.old feed.old h look.now outs }
         ensures feed { feed.new ≡ (carried_at self.old feed.old h look.now outs).feed }
@@ -101,7 +105,7 @@ impl<T: Copy> Core<T> {
         ensures bytes { ram_bytes self.new.ram ≡ ram_bytes self.old.ram }
     {
         match carry_out(&mut self.harts[h as usize], &mut self.ram, feed, look, outs) {
-            Done::Ran(byte) => TurnEnd::Ran(byte),
+            Done::Stepped(byte) => TurnEnd::Ran(byte),
             Done::Broke => TurnEnd::Break,
             Done::Exited(code) => {
                 self.stops[h as usize] = Some(Stop::Exit(code));

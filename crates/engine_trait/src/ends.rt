@@ -17,6 +17,15 @@ pub enum TurnEnd {
     Memory,
 }
 
+/// Why an engine as a whole is stopped.
+#[derive(Clone, Copy, PartialEq, Eq)]
+pub enum Halt {
+    /// It ran out of tag words. A reset revives it.
+    TagWords,
+    /// It ran out of memory.
+    Memory,
+}
+
 /// How many turns were made, and how many look-ups of rules hit the rule cache and missed it. Each count stands still
 /// at 2^64 - 1.
 #[derive(Clone, Copy, PartialEq, Eq)]

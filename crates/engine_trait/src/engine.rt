@@ -1,10 +1,11 @@
-ghost use Rattle.std.specs.Prelude.{◌≡◌, ◌+◌, ◌%◌, ◌<◌, ◌≤◌, IfOk, length};
+ghost use Rattle.std.specs.Prelude.{◌≡◌, ◌≢◌, ◌+◌, ◌%◌, ◌<◌, ◌≤◌, false, true, Err, IfOk, is_some, length};
 ghost use Rattle.tag_memory.specs.Hart.{reg_tag, reg_value};
 ghost use Rattle.tag_memory.specs.Ram.{ram_bytes, ram_tag, ram_word};
-ghost use Rattle.engine_trait.specs.Machine.{hart_at, stop_at};
-ghost use Rattle.engine_trait.specs.Standing.{IsFailure, StopsOnly, Turns, Unchanged, counts_of};
+ghost use Rattle.engine_trait.specs.Machine.{IsMachine, hart_at, stop_at};
+ghost use Rattle.engine_trait.specs.Accounts.{counts_of, is_over};
+ghost use Rattle.engine_trait.specs.Standing.{GivesUp, IsFailure, StopsOnly, Unchanged, step};
 
-use crate::ends::{Counts, LoadEnd, TurnEnd};
+use crate::ends::{Counts, Halt, LoadEnd, TurnEnd};
 use policy_trait::Policy;
 use turn_steps::{Feed, Stop};
 
@@ -19,17 +20,28 @@ pub trait Engine {
     /// One turn of hart `h`: fetch, checks, rule, service and effect together.
     fn turn(&mut self, h: u32, feed: &mut Feed) -> TurnEnd
         requires { h < length (standing self.old).machine.core.harts }
-        ensures turns { Turns Self.P.model (standing self.old) feed.old h result (standing self.new) feed.new }
+        ensures step { result ≢ TurnEnd.Memory
+            → step Self.P.Tag.eq Self.P.model (standing self.old) feed.old h
+            ≡ record { standing = standing self.new; feed = feed.new; ended = result } }
+        ensures memory { result ≡ TurnEnd.Memory
+            → GivesUp Self.P.Tag.eq Self.P.model (standing self.old) feed.old h
+            (standing self.new) feed.new }
         // A fault or a refusal changes nothing but that hart's stop, an idle turn nothing at all.
-        ensures failure { (why : Stop) → IsFailure why → result ≡ TurnEnd.Stopped why → StopsOnly (standing self.old) feed.old h why (standing self.new) feed.new }
-        ensures idle { result ≡ TurnEnd.Idle → Unchanged (standing self.old) feed.old (standing self.new) feed.new }
-        ensures harts { length (standing self.new).machine.core.harts ≡ length (standing self.old).machine.core.harts }
-        ensures ram { ram_bytes (standing self.new).machine.core.ram ≡ ram_bytes (standing self.old).machine.core.ram };
+        ensures failure { (why : Stop) → IsFailure why → result ≡ TurnEnd.Stopped why
+            → StopsOnly (standing self.old) feed.old h why (standing self.new) feed.new }
+        ensures idle { result ≡ TurnEnd.Idle
+            → Unchanged (standing self.old) feed.old (standing self.new) feed.new }
+        ensures harts { length (standing self.new).machine.core.harts
+            ≡ length (standing self.old).machine.core.harts }
+        ensures ram { ram_bytes (standing self.new).machine.core.ram
+            ≡ ram_bytes (standing self.old).machine.core.ram };
 
-    /// How many harts there are, 1 to 8.
+    /// How many harts there are, 1 to 8. The machine is sound at all times.
     fn harts(&self) -> u32
         ensures harts { result ≡ length (standing self.now).machine.core.harts }
-        ensures few { result ≤ 8 };
+        ensures some { 1 ≤ result }
+        ensures few { result ≤ 8 }
+        ensures sound { IsMachine Self.P.model (standing self.now).machine };
 
     /// The bytes of memory.
     fn ram(&self) -> u32
@@ -79,7 +91,11 @@ pub trait Engine {
 
     /// Whether the engine as a whole is stopped, for want of memory or of tag words.
     fn stopped(&self) -> bool
-        ensures { result ≡ (standing self.now).account.out };
+        ensures { result ≡ is_some (standing self.now).account.halt };
+
+    /// Why the engine as a whole is stopped, `None` where it is not.
+    fn halt(&self) -> Option<Halt>
+        ensures { result ≡ (standing self.now).account.halt };
 
     /// The policy.
     fn policy(&self) -> &Self::P
@@ -98,7 +114,9 @@ pub trait Loader {
 
     ghost start: { Self → Standing Self.E.P Self.E.P.Tag };
 
-    /// An engine at the start.
+    /// An engine at the start. It needs no more tag words than the limit; `TagsOut` says that it would.
     fn load(&self) -> Result<Self::E, LoadEnd>
-        ensures { IfOk result (λ engine. Self.E.standing engine ≡ start self.now) };
+        ensures start { IfOk result (λ engine. Self.E.standing engine ≡ start self.now) }
+        ensures within { IfOk result (λ engine. is_over (start self.now).account ≡ false) }
+        ensures out { result ≡ Err LoadEnd.TagsOut → is_over (start self.now).account ≡ true };
 }

@@ -7,8 +7,10 @@
 mod cores;
 mod ends;
 mod engine;
+mod law;
 
 pub use cores::Core;
-pub use ends::{Counts, LoadEnd, TurnEnd};
+pub use ends::{Counts, Halt, LoadEnd, TurnEnd};
 pub use engine::{Engine, Loader};
+pub use law::{idle_law, plain_law, step_law, turn_law};
 pub use turn_steps::{Feed, Stop};

@@ -1,57 +1,68 @@
--- The engine that asks its policy at every turn.
-use Rattle.std.specs.Prelude.{◌≡◌, ℕ, ◌≤◌, true, IsTrue, List, Result, Ok, Err}
+-- The engine that asks its policy at every turn, and keeps no rules.
+use Rattle.std.specs.Prelude.{◌≡◌, ℕ, Bool, true, false, List, Option, Some, None, Result, Ok, Err}
 use Rattle.policy_trait.specs.Model.{PolicyModel}
-use Rattle.tag_memory.specs.Hart.{HartState}
-use Rattle.tag_memory.specs.Ram.{RamState, ram_bytes}
-use Rattle.turn_steps.specs.declared.look.Look.{Look}
-use Rattle.engine_trait.specs.Machine.{Machine, fresh_core}
-use Rattle.engine_trait.specs.Standing.{Account, Standing, counted, fresh_account, with_turn}
-use Rattle.turn_steps.specs.Looks.{is_call}
-use Rattle.engine_trait.specs.Turn.{finish_service, prepared, service_on, settled}
-use Rattle.engine_trait.specs.declared.ends.TurnEnd.{TurnEnd}
-use Rattle.engine_trait.specs.declared.ends.TurnEnd.TheVariants as ends
-use Rattle.rv_step.specs.declared.faults.Fault.{Fault}
+use Rattle.policy_trait.specs.Steps.{◌>>=◌}
 use Rattle.policy_trait.specs.declared.rules.Outs.{Outs}
+use Rattle.tag_memory.specs.Hart.{HartState}
+use Rattle.tag_memory.specs.Ram.{RamState}
+use Rattle.monitor_calls.specs.Service.{Job}
+use Rattle.turn_steps.specs.declared.look.Look.{Look}
+use Rattle.turn_steps.specs.declared.stop.Stop.{Stop}
+use Rattle.engine_trait.specs.Accounts.{IsUncached, counted, plain_account}
+use Rattle.engine_trait.specs.Machine.{CoreState, IsMachine, Machine, fresh_core}
+use Rattle.engine_trait.specs.Standing.{Standing}
+use Rattle.engine_trait.specs.Turn.{Turned, effected, job_at, planned, settled}
+use Rattle.engine_trait.specs.declared.ends.Counts.{Counts}
+use Rattle.engine_trait.specs.declared.ends.Halt.{Halt}
+use Rattle.engine_trait.specs.declared.ends.Halt.TheVariants as halt
+use Rattle.engine_trait.specs.declared.ends.TurnEnd.{TurnEnd}
 
--- memory has the bytes that the policy counts on
-abbrev pub HasRoom : {S T : Type 0} → PolicyModel T S → Standing S T → Type 0
-HasRoom m e = m.room e.machine.policy ≤ ram_bytes e.machine.core.ram
+-- the machine and the account of an engine of these parts
+abbrev pub engine_of : {S T : Type 0} → S → CoreState T → Counts → Option Halt → Standing S T
+engine_of policy core counts halted = record {
+  machine = record { policy = policy; core = core };
+  account = record plain_account { turns = counts.turns; hits = counts.hits; misses = counts.misses; halt = halted };
+}
 
--- the engine of these parts: no stop, counts 0
+-- a sound machine, and the account of an engine that keeps no rules
+pub record IsPlain {S T : Type 0} (m : PolicyModel T S) (e : Standing S T) : Type 0 where
+  pub machine : IsMachine m e.machine
+  pub account : IsUncached e.account
+
+-- the machine of these parts at the start: no hart has stopped
+abbrev pub machine_of : {S T : Type 0} → S → List (HartState T) → RamState T → Machine S T
+machine_of policy harts ram = record { policy = policy; core = fresh_core harts ram }
+
+-- the engine of these parts at the start
 abbrev pub standing_of : {S T : Type 0} → S → List (HartState T) → RamState T → Standing S T
-standing_of policy harts ram = record { machine = record { policy = policy; core = fresh_core harts ram }; account = fresh_account }
+standing_of policy harts ram = record { machine = machine_of policy harts ram; account = plain_account }
 
--- a look-up without a rule cache is a miss
-abbrev pub missed : Account → Account
-missed account = record account { misses = counted account.misses }
+-- the engine after a look-up: without kept rules it is a miss
+abbrev pub after_look_up : {S T : Type 0} → Standing S T → Standing S T
+after_look_up e = record e { account = record e.account { misses = counted e.account.misses } }
 
 -- the engine after a turn that left this machine
 abbrev pub after_turn : {S T : Type 0} → Standing S T → Machine S T → Standing S T
-after_turn e machine = record { machine = machine; account = with_turn e.account }
+after_turn e machine = record { machine = machine; account = record e.account { turns = counted e.account.turns } }
 
--- the engine after a look-up
-abbrev pub after_look_up : {S T : Type 0} → Standing S T → Standing S T
-after_look_up e = record e { account = missed e.account }
-
--- the engine stopped as a whole
+-- the engine stopped for want of memory
 abbrev pub given_up : {S T : Type 0} → Standing S T → Standing S T
-given_up e = record e { account = record e.account { out = true } }
+given_up e = record e { account = record e.account { halt = Some halt.Memory } }
 
--- the turn of an allowed call of a policy's service was the defined one, and counts
+-- what is left of a turn that the rule allowed
+abbrev pub allowed_turn : {S T : Type 0} → PolicyModel T S → Machine S T → List ℕ → ℕ → Look T → Outs T → Turned S T
+allowed_turn m s feed h look outs = settled m s feed h (planned m s h look outs >>= λ job. Ok (effected m s feed h look outs job))
+
+-- a call of a policy's service that the rule allowed ended as defined, and the turn counts
 pub record EndsService {S T : Type 0} (m : PolicyModel T S) (e : Standing S T) (h : ℕ) (look : Look T) (outs : Outs T) (ended : TurnEnd) (f : Standing S T) : Type 0 where
-  pub turned : (feed : List ℕ) → settled m e.machine feed h (finish_service m e.machine feed h look outs (service_on m e.machine h look outs)) ≡ record { machine = f.machine; feed = feed; ended = ended }
-  pub account : f.account ≡ with_turn e.account
+  pub turned : (feed : List ℕ) → allowed_turn m e.machine feed h look outs ≡ record { machine = f.machine; feed = feed; ended = ended }
+  pub standing : f ≡ after_turn e f.machine
 
--- the turn was made: it neither was idle nor ran out of tag words
-abbrev pub IsMade : TurnEnd → Type 0
-IsMade ends.Idle = ⊥
-IsMade ends.TagsOut = ⊥
-IsMade _ = Unit {0}
+-- the hart is about to call a service of the policy that nothing refuses
+abbrev pub is_job : {T : Type 0} → Result (Option (Job T)) Stop → Bool
+is_job (Ok (Some job)) = true
+is_job (Ok None) = false
+is_job (Err why) = false
 
--- the hart is about to call a service of the policy
-abbrev pub CallsIn : {T : Type 0} → Result (Look T) Fault → Type 0
-CallsIn (Ok look) = IsTrue (is_call look.group)
-CallsIn (Err fault) = ⊥
-
-abbrev pub CallsService : {S T : Type 0} → PolicyModel T S → Machine S T → ℕ → Type 0
-CallsService m s h = CallsIn (prepared m s h)
+abbrev pub is_served : {S T : Type 0} → PolicyModel T S → Machine S T → ℕ → Bool
+is_served m s h = is_job (job_at m s h)

@@ -1,17 +1,19 @@
-ghost use Rattle.std.specs.Prelude.{◌≡◌, ◌≢◌, ◌+◌, ◌%◌, ◌<◌, ◌≤◌, [], Ok, None, IfErr, IfOk, IsTrue, length};
+ghost use Rattle.std.specs.Prelude.{◌≡◌, ◌≢◌, ◌+◌, ◌%◌, ◌<◌, ◌≤◌, [], Err, Ok, Some, None, IfErr, IfOk, IsOk, IsTrue, false, true, length};
 ghost use Rattle.std.specs.List.{All};
 ghost use Rattle.policy_trait.specs.Model.{IsGiven};
 ghost use Rattle.monitor_calls.specs.Ends.{EndsAs, job_by};
 ghost use Rattle.turn_steps.specs.Effects.{IsSound};
 ghost use Rattle.tag_memory.specs.Hart.{reg_tag, reg_value};
 ghost use Rattle.tag_memory.specs.Ram.{IsPlace, ram_bytes, ram_tag, ram_word};
-ghost use Rattle.engine_trait.specs.Machine.{hart_at, stop_at};
-ghost use Rattle.engine_trait.specs.Standing.{IsFailure, StopsOnly, Turns, Unchanged};
-ghost use Rattle.engine_trait.specs.Turn.{effected, is_known, prepared, service_on, serving, stopped_at, violation};
-ghost use Rattle.plain_engine.specs.Plain.{CallsService, EndsService, IsMade, after_look_up, after_turn, given_up, standing_of};
+ghost use Rattle.engine_trait.specs.Accounts.{IsUncached};
+ghost use Rattle.engine_trait.specs.Machine.{IsMachine, hart_at, stop_at};
+ghost use Rattle.engine_trait.specs.Standing.{GivesUp, IsFailure, StopsOnly, Unchanged, is_ready, step};
+ghost use Rattle.engine_trait.specs.Turn.{allowed, effected, is_offered, prepared, service_on, stopped_at, violation};
+ghost use Rattle.turn_steps.specs.Looks.{is_call};
+ghost use Rattle.plain_engine.specs.Plain.{EndsService, after_look_up, after_turn, given_up, is_served, machine_of, standing_of};
 
-use engine_trait::{Core, Counts, Engine, Feed, Stop, TurnEnd};
-use monitor_calls::{ServeEnd, Served, serve};
+use engine_trait::{Core, Counts, Engine, Feed, Halt, Stop, TurnEnd};
+use monitor_calls::{Job, ServeEnd, serve};
 use policy_trait::{Outs, Policy, Refused};
 use rv_decode::{Group, Instr};
 use rv_step::Fault;
@@ -27,25 +29,24 @@ pub struct Plain<P: Policy> {
     policy: P,
     core: Core<P::Tag>,
     counts: Counts,
-    out: bool,
+    halt: Option<Halt>,
 }
 
 impl<P: Policy> Model for Plain<P> {
     ghost use Rattle.engine_trait.specs.Standing.{Standing};
-    ghost use Rattle.plain_engine.specs.Plain.{HasRoom};
+    ghost use Rattle.plain_engine.specs.Plain.{IsPlain, engine_of};
 
     ghost Value = { Standing P P.Tag };
 
-    ghost view = { λ p. record { machine = record { policy = p.policy; core = p.core }; account = record { turns = p.counts.turns; hits = p.counts.hits; misses = p.counts.misses; out = p.out } } };
+    ghost view = { λ p. engine_of p.policy p.core p.counts p.halt };
 
-    ghost invariant = { λ p. HasRoom P.model (record { machine = record { policy = p.policy; core = p.core }; account = record { turns = p.counts.turns; hits = p.counts.hits; misses = p.counts.misses; out = p.out } }) };
+    ghost invariant = { λ p. IsPlain P.model (engine_of p.policy p.core p.counts p.halt) };
 }
 
 impl<P: Policy> Plain<P> {
-    /// The engine of these parts: no hart has stopped, and the counts are 0.
+    /// The engine of these parts, of 1 to 8 harts: no hart has stopped, and the counts are 0.
     pub fn new(alloc: Global, policy: P, ram: Ram<P::Tag>, harts: Vec<Hart<P::Tag>>) -> Plain<P>
-        requires few { length harts.items ≤ 8 }
-        requires room { P.model.room policy ≤ ram_bytes ram }
+        requires { IsMachine P.model (machine_of policy harts.items ram) }
         ensures { result ≡ standing_of policy harts.items ram }
     {
         Plain {
@@ -57,51 +58,55 @@ impl<P: Policy> Plain<P> {
                 hits: 0,
                 misses: 0,
             },
-            out: false,
+            halt: None,
         }
     }
 
-    /// Whether the service that is called, if one is, is one that the machine or the policy offers.
-    fn is_known(&self, look: &Look<P::Tag>) -> bool
-        ensures { result ≡ is_known P.model self.now.machine.policy look.now }
+    /// Whether hart `h` can have a turn: neither it nor the engine has stopped.
+    fn is_ready(&self, h: u32) -> bool
+        requires { h < length self.now.machine.core.harts }
+        ensures ready { result ≡ is_ready self.now h }
+        ensures uncached { IsUncached self.now.account }
     {
-        match look.group {
-            Group::Call => self.policy.knows(look.service),
-            _ => true,
-        }
+        self.halt.is_none() && self.core.stop(h).is_none()
+    }
+
+    /// Whether the service that is called, if one is, is one that the machine or the policy offers.
+    fn is_offered(&self, look: &Look<P::Tag>) -> bool
+        ensures { result ≡ is_offered P.model self.now.machine look.now }
+    {
+        !is_call(look.group) || self.policy.knows(look.service)
     }
 
     /// The checks of hart `h`'s turn.
     #[tactic(auto, unfolding(engine_trait::specs::Turn::prepared))]
-    fn prepare(&self, h: u32) -> Result<Look<P::Tag>, Fault>
+    fn prepare(&self, h: u32) -> Result<Look<P::Tag>, Stop>
         requires { h < length self.now.machine.core.harts }
         ensures value { result ≡ prepared P.model self.now.machine h }
-        ensures sound { IfOk result (λ look. IsSound (ram_bytes self.now.machine.core.ram) look.effect) }
-        ensures offered { IfOk result (λ look. IsTrue (is_known P.model self.now.machine.policy look)) }
+        ensures sound { IfOk result
+            (λ look. IsSound (ram_bytes self.now.machine.core.ram) look.effect) }
+        ensures offered { IfOk result (λ look. is_offered P.model self.now.machine look ≡ true) }
     {
-        let look = self.core.look(h)?;
-        if !self.is_known(&look) {
-            return Err(Fault::NoService(look.service));
+        let look = match self.core.look(h) {
+            Ok(look) => look,
+            Err(fault) => return Err(Stop::Fault(fault)),
+        };
+        if !self.is_offered(&look) {
+            return Err(Stop::Fault(Fault::NoService(look.service)));
         }
         Ok(look)
     }
 
-    /// Counts a turn that stopped hart `h`.
-    fn stop_hart(&mut self, h: u32, why: Stop) -> TurnEnd
-        requires { h < length self.old.machine.core.harts }
-        ensures standing { self.new ≡ after_turn self.old (stopped_at self.old.machine h why) }
-        ensures end { result ≡ TurnEnd.Stopped why }
+    /// The answer of the rule.
+    #[tactic(auto, unfolding(engine_trait::specs::Turn::allowed))]
+    fn ask(&self, h: u32, look: &Look<P::Tag>) -> Result<Outs<P::Tag>, Stop>
+        requires { h < length self.now.machine.core.harts }
+        ensures { result ≡ allowed P.model self.now.machine h look.now }
     {
-        self.core.stop_hart(h, why);
-        self.counts.turns = self.counts.turns.saturating_add(1);
-        TurnEnd::Stopped(why)
-    }
-
-    /// Counts the look-up of a rule.
-    fn look_up(&mut self)
-        ensures { self.new ≡ after_look_up self.old }
-    {
-        self.counts.misses = self.counts.misses.saturating_add(1);
+        match self.policy.rule(look.group, look.inputs) {
+            Ok(outs) => Ok(outs),
+            Err(refused) => Err(self.violation(h, refused)),
+        }
     }
 
     /// The stop of a refusal at hart `h`'s instruction.
@@ -116,12 +121,30 @@ impl<P: Policy> Plain<P> {
         }
     }
 
+    /// Counts the look-up of a rule.
+    fn look_up(&mut self)
+        ensures { self.new ≡ after_look_up self.old }
+    {
+        self.counts.misses = self.counts.misses.saturating_add(1);
+    }
+
+    /// Counts a turn that stopped hart `h`.
+    fn stop_hart(&mut self, h: u32, why: Stop) -> TurnEnd
+        requires { h < length self.old.machine.core.harts }
+        ensures standing { self.new ≡ after_turn self.old (stopped_at self.old.machine h why) }
+        ensures end { result ≡ TurnEnd.Stopped why }
+    {
+        self.core.stop_hart(h, why);
+        self.counts.turns = self.counts.turns.saturating_add(1);
+        TurnEnd::Stopped(why)
+    }
+
     /// Stops the engine as a whole for want of memory.
     fn give_up(&mut self) -> TurnEnd
         ensures standing { self.new ≡ given_up self.old }
         ensures end { result ≡ TurnEnd.Memory }
     {
-        self.out = true;
+        self.halt = Some(Halt::Memory);
         TurnEnd::Memory
     }
 
@@ -134,10 +157,14 @@ impl<P: Policy> Plain<P> {
         outs: Outs<P::Tag>,
     ) -> TurnEnd
         requires hart { h < length self.old.machine.core.harts }
+        requires own { is_call look.now.group ≡ false }
         requires sound { IsSound (ram_bytes self.old.machine.core.ram) look.now.effect }
-        ensures standing { self.new ≡ after_turn self.old (effected self.old.machine feed.old h look.now outs).machine }
-        ensures feed { feed.new ≡ (effected self.old.machine feed.old h look.now outs).feed }
-        ensures end { result ≡ (effected self.old.machine feed.old h look.now outs).ended }
+        ensures standing { self.new ≡ after_turn self.old
+            (effected P.model self.old.machine feed.old h look.now outs None).machine }
+        ensures feed { feed.new
+            ≡ (effected P.model self.old.machine feed.old h look.now outs None).feed }
+        ensures end { result
+            ≡ (effected P.model self.old.machine feed.old h look.now outs None).ended }
         ensures no_failure { (why : Stop) → IsFailure why → result ≢ TurnEnd.Stopped why }
         ensures harts { length self.new.machine.core.harts ≡ length self.old.machine.core.harts }
         ensures bytes { ram_bytes self.new.machine.core.ram ≡ ram_bytes self.old.machine.core.ram }
@@ -149,18 +176,19 @@ impl<P: Policy> Plain<P> {
 
     /// The policy's service that hart `h` calls, up to its effect.
     #[tactic(auto, unfolding(engine_trait::specs::Turn::service_on))]
-    fn plan(
-        &self,
-        h: u32,
-        look: &Look<P::Tag>,
-        outs: Outs<P::Tag>,
-    ) -> Result<Served<P::Tag>, ServeEnd>
+    fn plan(&self, h: u32, look: &Look<P::Tag>, outs: Outs<P::Tag>) -> Result<Job<P::Tag>, ServeEnd>
         requires hart { h < length self.now.machine.core.harts }
-        requires offered { IsTrue (P.model.knows self.now.machine.policy look.now.service) }
-        ensures ok { IfOk result (λ v. service_on P.model self.now.machine h look.now outs ≡ Ok (job_by v.plan v.words.items)) }
-        ensures err { IfErr result (λ e. EndsAs e (service_on P.model self.now.machine h look.now outs)) }
-        ensures places { IfOk result (λ v. All (λ word. IsPlace (ram_bytes self.now.machine.core.ram) word.0) v.words.items) }
-        ensures given { IfOk result (λ v. IsGiven P.model self.now.machine.policy v.plan) }
+        requires known { IsTrue (P.model.knows self.now.machine.policy look.now.service) }
+        ensures ok { IfOk result (λ job. service_on P.model self.now.machine h look.now outs
+            ≡ Ok (job_by job.plan job.words.items)) }
+        ensures err { IfErr result
+            (λ end. EndsAs end (service_on P.model self.now.machine h look.now outs)) }
+        ensures memory { result ≡ Err ServeEnd.Memory
+            → IsOk (service_on P.model self.now.machine h look.now outs) }
+        ensures places { IfOk result
+            (λ job. All (λ word. IsPlace (ram_bytes self.now.machine.core.ram) word.0)
+            job.words.items) }
+        ensures given { IfOk result (λ job. IsGiven P.model self.now.machine.policy job.plan) }
     {
         let arguments = self.core.arguments(h);
         serve(
@@ -179,46 +207,51 @@ impl<P: Policy> Plain<P> {
         h: u32,
         look: &Look<P::Tag>,
         outs: Outs<P::Tag>,
-        served: &Served<P::Tag>,
+        job: &Job<P::Tag>,
     ) -> TurnEnd
         requires hart { h < length self.old.machine.core.harts }
-        requires given { IsGiven P.model self.old.machine.policy served.now.plan }
-        requires places { All (λ word. IsPlace (ram_bytes self.old.machine.core.ram) word.0) served.now.words.items }
+        requires given { IsGiven P.model self.old.machine.policy job.now.plan }
+        requires places { All (λ word. IsPlace (ram_bytes self.old.machine.core.ram) word.0)
+            job.now.words.items }
         requires aligned { look.now.effect.next % 4 ≡ 0 }
-        ensures served { result ≢ TurnEnd.Memory → self.new ≡ after_turn self.old (serving P.model self.old.machine [] h look.now outs (job_by served.now.plan served.now.words.items)).machine }
+        ensures served { result ≢ TurnEnd.Memory
+            → self.new ≡ after_turn self.old (effected P.model self.old.machine [] h look.now
+            outs (Some (job_by job.now.plan job.now.words.items))).machine }
         ensures memory { result ≡ TurnEnd.Memory → self.new ≡ given_up self.old }
         ensures end { result ≢ TurnEnd.Memory → result ≡ TurnEnd.Ran None }
         ensures harts { length self.new.machine.core.harts ≡ length self.old.machine.core.harts }
         ensures bytes { ram_bytes self.new.machine.core.ram ≡ ram_bytes self.old.machine.core.ram }
     {
-        if self.policy.commit(&served.plan).is_err() {
+        if self.policy.commit(&job.plan).is_err() {
             return self.give_up();
         }
-        self.core.serve(
-            h,
-            &served.words,
-            served.plan.answer,
-            look.effect.next,
-            outs.pc,
-        );
+        self.core
+            .serve(h, &job.words, job.plan.answer, look.effect.next, outs.pc);
         self.counts.turns = self.counts.turns.saturating_add(1);
         TurnEnd::Ran(None)
     }
 
     /// A call of a policy's service that the rule allowed.
+    #[tactic(auto, unfolding(engine_trait::specs::Turn::planned))]
     fn service(&mut self, h: u32, look: &Look<P::Tag>, outs: Outs<P::Tag>) -> TurnEnd
         requires hart { h < length self.old.machine.core.harts }
-        requires offered { IsTrue (P.model.knows self.old.machine.policy look.now.service) }
+        requires call { is_call look.now.group ≡ true }
+        requires known { IsTrue (P.model.knows self.old.machine.policy look.now.service) }
         requires aligned { look.now.effect.next % 4 ≡ 0 }
-        ensures served { result ≢ TurnEnd.Memory → EndsService P.model self.old h look.now outs result self.new }
+        ensures served { result ≢ TurnEnd.Memory
+            → EndsService P.model self.old h look.now outs result self.new }
         ensures memory { result ≡ TurnEnd.Memory → self.new ≡ given_up self.old }
-        ensures made { IsMade result }
-        ensures failure { (why : Stop) → IsFailure why → result ≡ TurnEnd.Stopped why → self.new.machine ≡ stopped_at self.old.machine h why }
+        ensures unrefused { result ≡ TurnEnd.Memory
+            → IsOk (service_on P.model self.old.machine h look.now outs) }
+        ensures busy { result ≢ TurnEnd.Idle }
+        ensures words { result ≢ TurnEnd.TagsOut }
+        ensures failure { (why : Stop) → IsFailure why → result ≡ TurnEnd.Stopped why
+            → self.new.machine ≡ stopped_at self.old.machine h why }
         ensures harts { length self.new.machine.core.harts ≡ length self.old.machine.core.harts }
         ensures bytes { ram_bytes self.new.machine.core.ram ≡ ram_bytes self.old.machine.core.ram }
     {
         match self.plan(h, look, outs) {
-            Ok(served) => self.carry_out(h, look, outs, &served),
+            Ok(job) => self.carry_out(h, look, outs, &job),
             Err(ServeEnd::Refused(refused)) => {
                 let why = self.violation(h, refused);
                 self.stop_hart(h, why)
@@ -229,41 +262,51 @@ impl<P: Policy> Plain<P> {
     }
 }
 
+/// Whether the group is that of a call of a policy's service.
+fn is_call(group: Group) -> bool
+    ensures { result ≡ is_call group }
+{
+    matches!(group, Group::Call)
+}
+
 impl<P: Policy> Engine for Plain<P> {
     type P = P;
 
     ghost standing = { λ p. p };
 
-    #[tactic(auto, unfolding(engine_trait::specs::Turn::turn_of, engine_trait::specs::Turn::attempt, engine_trait::specs::Standing::accounted))]
+    #[tactic(auto)]
     fn turn(&mut self, h: u32, feed: &mut Feed) -> TurnEnd
         requires { h < length self.old.machine.core.harts }
-        ensures turns { Turns P.model self.old feed.old h result self.new feed.new }
-        ensures failure { (why : Stop) → IsFailure why → result ≡ TurnEnd.Stopped why → StopsOnly self.old feed.old h why self.new feed.new }
+        ensures step { result ≢ TurnEnd.Memory
+            → step P.Tag.eq P.model self.old feed.old h
+            ≡ record { standing = self.new; feed = feed.new; ended = result } }
+        ensures memory { result ≡ TurnEnd.Memory
+            → GivesUp P.Tag.eq P.model self.old feed.old h self.new feed.new }
+        ensures failure { (why : Stop) → IsFailure why → result ≡ TurnEnd.Stopped why
+            → StopsOnly self.old feed.old h why self.new feed.new }
         ensures idle { result ≡ TurnEnd.Idle → Unchanged self.old feed.old self.new feed.new }
         ensures harts { length self.new.machine.core.harts ≡ length self.old.machine.core.harts }
         ensures ram { ram_bytes self.new.machine.core.ram ≡ ram_bytes self.old.machine.core.ram }
+        // It never runs out of tag words, and of memory only in a policy's service that nothing refuses.
         ensures words { result ≢ TurnEnd.TagsOut }
-        ensures memory { result ≡ TurnEnd.Memory → CallsService P.model self.old.machine h }
+        ensures served { result ≡ TurnEnd.Memory → is_served P.model self.old.machine h ≡ true }
     {
-        if self.stopped() || self.stop(h).is_some() {
+        if !self.is_ready(h) {
             return TurnEnd::Idle;
         }
         let look = match self.prepare(h) {
             Ok(look) => look,
-            Err(fault) => return self.stop_hart(h, Stop::Fault(fault)),
+            Err(why) => return self.stop_hart(h, why),
         };
         self.look_up();
-        let outs = match self.policy.rule(look.group, look.inputs) {
+        let outs = match self.ask(h, &look) {
             Ok(outs) => outs,
-            Err(refused) => {
-                let why = self.violation(h, refused);
-                return self.stop_hart(h, why);
-            }
+            Err(why) => return self.stop_hart(h, why),
         };
-        match look.group {
-            Group::Call => self.service(h, &look, outs),
-            _ => self.effect(h, feed, &look, outs),
+        if is_call(look.group) {
+            return self.service(h, &look, outs);
         }
+        self.effect(h, feed, &look, outs)
     }
 
     fn harts(&self) -> u32 {
@@ -303,7 +346,11 @@ impl<P: Policy> Engine for Plain<P> {
     }
 
     fn stopped(&self) -> bool {
-        self.out
+        self.halt.is_some()
+    }
+
+    fn halt(&self) -> Option<Halt> {
+        self.halt
     }
 
     fn policy(&self) -> &P {

@@ -1,0 +1,134 @@
+-- What a turn leaves of the account.
+use Rattle.std.proofs.Common.{◌≡◌, ℕ, ◌==◌, Bool, true, false, List, [], ◌∷◌, Option, Some, None, Result, Ok, Err, filter, not, take, refl, ap, sym, ◌∙◌, length, if◌then◌else◌, arith}
+use Rattle.std.proofs.lemmas.Bool.{le-ltb}
+use Rattle.std.specs.List.{list_any}
+use Rattle.policy_trait.specs.Model.{PolicyModel}
+use Rattle.policy_trait.specs.declared.rules.Outs.{Outs}
+use Rattle.monitor_calls.specs.Service.{Job}
+use Rattle.turn_steps.specs.declared.look.Look.{Look}
+use Rattle.turn_steps.specs.declared.stop.Stop.{Stop}
+use Rattle.engine_trait.specs.Accounts.{Account, IsUncached, Key, accounted, after_look, after_outs, after_rule, after_service, counted, is_kept, is_over, keeping, key_of, look_counted, looked_up, same_key, seeing, with_tags, written_tags}
+use Rattle.engine_trait.specs.Machine.{Machine}
+use Rattle.engine_trait.specs.Turn.{allowed, job_at, prepared}
+use Rattle.engine_trait.specs.declared.ends.Halt.{Halt}
+
+-- ---- the account of an engine that keeps no rules: each look-up is a miss, and no tag has a word
+
+module _ {T : Type 0} (eq : T → T → Bool) (a : Account T) (plain : IsUncached a) where
+  pub looked_up_missed : (key : Key T) → looked_up eq key a ≡ record a { misses = counted a.misses }
+  looked_up_missed key =
+      ap (λ kept. if list_any (same_key eq key) kept then record a { hits = counted a.hits } else record a { misses = counted a.misses }) plain.kept
+
+  keeping_none : (key : Key T) → keeping eq key a ≡ a
+  keeping_none key =
+      ap (λ n. record a { kept = take n (key ∷ filter (λ other. not (same_key eq key other)) a.kept) }) plain.capacity
+      ∙ ap (λ kept. record a { kept = kept }) (sym plain.kept)
+
+  seeing_none : (tags : List T) → seeing eq tags a ≡ a
+  seeing_none tags = ap (λ n. if n == 0 then a else record a { seen = with_tags eq a.seen tags }) plain.capacity
+
+  pub never_over : is_over a ≡ false
+  never_over = le-ltb a.limit (length a.seen) (let empty : length a.seen ≡ 0 = ap length plain.seen in omega (arith, empty))
+
+module _ {S T : Type 0} (eq : T → T → Bool) (m : PolicyModel T S) (s : Machine S T) (h : ℕ) where
+  after_outs_none : (look : Look T) (answer : Result (Outs T) Stop) (a : Account T) → IsUncached a → after_outs eq m s h look answer a ≡ a
+  after_outs_none look (Ok outs) a plain =
+      ap (λ kept. seeing eq (outs.pc ∷ outs.result ∷ []) kept) (keeping_none eq a plain (key_of eq m s h look))
+      ∙ seeing_none eq a plain (outs.pc ∷ outs.result ∷ [])
+  after_outs_none look (Err why) a plain = refl
+
+  after_rule_none : (found : Result (Look T) Stop) (a : Account T) → IsUncached a → after_rule eq m s h found a ≡ a
+  after_rule_none (Ok look) a plain = after_outs_none look (allowed m s h look) a plain
+  after_rule_none (Err why) a plain = refl
+
+  after_service_none : (job : Result (Option (Job T)) Stop) (a : Account T) → IsUncached a → after_service eq m s h job a ≡ a
+  after_service_none (Ok (Some job)) a plain = seeing_none eq a plain (written_tags job)
+  after_service_none (Ok None) a plain = refl
+  after_service_none (Err why) a plain = refl
+
+  look_missed : (found : Result (Look T) Stop) (a : Account T) → IsUncached a → (n : ℕ) × (after_look eq m s h found a ≡ record a { misses = n })
+  look_missed (Ok look) a plain = (counted a.misses, looked_up_missed eq a plain (key_of eq m s h look))
+  look_missed (Err why) a plain = (a.misses, refl)
+
+  abbrev turned : Account T → ℕ → Account T
+  turned account turns = record account { turns = counted turns }
+
+  -- only the look-up and the turn are counted
+  settled_account : (a b : Account T) → IsUncached b → look_counted eq m s h a ≡ b → accounted eq m s h a ≡ record b { turns = counted a.turns }
+  unfolding accounted
+  settled_account a b plain looked =
+      ap (λ c. turned (after_service eq m s h (job_at m s h) (after_rule eq m s h (prepared m s h) c)) a.turns) looked
+      ∙ ap (λ c. turned (after_service eq m s h (job_at m s h) c) a.turns) (after_rule_none (prepared m s h) b plain)
+      ∙ ap (λ c. turned c a.turns) (after_service_none (job_at m s h) b plain)
+
+  pub look_counted_missed : (a : Account T) (look : Look T) → IsUncached a → prepared m s h ≡ Ok look → look_counted eq m s h a ≡ record a { misses = counted a.misses }
+  unfolding look_counted
+  look_counted_missed a look plain looked = ap (λ found. after_look eq m s h found a) looked ∙ looked_up_missed eq a plain (key_of eq m s h look)
+
+  look_counted_none : (a : Account T) (why : Stop) → prepared m s h ≡ Err why → look_counted eq m s h a ≡ a
+  unfolding look_counted
+  look_counted_none a why looked = ap (λ found. after_look eq m s h found a) looked
+
+  pub accounted_missed : (a : Account T) (look : Look T) → IsUncached a → prepared m s h ≡ Ok look
+      → accounted eq m s h a ≡ record a { misses = counted a.misses; turns = counted a.turns }
+  accounted_missed a look plain looked =
+      settled_account a (record a { misses = counted a.misses }) (record { capacity = plain.capacity; seen = plain.seen; kept = plain.kept })
+      (look_counted_missed a look plain looked)
+
+  pub accounted_checked : (a : Account T) (why : Stop) → IsUncached a → prepared m s h ≡ Err why → accounted eq m s h a ≡ record a { turns = counted a.turns }
+  accounted_checked a why plain looked = settled_account a a plain (look_counted_none a why looked)
+
+  -- whatever the turn came to
+  pub look_counted_plain : (a : Account T) → IsUncached a → (n : ℕ) × (look_counted eq m s h a ≡ record a { misses = n })
+  unfolding look_counted
+  look_counted_plain a plain = look_missed (prepared m s h) a plain
+
+  pub accounted_plain : (a : Account T) → IsUncached a → (n : ℕ) × (accounted eq m s h a ≡ record a { misses = n; turns = counted a.turns })
+  accounted_plain a plain =
+      let looked = look_counted_plain a plain in
+      (looked.0, settled_account a (record a { misses = looked.0 }) (record { capacity = plain.capacity; seen = plain.seen; kept = plain.kept }) looked.1)
+
+-- ---- any account: a turn leaves the halt, and counts itself once
+
+either_halt : {T : Type 0} (halt : Option Halt) (test : Bool) (x y : Account T) → x.halt ≡ halt → y.halt ≡ halt → (if test then x else y).halt ≡ halt
+either_halt halt true x y first second = first
+either_halt halt false x y first second = second
+
+seeing_halt : {T : Type 0} (eq : T → T → Bool) (tags : List T) (a : Account T) → (seeing eq tags a).halt ≡ a.halt
+seeing_halt eq tags a = either_halt a.halt (a.capacity == 0) a (record a { seen = with_tags eq a.seen tags }) refl refl
+
+looked_up_halt : {T : Type 0} (eq : T → T → Bool) (key : Key T) (a : Account T) → (looked_up eq key a).halt ≡ a.halt
+looked_up_halt eq key a = either_halt a.halt (is_kept eq key a) (record a { hits = counted a.hits }) (record a { misses = counted a.misses }) refl refl
+
+module _ {S T : Type 0} (eq : T → T → Bool) (m : PolicyModel T S) (s : Machine S T) (h : ℕ) where
+  after_look_halt : (found : Result (Look T) Stop) (a : Account T) → (after_look eq m s h found a).halt ≡ a.halt
+  after_look_halt (Ok look) a = looked_up_halt eq (key_of eq m s h look) a
+  after_look_halt (Err why) a = refl
+
+  after_outs_halt : (look : Look T) (answer : Result (Outs T) Stop) (a : Account T) → (after_outs eq m s h look answer a).halt ≡ a.halt
+  after_outs_halt look (Ok outs) a = seeing_halt eq (outs.pc ∷ outs.result ∷ []) (keeping eq (key_of eq m s h look) a)
+  after_outs_halt look (Err why) a = refl
+
+  after_rule_halt : (found : Result (Look T) Stop) (a : Account T) → (after_rule eq m s h found a).halt ≡ a.halt
+  after_rule_halt (Ok look) a = after_outs_halt look (allowed m s h look) a
+  after_rule_halt (Err why) a = refl
+
+  after_service_halt : (job : Result (Option (Job T)) Stop) (a : Account T) → (after_service eq m s h job a).halt ≡ a.halt
+  after_service_halt (Ok (Some job)) a = seeing_halt eq (written_tags job) a
+  after_service_halt (Ok None) a = refl
+  after_service_halt (Err why) a = refl
+
+  look_counted_halt : (a : Account T) → (look_counted eq m s h a).halt ≡ a.halt
+  unfolding look_counted
+  look_counted_halt a = after_look_halt (prepared m s h) a
+
+  pub accounted_halt : (a : Account T) → (accounted eq m s h a).halt ≡ a.halt
+  unfolding accounted
+  accounted_halt a =
+      after_service_halt (job_at m s h) (after_rule eq m s h (prepared m s h) (look_counted eq m s h a))
+      ∙ after_rule_halt (prepared m s h) (look_counted eq m s h a)
+      ∙ look_counted_halt a
+
+  pub accounted_turns : (a : Account T) → (accounted eq m s h a).turns ≡ counted a.turns
+  unfolding accounted
+  accounted_turns a = refl

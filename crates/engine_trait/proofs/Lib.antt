@@ -1,0 +1,4 @@
+pub mod AccountLemmas
+pub mod MachineLemmas
+pub mod StepLemmas
+pub mod TurnLemmas

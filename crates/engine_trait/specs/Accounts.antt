@@ -1,0 +1,133 @@
+-- The account of an engine: the tags that have words, the keys of kept rules, the counts, and why it is stopped as a whole.
+use Rattle.std.specs.Prelude.{◌≡◌, ℕ, ◌+◌, ◌-◌, ◌^◌, ◌==◌, Bool, ◌&&◌, not, min, nat_lt, List, [], ◌∷◌, ◌++◌, filter, length, map, take, Option, Some, None, Result, Ok, Err, if◌then◌else◌}
+use Rattle.std.specs.List.{list_any}
+use Rattle.rv_decode.specs.contracts.groups.GroupPartialEq.TheImpl.{eq-value}
+use Rattle.rv_decode.specs.declared.groups.Group.{Group}
+use Rattle.policy_trait.specs.Model.{PolicyModel, masked}
+use Rattle.policy_trait.specs.declared.rules.Ins.{Ins}
+use Rattle.policy_trait.specs.declared.rules.Outs.{Outs}
+use Rattle.policy_trait.specs.declared.services.Answer.{Answer}
+use Rattle.monitor_calls.specs.Service.{Job}
+use Rattle.turn_steps.specs.declared.look.Look.{Look}
+use Rattle.turn_steps.specs.declared.stop.Stop.{Stop}
+use Rattle.engine_trait.specs.Machine.{Machine}
+use Rattle.engine_trait.specs.Turn.{allowed, job_at, prepared}
+use Rattle.engine_trait.specs.declared.ends.Counts.{Counts}
+use Rattle.engine_trait.specs.declared.ends.Halt.{Halt}
+
+-- whether two groups are the same
+abbrev pub group_eq : Group → Group → Bool
+group_eq = eq-value.it
+
+-- what a rule is looked up by: the group and the five tags, each input that the policy ignores made plain
+pub record Key (T : Type 0) : Type 0 where
+  pub group : Group
+  pub inputs : Ins T
+
+pub record Account (T : Type 0) : Type 0 where
+  -- the tags that have words, in the order of their first appearance, and how many may have
+  pub seen : List T
+  pub limit : ℕ
+  -- the keys of the rules that are kept, the most recent first, and how many may be. With a capacity of 0 there are no
+  -- words, no limit and no kept rules.
+  pub kept : List (Key T)
+  pub capacity : ℕ
+  pub turns : ℕ
+  pub hits : ℕ
+  pub misses : ℕ
+  pub halt : Option Halt
+
+-- the account of an engine that keeps no rules: no tag has a word
+pub record IsUncached {T : Type 0} (account : Account T) : Type 0 where
+  pub capacity : account.capacity ≡ 0
+  pub seen : account.seen ≡ []
+  pub kept : account.kept ≡ []
+
+-- what an engine tells of its counts
+abbrev pub counts_of : {T : Type 0} → Account T → Counts
+counts_of account = record { turns = account.turns; hits = account.hits; misses = account.misses }
+
+-- a count that stands still at its type's end
+abbrev pub counted : ℕ → ℕ
+counted n = min (n + 1) (2 ^ 64 - 1)
+
+-- an engine that keeps no rules, at the start
+abbrev pub plain_account : {T : Type 0} → Account T
+plain_account = record { seen = []; limit = 0; kept = []; capacity = 0; turns = 0; hits = 0; misses = 0; halt = None }
+
+module _ {T : Type 0} (eq : T → T → Bool) where
+  -- a tag that is new goes to the end
+  abbrev pub with_tag : List T → T → List T
+  with_tag seen tag = if list_any (eq tag) seen then seen else seen ++ tag ∷ []
+
+  abbrev pub with_tags : List T → List T → List T
+  with_tags seen [] = seen
+  with_tags seen (tag ∷ tags) = with_tags (with_tag seen tag) tags
+
+  abbrev pub same_inputs : Ins T → Ins T → Bool
+  same_inputs x y = eq x.pc y.pc && eq x.ci y.ci && eq x.t1 y.t1 && eq x.t2 y.t2 && eq x.tm y.tm
+
+  abbrev pub same_key : Key T → Key T → Bool
+  same_key x y = group_eq x.group y.group && same_inputs x.inputs y.inputs
+
+  abbrev pub is_kept : Key T → Account T → Bool
+  is_kept key account = list_any (same_key key) account.kept
+
+  -- a look-up is a hit or a miss
+  abbrev pub looked_up : Key T → Account T → Account T
+  looked_up key account =
+      if is_kept key account then record account { hits = counted account.hits } else record account { misses = counted account.misses }
+
+  -- the key goes to the front, and the last one goes where there are too many
+  abbrev pub keeping : Key T → Account T → Account T
+  keeping key account =
+      record account { kept = take account.capacity (key ∷ filter (λ other. not (same_key key other)) account.kept) }
+
+  -- the tags have words from now on
+  abbrev pub seeing : List T → Account T → Account T
+  seeing tags account = if account.capacity == 0 then account else record account { seen = with_tags account.seen tags }
+
+-- the tags that a service writes: those of its range, ascending, and that of its answer
+abbrev pub answer_tags : {T : Type 0} → Option (Answer T) → List T
+answer_tags None = []
+answer_tags (Some answer) = answer.tag ∷ []
+
+abbrev pub written_tags : {T : Type 0} → Job T → List T
+written_tags job = map (λ word. word.2) job.words ++ answer_tags job.plan.answer
+
+module _ {S T : Type 0} (eq : T → T → Bool) (m : PolicyModel T S) (s : Machine S T) (h : ℕ) where
+  abbrev pub key_of : Look T → Key T
+  key_of look = record { group = look.group; inputs = masked (m.ignores s.policy look.group) (m.plain s.policy) look.inputs }
+
+  -- each turn that comes to its rule looks it up once
+  abbrev pub after_look : Result (Look T) Stop → Account T → Account T
+  after_look (Ok look) account = looked_up eq (key_of look) account
+  after_look (Err why) account = account
+
+  -- an allowed rule is kept, and its outputs have words
+  abbrev pub after_outs : Look T → Result (Outs T) Stop → Account T → Account T
+  after_outs look (Ok outs) account = seeing eq (outs.pc ∷ outs.result ∷ []) (keeping eq (key_of look) account)
+  after_outs look (Err why) account = account
+
+  abbrev pub after_rule : Result (Look T) Stop → Account T → Account T
+  after_rule (Ok look) account = after_outs look (allowed m s h look) account
+  after_rule (Err why) account = account
+
+  -- the tags that a served service writes have words
+  abbrev pub after_service : Result (Option (Job T)) Stop → Account T → Account T
+  after_service (Ok (Some job)) account = seeing eq (written_tags job) account
+  after_service (Ok None) account = account
+  after_service (Err why) account = account
+
+  -- the account after the look-up of a turn, if it came to one
+  unfoldable pub look_counted : Account T → Account T
+  look_counted account = after_look (prepared m s h) account
+
+  -- the account after a turn that is made
+  unfoldable pub accounted : Account T → Account T
+  accounted account =
+      record (after_service (job_at m s h) (after_rule (prepared m s h) (look_counted account))) { turns = counted account.turns }
+
+-- more tags have words than may have
+abbrev pub is_over : {T : Type 0} → Account T → Bool
+is_over account = nat_lt account.limit (length account.seen)

@@ -1,0 +1,62 @@
+//! Laws of the definitions, for callers that reason about turns and steps.
+
+ghost use Rattle.std.specs.Prelude.{◌≡◌, ◌≢◌, ℕ, ◌<◌, ◌≤◌, List, false, true, length};
+ghost use Rattle.engine_trait.specs.Accounts.{IsUncached};
+ghost use Rattle.engine_trait.specs.Events.{event_of, retired};
+ghost use Rattle.engine_trait.specs.Laws.{FollowsTurn, HasPlainZero, RunsOut, StaysIdle, StaysMachine, is_made};
+ghost use Rattle.engine_trait.specs.Machine.{IsMachine, Machine, is_ready_in};
+ghost use Rattle.engine_trait.specs.Standing.{Standing, step};
+ghost use Rattle.engine_trait.specs.Turn.{turn_of};
+
+use crate::ends::TurnEnd;
+use policy_trait::Policy;
+
+/// A turn leaves a sound machine, with as many harts, as much memory and the same plain tag, under any policy; before
+/// and after it x0 of each hart is 0 and plain, and each pc a multiple of 4. The function does nothing.
+pub fn turn_law<P: Policy>()
+    ensures stays { (s : Machine P P.Tag) (feed : List ℕ) (h : ℕ)
+        → P.holds s.policy → IsMachine P.model s
+        → StaysMachine P.model s (turn_of P.model s feed h).machine }
+    ensures holds { (s : Machine P P.Tag) (feed : List ℕ) (h : ℕ)
+        → P.holds s.policy → IsMachine P.model s
+        → P.holds (turn_of P.model s feed h).machine.policy }
+    ensures zero { (s : Machine P P.Tag) (h : ℕ) → IsMachine P.model s → h < length s.core.harts
+        → HasPlainZero P.model s h }
+{}
+
+/// The turn of a number that is no hart's, or of a hart that has stopped, changes nothing, and its event has not
+/// retired. The function does nothing.
+pub fn idle_law<P: Policy>()
+    ensures absent { (s : Machine P P.Tag) (h : ℕ) → length s.core.harts ≤ h
+        → is_ready_in s.core h ≡ false }
+    ensures idle { (s : Machine P P.Tag) (feed : List ℕ) (h : ℕ) → is_ready_in s.core h ≡ false
+        → turn_of P.model s feed h ≡ record { machine = s; feed = feed; ended = TurnEnd.Idle } }
+    ensures event { (s : Machine P P.Tag) (feed : List ℕ) (h : ℕ) → is_ready_in s.core h ≡ false
+        → retired (event_of P.model s feed h) ≡ false }
+{}
+
+/// A step in which the hart had its turn is the machine's turn, counted, and the engine runs on; a step that ran out of
+/// tag words, and an idle one, is the defined one; there is no other. The function does nothing.
+pub fn step_law<P: Policy>()
+    ensures made { (e : Standing P P.Tag) (feed : List ℕ) (h : ℕ)
+        → is_made (step P.Tag.eq P.model e feed h).ended ≡ true
+        → FollowsTurn P.Tag.eq P.model e feed h (step P.Tag.eq P.model e feed h) }
+    ensures out { (e : Standing P P.Tag) (feed : List ℕ) (h : ℕ)
+        → (step P.Tag.eq P.model e feed h).ended ≡ TurnEnd.TagsOut
+        → RunsOut P.Tag.eq P.model e feed h (step P.Tag.eq P.model e feed h) }
+    ensures idle { (e : Standing P P.Tag) (feed : List ℕ) (h : ℕ)
+        → (step P.Tag.eq P.model e feed h).ended ≡ TurnEnd.Idle
+        → StaysIdle P.Tag.eq P.model e feed h (step P.Tag.eq P.model e feed h) }
+    ensures memory { (e : Standing P P.Tag) (feed : List ℕ) (h : ℕ)
+        → (step P.Tag.eq P.model e feed h).ended ≢ TurnEnd.Memory }
+{}
+
+/// An engine that keeps no rules is never out of tag words, has no hit, and keeps none. The function does nothing.
+pub fn plain_law<P: Policy>()
+    ensures in_words { (e : Standing P P.Tag) (feed : List ℕ) (h : ℕ) → IsUncached e.account
+        → (step P.Tag.eq P.model e feed h).ended ≢ TurnEnd.TagsOut }
+    ensures stays { (e : Standing P P.Tag) (feed : List ℕ) (h : ℕ) → IsUncached e.account
+        → IsUncached (step P.Tag.eq P.model e feed h).standing.account }
+    ensures hits { (e : Standing P P.Tag) (feed : List ℕ) (h : ℕ) → IsUncached e.account
+        → (step P.Tag.eq P.model e feed h).standing.account.hits ≡ e.account.hits }
+{}
