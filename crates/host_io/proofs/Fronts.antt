@@ -1,14 +1,105 @@
--- Fronts of what is put.
-use Rattle.std.proofs.Common.{◌≡◌, ℕ, List, [], Option, Some, None, refl, ap, sym, append-nil}
+-- Bytes on a sink: fronts of what is put, on the way to all of it.
+use Rattle.std.proofs.Common.{◌≡◌, ℕ, List, [], ◌++◌, Option, Some, None, IfSome, refl, ap, sym, ◌∙◌, append-nil, append_assoc}
 use Rattle.std.specs.Io.KnownBytes.{append_known}
-use Rattle.host_io.specs.Fronts.{TakesFront}
+use Rattle.host_io.specs.Fronts.{SoFar, TakesAll, TakesFront}
 
 -- no byte more is known as nothing more
 pub append_known-nil : (known : Option (List ℕ)) → append_known known [] ≡ known
 append_known-nil None = refl
 append_known-nil (Some bytes) = ap Some (append-nil bytes)
 
--- where nothing was taken, a front was: the empty one
+pub append_known-append : (known : Option (List ℕ)) (front rest : List ℕ) →
+    append_known (append_known known front) rest ≡ append_known known (front ++ rest)
+append_known-append None front rest = refl
+append_known-append (Some bytes) front rest = ap Some (append_assoc bytes front rest)
+
+-- where nothing was taken, nothing due was all of it, and of anything due a front was: the empty one
+pub takes_nothing : (known : Option (List ℕ)) → TakesAll known known []
+takes_nothing known = sym (append_known-nil known)
+
 pub takes_none : (known : Option (List ℕ)) (bytes : List ℕ) → TakesFront known known bytes
 takes_none known bytes =
     (bytes, record { front = []; taken = sym (append_known-nil known); complete = refl })
+
+-- all of it is a front
+pub all_is_front : (old new : Option (List ℕ)) (bytes : List ℕ) → TakesAll old new bytes →
+    TakesFront old new bytes
+all_is_front old new bytes all =
+    ([], record { front = bytes; taken = all; complete = append-nil bytes })
+
+-- nothing yet
+pub begins : (start : Option (List ℕ)) (whole : List ℕ) → SoFar start start whole whole
+begins start whole =
+    record { front = []; taken = sym (append_known-nil start); complete = refl }
+
+-- a piece more
+pub goes_on : (start now new : Option (List ℕ)) (piece rest whole : List ℕ) →
+    SoFar start now (piece ++ rest) whole → TakesAll now new piece → SoFar start new rest whole
+goes_on start now new piece rest whole so_far takes = record {
+  front = so_far.front ++ piece;
+  taken =
+      takes
+      ∙ ap (λ known. append_known known piece) so_far.taken
+      ∙ append_known-append start so_far.front piece;
+  complete = append_assoc so_far.front piece rest ∙ so_far.complete;
+}
+
+-- cut within a piece
+pub is_cut : (start now new : Option (List ℕ)) (piece rest whole : List ℕ) →
+    SoFar start now (piece ++ rest) whole → TakesFront now new piece → TakesFront start new whole
+is_cut start now new piece rest whole so_far cut = (
+  cut.0 ++ rest,
+  record {
+    front = so_far.front ++ cut.1.front;
+    taken =
+        cut.1.taken
+        ∙ ap (λ known. append_known known cut.1.front) so_far.taken
+        ∙ append_known-append start so_far.front cut.1.front;
+    complete =
+        append_assoc so_far.front cut.1.front (cut.0 ++ rest)
+        ∙ ap (λ tail. so_far.front ++ tail) (sym (append_assoc cut.1.front cut.0 rest))
+        ∙ ap (λ whole_piece. so_far.front ++ (whole_piece ++ rest)) cut.1.complete
+        ∙ so_far.complete;
+  },
+)
+
+-- all of it
+pub is_whole : (start now : Option (List ℕ)) (whole : List ℕ) → SoFar start now [] whole →
+    TakesAll start now whole
+is_whole start now whole so_far =
+    so_far.taken ∙ ap (append_known start) (sym (append-nil so_far.front) ∙ so_far.complete)
+
+-- all of a first part, and all or a front of a second one
+pub all_then_all : (start now new : Option (List ℕ)) (first second : List ℕ) →
+    TakesAll start now first → TakesAll now new second → TakesAll start new (first ++ second)
+all_then_all start now new first second one two =
+    two
+    ∙ ap (λ known. append_known known second) one
+    ∙ append_known-append start first second
+
+pub all_then_front : (start now new : Option (List ℕ)) (first second : List ℕ) →
+    TakesAll start now first → TakesFront now new second → TakesFront start new (first ++ second)
+all_then_front start now new first second one two =
+    is_cut start now new second [] (first ++ second)
+    (record {
+      front = first;
+      taken = one;
+      complete = ap (λ rest. first ++ rest) (append-nil second);
+    })
+    two
+
+-- a front of a first part is one of more
+pub front_of_more : (start now : Option (List ℕ)) (first second : List ℕ) →
+    TakesFront start now first → TakesFront start now (first ++ second)
+front_of_more start now first second cut =
+    is_cut start start now first second (first ++ second) (begins start (first ++ second)) cut
+
+-- what holds of each value holds of the one that is told
+pub if_some_all : {A : Type 0} (told : Option A) (Q : A → Type 0) → ((x : A) → Q x) → IfSome told Q
+if_some_all None Q each = tt
+if_some_all (Some x) Q each = each x
+
+pub if_some_each : {A : Type 0} (told : Option A) (P Q : A → Type 0) → ((x : A) → P x → Q x) →
+    IfSome told P → IfSome told Q
+if_some_each None P Q each p = tt
+if_some_each (Some x) P Q each p = each x p

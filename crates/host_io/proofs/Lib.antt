@@ -1,4 +1,5 @@
 pub mod Fronts
 pub mod HeldLemmas
+pub mod PieceLemmas
 pub mod Reading
 pub mod Supplies

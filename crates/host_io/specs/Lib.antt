@@ -1,5 +1,8 @@
 pub mod Fronts
 pub mod Causes
+pub mod Pieces
+pub mod TwoSinks
+pub mod Outside
 pub mod FaultPlan
 pub mod Supply
 pub mod Held

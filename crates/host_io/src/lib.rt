@@ -6,6 +6,7 @@
 //! count is kept as a `u64` that stands still at 2^64 - 1.
 #![tactic(auto)]
 
+mod law;
 mod memory;
 mod system;
 #[cfg(test)]
@@ -13,6 +14,7 @@ mod tests;
 mod traits;
 mod whole_input;
 
+pub use law::pieces_law;
 pub use memory::mem_files::MemFiles;
 pub use memory::mem_sink::MemSink;
 pub use memory::mem_source::MemSource;

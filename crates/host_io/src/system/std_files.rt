@@ -1,5 +1,6 @@
 // Files over a file system of std.
 ghost use Rattle.std.specs.Prelude.{◌≡◌, ◌≢◌, ◌<◌, ◌≤◌, length, None, Err, IfOk, IfSome, vec_len};
+ghost use Rattle.std.specs.IoError.{error_kind};
 ghost use Rattle.host_io.specs.Causes.{LoadCause, count_after};
 
 use crate::{Files, LoadFile};
@@ -99,9 +100,11 @@ fn read_within<R: Read + Drop>(alloc: Global, reader: R, limit: usize) -> Result
     Ok(bytes)
 }
 
-// What an error of the system means for a load.
+// What an error of the system means for a load: want of memory is told as such, and any other error
+// is a fault.
 fn load_end(error: &io::Error) -> LoadFile
-    ensures { result ≢ LoadFile.TooLong }
+    ensures memory { error_kind error.now ≡ ErrorKind.OutOfMemory → result ≡ LoadFile.Memory }
+    ensures failed { error_kind error.now ≢ ErrorKind.OutOfMemory → result ≡ LoadFile.Failed }
 {
     match error.kind() {
         ErrorKind::OutOfMemory => LoadFile::Memory,
