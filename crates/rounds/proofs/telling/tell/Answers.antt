@@ -1,0 +1,32 @@
+use Rattle.std.proofs.Common.{rules, Some, ◌≡◌}
+use Rattle.tag_text.specs.Texts.{stop_line}
+use Rattle.host_io.proofs.PieceLemmas.{put_on_err, put_on_out, whole_on_err, whole_on_out}
+use Rattle.rounds.proofs.telling.tell.Goals as goal
+
+pub returns-in-Ran-Some-clause-puts : goal.returns-in-Ran-Some-clause-puts
+returns-in-Ran-Some-clause-puts g c =
+    let some : c.in-Ran-Some.field-0 ≡ Some c.in-Ran-Some.byte = rw c.in-Ran-Some.is at c.in-Ran-Some.field-0-is in
+    rw (c.in-Ran-Some.is, some)
+    (put_on_out (g.K.Sink.taken c.args.out.now) (g.K.Sink.taken c.put.new.self) (g.L.Sink.taken c.args.err.now) _ c.put.result
+    c.put.ensures.ok c.put.ensures.failed c.put.ensures.memory)
+
+pub returns-in-Ran-Some-clause-whole : goal.returns-in-Ran-Some-clause-whole
+returns-in-Ran-Some-clause-whole g c =
+    let some : c.in-Ran-Some.field-0 ≡ Some c.in-Ran-Some.byte = rw c.in-Ran-Some.is at c.in-Ran-Some.field-0-is in
+    rw (c.in-Ran-Some.is, some)
+    (whole_on_out (g.K.Sink.taken c.args.out.now) (g.K.Sink.taken c.put.new.self) (g.L.Sink.taken c.args.err.now) _ c.put.result
+    c.put.ensures.ok c.put.ensures.memory)
+
+pub returns-in-Stopped-clause-puts : goal.returns-in-Stopped-clause-puts
+returns-in-Stopped-clause-puts g c =
+    let text : c.deref.result.now ≡ stop_line c.args.h c.in-Stopped.why = search (rules, c.deref.ensures.0, c.write_stop_line.ensures, c.new-line.ensures) in
+    let puts = put_on_err (g.L.Sink.taken c.args.err.now) (g.L.Sink.taken c.put-in-Stopped.new.self) (g.K.Sink.taken c.args.out.now) _ c.put-in-Stopped.result
+    c.put-in-Stopped.ensures.ok c.put-in-Stopped.ensures.failed c.put-in-Stopped.ensures.memory in
+    rw (c.in-Stopped.is, ← text) puts
+
+pub returns-in-Stopped-clause-whole : goal.returns-in-Stopped-clause-whole
+returns-in-Stopped-clause-whole g c =
+    let text : c.deref.result.now ≡ stop_line c.args.h c.in-Stopped.why = search (rules, c.deref.ensures.0, c.write_stop_line.ensures, c.new-line.ensures) in
+    let whole = whole_on_err (g.L.Sink.taken c.args.err.now) (g.L.Sink.taken c.put-in-Stopped.new.self) (g.K.Sink.taken c.args.out.now) _ c.put-in-Stopped.result
+    c.put-in-Stopped.ensures.ok c.put-in-Stopped.ensures.memory in
+    rw (c.in-Stopped.is, ← text) whole

@@ -1,0 +1,19 @@
+// What holds of rounds.
+ghost use Rattle.std.specs.Prelude.{◌≡◌, ℕ, ◌≤◌, List, length, map};
+ghost use Rattle.engine_trait.specs.Runs.{run_along, turn};
+ghost use Rattle.engine_trait.specs.Standing.{Standing};
+ghost use Rattle.rounds.specs.Course.{rounds, trace_of};
+
+use policy_trait::Policy;
+
+/// The machine, the feed and the events of rounds are those of the run along the list of their
+/// counted turns, of which there are at most so many as were asked for. So what holds of every run
+/// of the machine holds of rounds. The function does nothing.
+pub fn rounds_law<P: Policy>()
+    ensures run { (limit from : ℕ) (e : Standing P P.Tag) (feed : List ℕ) →
+        trace_of (rounds P.Tag.eq P.model limit from e feed)
+        ≡ run_along P.model e.machine feed
+        (map turn (rounds P.Tag.eq P.model limit from e feed).order) }
+    ensures few { (limit from : ℕ) (e : Standing P P.Tag) (feed : List ℕ) →
+        length (rounds P.Tag.eq P.model limit from e feed).order ≤ limit }
+{}

@@ -1,0 +1,11 @@
+//! Rounds of turns over all harts of an engine, with what each turn shows on two sinks.
+#![tactic(auto)]
+
+mod law;
+mod running;
+mod stops;
+mod telling;
+
+pub use law::rounds_law;
+pub use running::{RoundsEnd, make_rounds};
+pub use stops::stops_of;

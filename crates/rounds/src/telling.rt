@@ -1,0 +1,40 @@
+// What a turn shows.
+ghost use Rattle.std.specs.Prelude.{◌≡◌, ◌≢◌, true, Err, OnErr};
+ghost use Rattle.host_io.specs.Fronts.{TakesAll, TakesFront};
+ghost use Rattle.host_io.specs.Pieces.{Puts, PutsFirst};
+ghost use Rattle.host_io.specs.TwoSinks.{PutsCause};
+ghost use Rattle.engine_trait.specs.Laws.{is_made};
+ghost use Rattle.rounds.specs.Shown.{shown_by};
+
+use engine_trait::{Stop, TurnEnd};
+use host_io::{PutEnd, Sink};
+use pump_words::Line;
+use tag_text::write_stop_line;
+
+/// Tells what a turn of hart `h` that ended so shows.
+pub(crate) fn tell<K: Sink, L: Sink>(
+    h: u32,
+    end: TurnEnd,
+    out: &mut K,
+    err: &mut L,
+) -> Result<(), PutEnd>
+    ensures puts { Puts (record { out = K.taken out.old; err = L.taken err.old })
+        (record { out = K.taken out.new; err = L.taken err.new }) (shown_by h end) result }
+    ensures whole { result ≢ Err PutEnd.Failed
+        → PutsFirst (record { out = K.taken out.old; err = L.taken err.old })
+        (record { out = K.taken out.new; err = L.taken err.new }) (shown_by h end) }
+    // Only a turn that was made shows something.
+    ensures made { OnErr result (is_made end ≡ true) }
+    ensures cause { PutsCause (record { out = K.faults out.old; err = L.faults err.old })
+        (record { out = K.faults out.new; err = L.faults err.new }) result }
+{
+    match end {
+        TurnEnd::Ran(Some(byte)) => out.put(&[byte]),
+        TurnEnd::Stopped(why) => {
+            let mut line = Line::new();
+            write_stop_line(&mut line, h, why);
+            err.put(&line)
+        }
+        _ => Ok(()),
+    }
+}
