@@ -101,7 +101,7 @@ run_asks : Asks built_run
 unfolding built_run pump_app run_shape request_by run_in
 run_asks words fine =
     let given = given_if (is_given (codes "image") (rows_after built_run.rules [] words)) false (level_needs built_run words fine) in
-    some_mapped _ _ (given_has_value (codes "image") built_run.rules [] words refl given)
+    some_mapped _ _ (some_mapped _ _ (given_has_value (codes "image") built_run.rules [] words refl given))
 
 all_ask : AllAsk (built pump_app).subs
 unfolding built_run pump_app run_shape

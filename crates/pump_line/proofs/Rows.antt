@@ -6,19 +6,19 @@ use Rattle.clap.specs.Words.{Text}
 use Rattle.clap.specs.declared.error.kind.ErrorKind.TheVariants.{ArgumentConflict, InvalidSubcommand, InvalidValue, MissingRequiredArgument, MissingSubcommand, UnknownArgument}
 use Rattle.pump_line.specs.Line.{faults_of, match_of, pump_app, run_shape}
 use Rattle.pump_line.specs.Request.{request_by, request_of, run_in}
-use Rattle.pump_line.specs.Task.{RunTask, task_in, task_of}
+use Rattle.pump_line.specs.Task.{Task, run, run_task_in, task_of}
 
 -- what computes on words that are written out
 unfoldable on_rows : ⊤
-unfolding clap_on_literals faults_of match_of pump_app run_shape request_by request_of run_in task_in task_of
+unfolding clap_on_literals faults_of match_of pump_app run_shape request_by request_of run_in run_task_in task_of
 on_rows = tt
 
 -- a line after the program's name
 abbrev line : List Text → List Text
 line words = codes "pump" ∷ words
 
-abbrev run_of : Text → Bool → ℕ → RunTask
-run_of image seal turns = record { image = image; seal = seal; turns = turns }
+abbrev run_of : Text → Bool → ℕ → Task
+run_of image seal turns = run (record { image = image; choice = record { seal = seal }; turns = turns })
 
 -- ---- lines that ask for a run
 

@@ -10,6 +10,10 @@ pub record RunRequest : Type 0 where
   pub policy : Option Text
   pub turns : Option Text
 
+-- what a line asks for, a case for each subcommand
+pub data Request : Type 0 where
+  run_asked : RunRequest → Request
+
 unfoldable pub run_in : List Row → Option RunRequest
 run_in rows = option_map (λ image. record {
   image = image;
@@ -18,16 +22,16 @@ run_in rows = option_map (λ image. record {
 }) (first_of (codes "image") rows)
 
 -- the request that a subcommand's name and rows make
-unfoldable pub request_by : Text → List Row → Option RunRequest
-request_by name rows = if bytes_eq name (codes "run") then run_in rows else None
+unfoldable pub request_by : Text → List Row → Option Request
+request_by name rows = if bytes_eq name (codes "run") then option_map run_asked (run_in rows) else None
 
-abbrev pub request_at : Option (Text × List Row) → Option RunRequest
+abbrev pub request_at : Option (Text × List Row) → Option Request
 request_at = option_and_then (λ found. request_by found.0 found.1)
 
-abbrev pub unless_faulty : Kinds → Option RunRequest → Option RunRequest
+abbrev pub unless_faulty : Kinds → Option Request → Option Request
 unless_faulty [] request = request
 unless_faulty (kind ∷ more) request = None
 
 -- what the words ask for; `None` where `clap` names a fault
-unfoldable pub request_of : List Text → Option RunRequest
+unfoldable pub request_of : List Text → Option Request
 request_of words = unless_faulty (faults_of words) (request_at (match_of words))

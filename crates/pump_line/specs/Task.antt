@@ -1,26 +1,30 @@
 -- What a line asks for, its values read.
-use Rattle.std.specs.Prelude.{ℕ, Bool, true, false, ◌&&◌, List, length, nat_le, codes, Option, Some, None, if◌then◌else◌}
+use Rattle.std.specs.Prelude.{ℕ, Bool, false, ◌&&◌, List, length, nat_le, Option, Some, None, if◌then◌else◌}
 use Rattle.std.specs.Prelude.{option_and_then, option_map}
-use Rattle.std.specs.Str.{all_ascii_digits, bytes_eq}
+use Rattle.std.specs.Str.{all_ascii_digits}
 use Rattle.std.specs.Str.Parse.{digits_value}
 use Rattle.clap.specs.Words.{Text}
-use Rattle.pump_line.specs.Request.{RunRequest, request_of}
+use Rattle.policy_product.specs.Choice.{choice_of}
+use Rattle.policy_product.specs.declared.choice.Choice.{Choice}
+use Rattle.pump_line.specs.Request.{Request, RunRequest, request_of, run_asked}
 
--- a `run`: the image's name, whether sealing is on, and the most turns
+-- a `run`: the image's name, the policies that are chosen, and the most turns
 pub record RunTask : Type 0 where
   pub image : Text
-  pub seal : Bool
+  pub choice : Choice
   pub turns : ℕ
 
--- the list of policies that a text names, as whether sealing is in it
-abbrev pub policy_of : Text → Option Bool
-policy_of list = if bytes_eq list (codes "none") then Some false
-    else if bytes_eq list (codes "seal") then Some true else None
+-- what `pump` is asked to do, a case for each subcommand
+pub data Task : Type 0 where
+  run : RunTask → Task
 
 -- no policy where the option is not on the line
-abbrev pub seal_of : Option Text → Option Bool
-seal_of None = Some false
-seal_of (Some list) = policy_of list
+abbrev pub no_policy : Choice
+no_policy = record { seal = false }
+
+abbrev pub choice_in : Option Text → Option Choice
+choice_in None = Some no_policy
+choice_in (Some list) = choice_of list
 
 -- 1 to 10 decimal digits and nothing else
 abbrev pub is_number : Text → Bool
@@ -46,16 +50,19 @@ abbrev pub turns_of : Option Text → Option ℕ
 turns_of None = Some default_turns
 turns_of (Some text) = number_within 1 most_turns text
 
-abbrev pub task_with : Text → Option Bool → Option ℕ → Option RunTask
-task_with image seal turns = option_and_then (λ chosen. option_map (λ limit. record {
+abbrev pub task_with : Text → Option Choice → Option ℕ → Option RunTask
+task_with image choice turns = option_and_then (λ chosen. option_map (λ limit. record {
   image = image;
-  seal = chosen;
+  choice = chosen;
   turns = limit;
-}) turns) seal
+}) turns) choice
 
-unfoldable pub task_in : RunRequest → Option RunTask
-task_in request = task_with request.image (seal_of request.policy) (turns_of request.turns)
+unfoldable pub run_task_in : RunRequest → Option RunTask
+run_task_in request = task_with request.image (choice_in request.policy) (turns_of request.turns)
+
+abbrev pub task_in : Request → Option Task
+task_in (run_asked request) = option_map run (run_task_in request)
 
 -- what the words ask `pump` to do; `None` where they are no command line of it
-unfoldable pub task_of : List Text → Option RunTask
+unfoldable pub task_of : List Text → Option Task
 task_of words = option_and_then task_in (request_of words)

@@ -1,8 +1,10 @@
 -- The words as lists of bytes, and a task as the definitions see it.
 use Rattle.std.specs.Prelude.{ℕ, List, map, Option, option_map, String, string_bytes}
 use Rattle.std.specs.Borrow.{Bor}
-use Rattle.pump_line.specs.Task.{RunTask}
-use Rattle.pump_line.specs.declared.task.Task.{Task}
+use Rattle.pump_line.specs.Task.{RunTask, Task, run}
+use Rattle.pump_line.specs.declared.task.RunTask.{RunTask as RunWords}
+use Rattle.pump_line.specs.declared.task.Task.{Task as TaskWords}
+use Rattle.pump_line.specs.declared.task.Task.TheVariants.{Run}
 
 abbrev pub texts_of : {A : Type 0} → List (String A) → List (List ℕ)
 texts_of words = map string_bytes words
@@ -11,5 +13,8 @@ texts_of words = map string_bytes words
 abbrev pub lent : Option (Bor (List ℕ)) → Option (List ℕ)
 lent = option_map (λ text. text.now)
 
-abbrev pub told : Task → RunTask
-told task = record { image = task.image.now; seal = task.seal; turns = task.turns }
+abbrev pub run_told : RunWords → RunTask
+run_told task = record { image = task.image.now; choice = task.choice; turns = task.turns }
+
+abbrev pub told : TaskWords → Task
+told (Run task) = run (run_told task)

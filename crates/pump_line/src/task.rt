@@ -3,22 +3,30 @@
 ghost use Rattle.std.specs.Prelude.{◌≡◌, ◌≢◌, Some, None, IfOk, IfErr, option_and_then, option_map};
 ghost use Rattle.clap.specs.Words.{first_of, found_of, kind_of, rows_of, subcommand_rows_of};
 ghost use Rattle.pump_line.specs.Request.{request_at, request_by, run_in};
-ghost use Rattle.pump_line.specs.Task.{task_in, task_of};
-ghost use Rattle.pump_line.specs.Told.{lent, texts_of, told};
+ghost use Rattle.pump_line.specs.Task.{run_task_in, task_in, task_of};
+ghost use Rattle.pump_line.specs.Told.{lent, run_told, texts_of, told};
 
 use crate::command::pump_command;
-use crate::values::{read_seal, read_turns};
+use crate::values::{choice_from, read_turns};
 use clap::error::ErrorKind;
 use clap::{ArgMatches, Error};
+use policy_product::Choice;
 use std::alloc::{AllocError, Global};
+
+/// What the words ask for, a case for each subcommand.
+#[derive(Clone, Copy, Debug)]
+pub enum Task<'a> {
+    /// `run`
+    Run(RunTask<'a>),
+}
 
 /// A run that the words ask for.
 #[derive(Clone, Copy, Debug)]
-pub struct Task<'a> {
+pub struct RunTask<'a> {
     /// The name of the image's file; it may be empty.
     pub image: &'a str,
-    /// Whether the sealing policy is on.
-    pub seal: bool,
+    /// The policies that are chosen.
+    pub choice: Choice,
     /// The most turns: 1 to 1,000,000,000.
     pub turns: u64,
 }
@@ -50,14 +58,19 @@ fn text_of<'a>(matches: &ArgMatches<'a>, id: &str) -> Option<&'a str>
 }
 
 /// The run that a match of `run` asks for; `None` where a value is bad.
-#[tactic(auto, unfolding(crate::specs::Request::run_in, crate::specs::Task::task_in))]
-fn run_task<'a>(matches: &ArgMatches<'a>) -> Option<Task<'a>>
-    ensures { option_map told result ≡ option_and_then task_in (run_in (rows_of (found_of matches.now))) }
+#[tactic(auto, unfolding(crate::specs::Request::run_in, crate::specs::Task::run_task_in))]
+fn run_task<'a>(matches: &ArgMatches<'a>) -> Option<RunTask<'a>>
+    ensures { option_map run_told result
+        ≡ option_and_then run_task_in (run_in (rows_of (found_of matches.now))) }
 {
     let image = text_of(matches, "image")?;
-    let seal = read_seal(text_of(matches, "policy"))?;
+    let choice = choice_from(text_of(matches, "policy"))?;
     let turns = read_turns(text_of(matches, "turns"))?;
-    Some(Task { image, seal, turns })
+    Some(RunTask {
+        image,
+        choice,
+        turns,
+    })
 }
 
 /// What a match of the subcommand with this name asks for.
@@ -67,7 +80,7 @@ fn task_named<'a>(name: &str, matches: &ArgMatches<'a>) -> Option<Task<'a>>
         ≡ option_and_then task_in (request_by name.now (rows_of (found_of matches.now))) }
 {
     match name {
-        "run" => run_task(matches),
+        "run" => Some(Task::Run(run_task(matches)?)),
         _ => None,
     }
 }

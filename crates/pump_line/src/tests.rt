@@ -1,4 +1,5 @@
 use super::{Task, WordsEnd, match_law, read_task};
+use policy_product::Choice;
 use std::alloc::{AllocError, Global};
 use std::test::Fail;
 
@@ -13,7 +14,9 @@ fn words_of(alloc: Global, words: &[&str]) -> Result<Vec<String>, AllocError> {
 
 fn is_run(read: Result<Task<'_>, WordsEnd>, image: &str, seal: bool, turns: u64) -> bool {
     match read {
-        Ok(task) => task.image == image && task.seal == seal && task.turns == turns,
+        Ok(Task::Run(task)) => {
+            task.image == image && task.choice == Choice { seal } && task.turns == turns
+        }
         Err(_) => false,
     }
 }

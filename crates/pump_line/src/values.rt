@@ -1,9 +1,10 @@
 //! The values of options.
 
 ghost use Rattle.std.specs.Prelude.{◌≡◌};
-ghost use Rattle.pump_line.specs.Task.{number_within, policy_of, seal_of, turns_of};
+ghost use Rattle.pump_line.specs.Task.{choice_in, number_within, turns_of};
 ghost use Rattle.pump_line.specs.Told.{lent};
 
+use policy_product::{Choice, read_choice};
 use pump_words::read_number;
 
 /// The most turns of a run whose line says nothing of them.
@@ -11,17 +12,6 @@ const DEFAULT_TURNS: u64 = 1_000_000;
 
 /// The most turns that a line can ask for.
 const MOST_TURNS: u64 = 1_000_000_000;
-
-/// Whether the list of policies is `seal` or `none`; `None` where it is neither.
-fn read_policy(list: &str) -> Option<bool>
-    ensures { result ≡ policy_of list.now }
-{
-    match list {
-        "none" => Some(false),
-        "seal" => Some(true),
-        _ => None,
-    }
-}
 
 /// The number from `least` to `most` that the text writes in 1 to 10 decimal digits; `None` for any other text.
 fn read_number_within(text: &str, least: u64, most: u64) -> Option<u64>
@@ -34,13 +24,14 @@ fn read_number_within(text: &str, least: u64, most: u64) -> Option<u64>
     Some(number)
 }
 
-/// Whether sealing is on, from the value of `--policy`: off where the option isn't on the line; `None` for a bad list.
-pub(crate) fn read_seal(list: Option<&str>) -> Option<bool>
-    ensures { result ≡ seal_of (lent list.entry) }
+/// The policies that are chosen, from the value of `--policy`: none where the option isn't on the line; `None` for a bad
+/// list.
+pub(crate) fn choice_from(list: Option<&str>) -> Option<Choice>
+    ensures { result ≡ choice_in (lent list.entry) }
 {
     match list {
-        None => Some(false),
-        Some(list) => read_policy(list),
+        None => Some(Choice { seal: false }),
+        Some(list) => read_choice(list.as_bytes()),
     }
 }
 
