@@ -1,5 +1,5 @@
-pub mod Contents
-pub mod Endings
-pub mod Fronts
-pub mod Statuses
-pub mod Turning
+pub mod Answering
+pub mod Ends
+pub mod Gathering
+pub mod Tasks
+pub mod Ways

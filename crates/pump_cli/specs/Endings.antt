@@ -1,60 +1,64 @@
--- What a run shows on the outside, and how it ended.
-use Rattle.std.specs.Prelude.{ℕ, Bool, true, false, ◌==◌, not, List, [], ◌∷◌, codes, Option, Some, if◌then◌else◌}
-use Rattle.std.specs.List.{flat_map, list_any}
-use Rattle.engine_trait.specs.Events.{Event}
-use Rattle.engine_trait.specs.Runs.{is_ready}
+-- How a run ends: its last line and its status, from why the engine stopped and from the harts' stops.
+use Rattle.std.specs.Prelude.{Bool, true, false, ◌==◌, not, List, [], ◌∷◌, ◌++◌, codes, Option, Some, None, if◌then◌else◌}
+use Rattle.std.specs.List.{list_any}
+use Rattle.host_io.specs.Pieces.{Piece, err}
 use Rattle.turn_steps.specs.declared.stop.Stop.{Stop}
 use Rattle.turn_steps.specs.declared.stop.Stop.TheVariants as stop
-use Rattle.engine_trait.specs.declared.ends.TurnEnd.{TurnEnd}
-use Rattle.engine_trait.specs.declared.ends.TurnEnd.TheVariants as ends
-use Rattle.pump_cli.specs.Texts.{line, stop_line}
+use Rattle.engine_trait.specs.declared.ends.Halt.{Halt}
+use Rattle.engine_trait.specs.declared.ends.Halt.TheVariants as halt
+use Rattle.rounds.specs.Course.{Course, hart_stops}
+use Rattle.rounds.specs.Shown.{pieces_of}
+use Rattle.tag_text.specs.Texts.{line}
+use Rattle.pump_cli.specs.declared.ending.Kind.{Kind}
+use Rattle.pump_cli.specs.declared.ending.Kind.TheVariants.{Violation, Fault, Ready, NonzeroExit}
 use Rattle.pump_cli.specs.declared.status.Status.{Status}
-use Rattle.pump_cli.specs.declared.status.Status.TheVariants.{Done, ExitedNonzero, Violated, Faulted, TurnsSpent}
+use Rattle.pump_cli.specs.declared.status.Status.TheVariants.{Done, ExitedNonzero, Violated, Faulted, TurnsSpent, TagsOut}
 
--- the byte that a turn put out
-abbrev pub put_of_end : TurnEnd → List ℕ
-put_of_end (ends.Ran (Some byte)) = byte ∷ []
-put_of_end _ = []
+-- the pieces on standard output and on standard error, in their order, and the status
+pub record Outcome : Type 0 where
+  pub pieces : List Piece
+  pub status : Status
 
-abbrev pub put_of : {T : Type 0} → Event T → List ℕ
-put_of event = put_of_end event.ended
+-- a violation; a fault; no stop; an exit with another code than 0
+abbrev pub is_of : Kind → Option Stop → Bool
+is_of Violation (Some (stop.Violation part why pc)) = true
+is_of Fault (Some (stop.Fault fault)) = true
+is_of Ready None = true
+is_of NonzeroExit (Some (stop.Exit code)) = not (code == 0)
+is_of _ _ = false
 
--- the line of a turn that stopped its hart
-abbrev pub line_of_end : ℕ → TurnEnd → List ℕ
-line_of_end h (ends.Stopped why) = stop_line h why
-line_of_end h _ = []
+abbrev pub has_any : Kind → List (Option Stop) → Bool
+has_any kind stops = list_any (is_of kind) stops
 
-abbrev pub line_of : {T : Type 0} → Event T → List ℕ
-line_of event = line_of_end event.hart event.ended
-
-abbrev pub puts_of : {T : Type 0} → List (Event T) → List ℕ
-puts_of events = flat_map put_of events
-
-abbrev pub lines_of : {T : Type 0} → List (Event T) → List ℕ
-lines_of events = flat_map line_of events
-
-abbrev pub is_violation : Option Stop → Bool
-is_violation (Some (stop.Violation part why pc)) = true
-is_violation _ = false
-
-abbrev pub is_fault : Option Stop → Bool
-is_fault (Some (stop.Fault fault)) = true
-is_fault _ = false
-
--- an exit with another code than 0
-abbrev pub is_nonzero_exit : Option Stop → Bool
-is_nonzero_exit (Some (stop.Exit code)) = not (code == 0)
-is_nonzero_exit _ = false
+-- the engine ran out of tag words
+abbrev pub is_out : Option Halt → Bool
+is_out (Some halt.TagWords) = true
+is_out (Some halt.Memory) = false
+is_out None = false
 
 -- some hart has a violation, else a fault, else is ready, else exited with another code than 0
-unfoldable pub status_of : List (Option Stop) → Status
-status_of stops =
-    if list_any is_violation stops then Violated else
-    if list_any is_fault stops then Faulted else
-    if list_any is_ready stops then TurnsSpent else
-    if list_any is_nonzero_exit stops then ExitedNonzero else
+unfoldable pub status_of_stops : List (Option Stop) → Status
+status_of_stops stops =
+    if has_any Violation stops then Violated else
+    if has_any Fault stops then Faulted else
+    if has_any Ready stops then TurnsSpent else
+    if has_any NonzeroExit stops then ExitedNonzero else
     Done
 
--- the last line, where the turns ran out with a hart ready
-unfoldable pub last_line : List (Option Stop) → List ℕ
-last_line stops = if list_any is_ready stops then line (codes "turns spent") else []
+-- want of tag words goes before the stops
+abbrev pub status_of : Option Halt → List (Option Stop) → Status
+status_of why stops = if is_out why then TagsOut else status_of_stops stops
+
+-- the last line: the engine is out of tag words, or else the turns ran out with a hart ready
+unfoldable pub last_pieces : Option Halt → List (Option Stop) → List Piece
+last_pieces why stops =
+    if is_out why then err (line (codes "tags out")) ∷ [] else
+    if has_any Ready stops then err (line (codes "turns spent")) ∷ [] else
+    []
+
+-- what the turns show, the last line, and the status
+abbrev pub outcome_of_course : {S T : Type 0} → Course S T → Outcome
+outcome_of_course course =
+    let halt = course.standing.account.halt in
+    let stops = hart_stops course.standing.machine.core in
+    record { pieces = pieces_of course.events ++ last_pieces halt stops; status = status_of halt stops }

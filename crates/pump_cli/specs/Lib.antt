@@ -1,9 +1,10 @@
-pub mod Causes
 pub mod Codes
+pub mod Cuts
+pub mod Early
 pub mod Endings
-pub mod Follows
-pub mod Inputs
-pub mod Kinds
+pub mod Facts
+pub mod Outsides
 pub mod Program
+pub mod Reading
 pub mod Texts
-pub mod Writes
+pub mod Theorem

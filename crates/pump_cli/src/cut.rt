@@ -1,10 +1,11 @@
 ghost use Rattle.std.specs.Prelude.{◌≡◌};
-ghost use Rattle.pump_cli.specs.Causes.{cut_result, status_of_cut};
+ghost use Rattle.pump_cli.specs.Codes.{status_of_cut};
 
 use crate::status::Status;
 use host_io::PutEnd;
+use rounds::RoundsEnd;
 
-/// Why a run was cut short.
+/// Why a call was cut short.
 #[derive(Clone, Copy)]
 pub(crate) enum Cut {
     /// The image's file could not be read.
@@ -13,7 +14,7 @@ pub(crate) enum Cut {
     InputFailed,
     /// A put failed.
     PutFailed,
-    /// Memory ran out.
+    /// Memory ran out: for a put, in the engine, at its start, or for what was read.
     Memory,
 }
 
@@ -31,13 +32,28 @@ impl Cut {
     }
 }
 
-/// The end of a put as a cut of the program.
-pub(crate) fn cut_by(ended: Result<Status, PutEnd>) -> Result<Status, Cut>
-    ensures { result ≡ cut_result ended }
-{
-    match ended {
-        Ok(status) => Ok(status),
-        Err(PutEnd::Failed) => Err(Cut::PutFailed),
-        Err(PutEnd::Memory) => Err(Cut::Memory),
+impl From<PutEnd> for Cut {
+    ghost use Rattle.pump_cli.specs.Cuts.{cut_of_put};
+
+    ghost from_gives = { λ end cut. cut ≡ cut_of_put end };
+
+    fn from(end: PutEnd) -> Cut {
+        match end {
+            PutEnd::Failed => Cut::PutFailed,
+            PutEnd::Memory => Cut::Memory,
+        }
+    }
+}
+
+impl From<RoundsEnd> for Cut {
+    ghost use Rattle.pump_cli.specs.Cuts.{cut_of_rounds};
+
+    ghost from_gives = { λ end cut. cut ≡ cut_of_rounds end };
+
+    fn from(end: RoundsEnd) -> Cut {
+        match end {
+            RoundsEnd::Put(end) => Cut::from(end),
+            RoundsEnd::Engine => Cut::Memory,
+        }
     }
 }

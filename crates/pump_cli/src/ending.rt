@@ -1,22 +1,18 @@
-ghost use Rattle.std.specs.Prelude.{◌≡◌, Bool, false, IfOk};
-ghost use Rattle.std.specs.List.{list_any};
-ghost use Rattle.engine_trait.specs.Runs.{hart_stops, rounds};
+//! The last line of a run, and its status.
+
+ghost use Rattle.std.specs.Prelude.{◌≡◌, ℕ, List, Option, IfOk};
 ghost use Rattle.host_io.specs.Causes.{PutCause};
-ghost use Rattle.pump_cli.specs.Endings.{last_line, status_of};
+ghost use Rattle.host_io.specs.Pieces.{Puts};
+ghost use Rattle.rounds.specs.Course.{rounds};
 ghost use Rattle.pump_cli.specs.Codes.{IsOfRun};
-ghost use Rattle.pump_cli.specs.Kinds.{is_of};
-ghost use Rattle.pump_cli.specs.Follows.{Follows};
-ghost use Rattle.pump_cli.specs.Program.{outcome_of_ran};
-ghost use Rattle.pump_cli.specs.Writes.{PutsCause, Writes};
+ghost use Rattle.pump_cli.specs.Endings.{has_any, is_of, is_out, last_pieces, outcome_of_course, status_of, status_of_stops};
+ghost use Rattle.pump_cli.specs.Facts.{Does, PutsFaultBy};
 
-use crate::running::make_rounds;
+use crate::cut::Cut;
 use crate::status::Status;
-use arrayvec::ArrayVec;
-use engine_trait::{Engine, Feed, Stop};
+use engine_trait::{Engine, Feed, Halt, Stop};
 use host_io::{PutEnd, Sink};
-
-/// The most harts of a machine.
-const MOST_HARTS: usize = 8;
+use rounds::{make_rounds, stops_of};
 
 /// A kind of stop, or none.
 #[derive(Clone, Copy)]
@@ -48,7 +44,7 @@ fn is_of(kind: Kind, stop: Option<Stop>) -> bool
 
 /// Whether some stop is of the kind.
 fn has_any(kind: Kind, stops: &[Option<Stop>]) -> bool
-    ensures { result ≡ list_any (is_of kind) stops.now }
+    ensures { result ≡ has_any kind stops.now }
 {
     for stop in stops {
         if is_of(kind, *stop) {
@@ -58,21 +54,17 @@ fn has_any(kind: Kind, stops: &[Option<Stop>]) -> bool
     false
 }
 
-/// The stops of all harts.
-fn stops_of<E: Engine>(engine: &E) -> ArrayVec<Option<Stop>, MOST_HARTS>
-    ensures { result.items ≡ hart_stops (E.standing engine.now).machine.core }
+/// Whether the engine ran out of tag words.
+fn is_out(halt: Option<Halt>) -> bool
+    ensures { result ≡ is_out halt }
 {
-    let mut stops = ArrayVec::new();
-    for h in 0..engine.harts() {
-        stops.push(engine.stop(h));
-    }
-    stops
+    matches!(halt, Some(Halt::TagWords))
 }
 
-/// The status of a run that ended with these stops.
-#[tactic(auto, unfolding(crate::specs::Endings::status_of))]
-fn status_of(stops: &[Option<Stop>]) -> Status
-    ensures value { result ≡ status_of stops.now }
+/// The status of a run that ended with these stops, of an engine that has tag words left.
+#[tactic(auto, unfolding(crate::specs::Endings::status_of_stops))]
+fn status_of_stops(stops: &[Option<Stop>]) -> Status
+    ensures value { result ≡ status_of_stops stops.now }
     ensures kind { IsOfRun result }
 {
     if has_any(Kind::Violation, stops) {
@@ -88,13 +80,31 @@ fn status_of(stops: &[Option<Stop>]) -> Status
     }
 }
 
-/// Tells that the turns ran out, where a hart is ready.
-#[tactic(auto, unfolding(crate::specs::Endings::last_line), using(crate::proofs::Fronts::takes_nothing))]
-fn tell_last<L: Sink>(stops: &[Option<Stop>], err: &mut L) -> Result<(), PutEnd>
-    ensures err { Writes (L.taken err.old) (L.taken err.new) (last_line stops.now) result }
+/// The status of a run that ended with these stops and for this reason.
+fn status_of(halt: Option<Halt>, stops: &[Option<Stop>]) -> Status
+    ensures value { result ≡ status_of halt stops.now }
+    ensures kind { IsOfRun result }
+{
+    if is_out(halt) {
+        Status::TagsOut
+    } else {
+        status_of_stops(stops)
+    }
+}
+
+/// Tells that the engine ran out of tag words, or else that the turns ran out with a hart ready.
+#[tactic(auto, unfolding(crate::specs::Endings::last_pieces))]
+fn tell_last<L: Sink>(halt: Option<Halt>, stops: &[Option<Stop>], err: &mut L) -> Result<(), PutEnd>
+    ensures told { (out : Option (List ℕ)) → Puts
+        (record { out = out; err = L.taken err.old })
+        (record { out = out; err = L.taken err.new }) (last_pieces halt stops.now) result }
     ensures cause { PutCause (L.faults err.old) (L.faults err.new) result }
 {
-    if has_any(Kind::Ready, stops) {
+    if is_out(halt) {
+        return err.put(b"tags out\n");
+    }
+    let is_spent = has_any(Kind::Ready, stops);
+    if is_spent {
         return err.put(b"turns spent\n");
     }
     Ok(())
@@ -107,14 +117,19 @@ pub(crate) fn run_engine<E: Engine, K: Sink, L: Sink>(
     feed: &mut Feed,
     out: &mut K,
     err: &mut L,
-) -> Result<Status, PutEnd>
-    requires running { (E.standing engine.old).account.out ≡ false }
-    ensures follows { Follows (outcome_of_ran (rounds E.P.model limit 0 (E.standing engine.old).machine feed.old)) (K.taken out.old) (K.taken out.new) (L.taken err.old) (L.taken err.new) result }
-    ensures cause { PutsCause (K.faults out.old) (K.faults out.new) (L.faults err.old) (L.faults err.new) result }
+) -> Result<Status, Cut>
+    ensures does { Does
+        (outcome_of_course (rounds E.P.Tag.eq E.P.model limit 0 (E.standing engine.old) feed.old))
+        (record { out = K.taken out.old; err = L.taken err.old })
+        (record { out = K.taken out.new; err = L.taken err.new }) result }
+    ensures faults { PutsFaultBy
+        (record { out = K.faults out.old; err = L.faults err.old })
+        (record { out = K.faults out.new; err = L.faults err.new }) result }
     ensures kind { IfOk result IsOfRun }
 {
     make_rounds(limit, engine, feed, out, err)?;
     let stops = stops_of(engine);
-    tell_last(&stops, err)?;
-    Ok(status_of(&stops))
+    let halt = engine.halt();
+    tell_last(halt, &stops, err)?;
+    Ok(status_of(halt, &stops))
 }

@@ -4,9 +4,9 @@
 mod cut;
 mod ending;
 mod program;
-mod running;
+mod reading;
+mod refusal;
 mod status;
-mod telling;
 #[cfg(test)]
 mod tests;
 mod texts;

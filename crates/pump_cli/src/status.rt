@@ -18,6 +18,8 @@ pub enum Status {
     Faulted,
     /// The turns ran out with a hart ready.
     TurnsSpent,
+    /// The engine ran out of tag words.
+    TagsOut,
     /// The image's file could not be read.
     ReadFailed,
     /// A read of the input failed.
@@ -43,6 +45,7 @@ impl Status {
             Status::Violated => 4,
             Status::Faulted => 5,
             Status::TurnsSpent => 6,
+            Status::TagsOut => 7,
             Status::ReadFailed => 8,
             Status::InputFailed => 9,
             Status::PutFailed => 10,

@@ -9,14 +9,15 @@ use std::alloc::{AllocError, Global};
 use std::process::Abort;
 use std::test::Fail;
 
-/// What a call of the program finds outside: the file of the name "image", the input, and the numbers of the reads and of
-/// the puts on standard output that fail.
+/// What a call of the program finds outside: the file of the name "image", the input, and the numbers of the reads, of the
+/// puts on standard output and of those on standard error that fail.
 #[derive(Clone, Copy)]
 struct Outside<'a> {
     image: &'a [u8],
     input: &'a [u8],
     failing_reads: &'a [u64],
     failing_puts: &'a [u64],
+    failing_tells: &'a [u64],
 }
 
 /// The bytes on standard output and standard error, and the status.
@@ -53,7 +54,7 @@ fn ran(alloc: Global, words: &[&str], outside: Outside<'_>) -> Result<Wrote, All
     let reads = outside.failing_reads.to_vec(alloc)?;
     let mut input = MemSource::new(outside.input.to_vec(alloc)?, reads);
     let mut out = MemSink::new(alloc, outside.failing_puts.to_vec(alloc)?);
-    let mut err = MemSink::new(alloc, Vec::new(alloc));
+    let mut err = MemSink::new(alloc, outside.failing_tells.to_vec(alloc)?);
     let status = pump(alloc, &texts, &mut files, &mut input, &mut out, &mut err);
     Ok(Wrote {
         out: out.bytes().to_vec(alloc)?,
@@ -115,6 +116,7 @@ fn bad_lines_are_refused(rt: HostRuntime) -> Result<(), Fail> {
         input: b"abc",
         failing_reads: &[],
         failing_puts: &[],
+        failing_tells: &[],
     };
     for words in refused {
         check(&rt, words, outside, BAD_WORDS, 3)?;
@@ -134,6 +136,7 @@ fn check_image<R: Abort + AllocGlobal>(
         input: b"abc",
         failing_reads: &[],
         failing_puts: &[],
+        failing_tells: &[],
     };
     check(rt, &["pump", "run", "image"], outside, expected, left)
 }
@@ -192,6 +195,7 @@ fn the_input_has_a_limit(rt: HostRuntime) -> Result<(), Fail> {
             input,
             failing_reads: &[],
             failing_puts: &[],
+            failing_tells: &[],
         };
         check(&rt, &["pump", "run", "image"], outside, expected, 0)?;
     }
@@ -245,6 +249,7 @@ fn check_run<R: Abort + AllocGlobal>(rt: &R, run: Run<'_>) -> Result<(), Fail> {
         input: run.input,
         failing_reads: &[],
         failing_puts: &[],
+        failing_tells: &[],
     };
     check(rt, &words, outside, run.expected, 0)
 }
@@ -507,6 +512,7 @@ fn failures_of_the_outside_end_the_program(rt: HostRuntime) -> Result<(), Fail> 
         input: b"abc",
         failing_reads: &[],
         failing_puts: &[1],
+        failing_tells: &[],
     };
     let failing_read = Outside {
         failing_reads: &[0],
@@ -529,6 +535,33 @@ fn failures_of_the_outside_end_the_program(rt: HostRuntime) -> Result<(), Fail> 
         refused(b"", Status::ReadFailed),
         3,
     )
+}
+
+// The first put on err fails: the line of a stop, after two bytes on out, and a refusal.
+#[test]
+fn a_failing_put_on_err_ends_the_program(rt: HostRuntime) -> Result<(), Fail> {
+    let program = Program {
+        entries: &[0],
+        ram: 256,
+        words: &[0x0410_0513, 0x0010_0893, 0x73, 0x73],
+    };
+    let image = image_of(rt.alloc(), program)?;
+    let failing_tell = Outside {
+        image: &image,
+        input: b"abc",
+        failing_reads: &[],
+        failing_puts: &[],
+        failing_tells: &[0],
+    };
+    let put_twice = Expected {
+        out: b"AA",
+        err: b"",
+        status: Status::PutFailed,
+    };
+    let run: &[&str] = &["pump", "run", "image"];
+    check(&rt, run, failing_tell, put_twice, 0)?;
+    let told = refused(b"", Status::PutFailed);
+    check(&rt, &["pump"], failing_tell, told, 3)
 }
 
 /// Copies its input: the program of `examples/filter.txt`, as those below are of the examples with their names.

@@ -6,7 +6,8 @@ use Rattle.policy_trait.specs.Model.{PolicyModel}
 use Rattle.tag_memory.specs.Hart.{HartState, fresh_hart}
 use Rattle.tag_memory.specs.Ram.{RamState}
 use Rattle.engine_trait.specs.Machine.{Machine, fresh_core}
-use Rattle.engine_trait.specs.Standing.{Standing, fresh_account}
+use Rattle.engine_trait.specs.Accounts.{plain_account}
+use Rattle.engine_trait.specs.Standing.{Standing}
 use Rattle.tag_loader.specs.Births.{birth_of}
 
 -- words put over those from a place on
@@ -44,4 +45,4 @@ module _ {S T : Type 0} (m : PolicyModel T S) (policy : S) (g : Picture) where
   start_machine = record { policy = policy; core = fresh_core start_harts start_ram }
 
   abbrev pub start_standing : Standing S T
-  start_standing = record { machine = start_machine; account = fresh_account }
+  start_standing = record { machine = start_machine; account = plain_account }

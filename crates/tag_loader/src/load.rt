@@ -1,21 +1,21 @@
-ghost use Rattle.std.specs.Prelude.{◌≡◌, ◌≢◌, Err, IfOk};
+ghost use Rattle.std.specs.Prelude.{◌≡◌, ◌≢◌, Err, IfOk, false, true};
+ghost use Rattle.engine_trait.specs.Accounts.{is_over};
 
 use crate::start::start_under;
 use engine_trait::{LoadEnd, Loader};
 use image_format::Image;
 use plain_engine::Plain;
-use policy_product::Maybe;
-use sealing_policy::Sealing;
+use policy_product::{All, Choice, choose};
 use std::alloc::Global;
 use std::marker::Model;
 
-/// The start of an image, under sealing or under no policy, on the engine that asks its policy at every turn. It can be
-/// made again and again.
+/// The start of an image under the chosen policies, on the engine that asks them at every turn. It can be made again and
+/// again.
 #[derive(Drop)]
 pub struct PlainLoad<'a> {
     alloc: Global,
     image: &'a Image,
-    seal: bool,
+    choice: Choice,
 }
 
 impl<'a> Model for PlainLoad<'a> {
@@ -23,36 +23,37 @@ impl<'a> Model for PlainLoad<'a> {
 
     ghost Value = { Load };
 
-    ghost view = { λ l. record { image = l.image.now; seal = l.seal } };
+    ghost view = { λ l. record { image = l.image.now; choice = l.choice } };
 }
 
 impl<'a> PlainLoad<'a> {
-    /// The start of this image, under sealing where `seal` is set.
-    pub fn new(alloc: Global, image: &'a Image, seal: bool) -> PlainLoad<'a>
-        ensures { result ≡ record { image = image.now; seal = seal } }
+    /// The start of this image under the policies of this choice.
+    pub fn new(alloc: Global, image: &'a Image, choice: Choice) -> PlainLoad<'a>
+        ensures { result ≡ record { image = image.now; choice = choice } }
     {
-        PlainLoad { alloc, image, seal }
+        PlainLoad {
+            alloc,
+            image,
+            choice,
+        }
     }
 }
 
 impl<'a> Loader for PlainLoad<'a> {
     ghost use Rattle.tag_loader.specs.Loads.{start_of_load};
 
-    type E = Plain<Maybe<Sealing>>;
+    type E = Plain<All>;
 
     ghost start = { start_of_load };
 
-    fn load(&self) -> Result<Plain<Maybe<Sealing>>, LoadEnd>
+    fn load(&self) -> Result<Plain<All>, LoadEnd>
         ensures start { IfOk result (λ engine. engine ≡ start_of_load self.now) }
+        ensures within { IfOk result (λ engine. is_over (start_of_load self.now).account ≡ false) }
+        ensures out { result ≡ Err LoadEnd.TagsOut → is_over (start_of_load self.now).account ≡ true }
         // An engine without tag words does not run out of them.
         ensures memory { result ≢ Err LoadEnd.TagsOut }
     {
-        let part = if self.seal {
-            Some(Sealing::new())
-        } else {
-            None
-        };
-        match start_under(self.alloc, Maybe { part }, self.image) {
+        match start_under(self.alloc, choose(self.choice), self.image) {
             Ok(engine) => Ok(engine),
             Err(_) => Err(LoadEnd::Memory),
         }

@@ -1,4 +1,6 @@
 ghost use Rattle.std.specs.Prelude.{◌≡◌, ◌*◌, ◌≤◌, IfOk, length};
+ghost use Rattle.std.specs.List.{All};
+ghost use Rattle.tag_memory.specs.Hart.{IsHartOf};
 ghost use Rattle.tag_loader.specs.Start.{memory_of, start_harts, start_tags};
 
 use crate::births::birth;
@@ -48,7 +50,9 @@ pub(crate) fn harts_of<P: Policy>(
     image: &Image,
 ) -> Result<Vec<Hart<P::Tag>>, AllocError>
     ensures harts { IfOk result (λ harts. harts.items ≡ start_harts P.model policy.now image.now) }
+    ensures some { IfOk result (λ harts. 1 ≤ length harts.items) }
     ensures few { IfOk result (λ harts. length harts.items ≤ 8) }
+    ensures plain { IfOk result (λ harts. All (IsHartOf (P.model.plain policy.now)) harts.items) }
 {
     let mut harts = Vec::with_capacity(alloc, image.entries().len())?;
     for entry in image.entries() {

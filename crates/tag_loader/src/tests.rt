@@ -2,9 +2,9 @@ use crate::PlainLoad;
 use engine_trait::{Engine, Feed, Loader, Stop, TurnEnd};
 use image_format::read_image;
 use plain_engine::Plain;
-use policy_product::Maybe;
+use policy_product::{All, Choice, choose};
 use rv_step::Fault;
-use sealing_policy::{SealTag, Sealing};
+use sealing_policy::SealTag;
 use std::alloc::{AllocError, Global};
 use std::test::Fail;
 use tag_memory::{Hart, Ram};
@@ -24,15 +24,10 @@ fn file_of(alloc: Global, ram: u32, words: &[u32]) -> Result<Vec<u8>, AllocError
 }
 
 /// The engine at the start of such an image.
-fn engine_of(
-    alloc: Global,
-    ram: u32,
-    words: &[u32],
-    seal: bool,
-) -> Result<Plain<Maybe<Sealing>>, Fail> {
+fn engine_of(alloc: Global, ram: u32, words: &[u32], seal: bool) -> Result<Plain<All>, Fail> {
     let bytes = file_of(alloc, ram, words)?;
     let image = read_image(alloc, &bytes).ok().ok_or("no image")?;
-    let engine = PlainLoad::new(alloc, &image, seal).load().ok();
+    let engine = PlainLoad::new(alloc, &image, Choice { seal }).load().ok();
     Ok(engine.ok_or("no engine")?)
 }
 
@@ -142,7 +137,7 @@ fn a_sealed_value_can_be_moved(rt: HostRuntime) -> Result<(), Fail> {
 }
 
 /// Two harts over one memory: hart 0 at 0 adds 1 to x5 and stores it at 64, hart 1 at 32 loads from there into x6.
-fn two_harts(alloc: Global) -> Result<Plain<Maybe<Sealing>>, AllocError> {
+fn two_harts(alloc: Global) -> Result<Plain<All>, AllocError> {
     let mut ram = Ram::new(alloc, 256, None)?;
     ram.set_word(0, 0x0012_8293);
     ram.set_word(4, 0x0450_2023);
@@ -151,7 +146,7 @@ fn two_harts(alloc: Global) -> Result<Plain<Maybe<Sealing>>, AllocError> {
         Hart::new(alloc, 0, None, None)?,
         Hart::new(alloc, 32, None, None)?,
     ]?;
-    Ok(Plain::new(alloc, Maybe { part: None }, ram, harts))
+    Ok(Plain::new(alloc, choose(Choice { seal: false }), ram, harts))
 }
 
 // One image in two orders of turns: what hart 1 loads depends on whether hart 0 has stored by then.

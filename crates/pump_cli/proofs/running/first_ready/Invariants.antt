@@ -1,8 +1,0 @@
-use Rattle.std.proofs.Common.{◌≡◌, ◌-◌, length}
-use Rattle.engine_trait.specs.Runs.{first_ready}
-use Rattle.pump_cli.proofs.running.first_ready.Given as goal
-
-abbrev pub invariant-loop-h : goal.invariant-loop-h
-invariant-loop-h g l =
-    let core = (g.E.Engine.standing l.engine).machine.core in
-    first_ready core l.h (length core.harts - l.h) ≡ first_ready core l.from (length core.harts - l.from)

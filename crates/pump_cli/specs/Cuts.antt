@@ -1,0 +1,15 @@
+-- Ends of calls below as cuts of the program.
+use Rattle.host_io.specs.declared.traits.sink.PutEnd.{PutEnd}
+use Rattle.host_io.specs.declared.traits.sink.PutEnd.TheVariants as put_end
+use Rattle.rounds.specs.declared.running.RoundsEnd.{RoundsEnd}
+use Rattle.rounds.specs.declared.running.RoundsEnd.TheVariants as rounds_end
+use Rattle.pump_cli.specs.declared.cut.Cut.{Cut}
+use Rattle.pump_cli.specs.declared.cut.Cut.TheVariants as cut
+
+abbrev pub cut_of_put : PutEnd → Cut
+cut_of_put put_end.Failed = cut.PutFailed
+cut_of_put put_end.Memory = cut.Memory
+
+abbrev pub cut_of_rounds : RoundsEnd → Cut
+cut_of_rounds (rounds_end.Put end) = cut_of_put end
+cut_of_rounds rounds_end.Engine = cut.Memory

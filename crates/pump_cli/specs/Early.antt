@@ -1,0 +1,54 @@
+-- Where nothing ran: which counts of faults rose, and what was told.
+use Rattle.std.specs.Prelude.{◌≡◌, ℕ, List, Option, Result, Ok, Err, IfOk}
+use Rattle.host_io.specs.Causes.{Rose, RoseAt}
+use Rattle.pump_cli.specs.Codes.{status_of_refusal}
+use Rattle.pump_cli.specs.Facts.{Does, PutsFaultBy}
+use Rattle.pump_cli.specs.Program.{refused}
+use Rattle.pump_cli.specs.declared.cut.Cut.{Cut}
+use Rattle.pump_cli.specs.declared.cut.Cut.TheVariants as cut
+use Rattle.pump_cli.specs.declared.reading.EarlyEnd.{EarlyEnd}
+use Rattle.pump_cli.specs.declared.reading.EarlyEnd.TheVariants as early_end
+use Rattle.pump_cli.specs.declared.refusal.Refusal.{Refusal}
+use Rattle.pump_cli.specs.declared.refusal.Refusal.TheVariants as refusal
+use Rattle.pump_cli.specs.declared.status.Status.{Status}
+
+-- the count of the named file rises where its load failed, and every other answer leaves all counts
+abbrev pub ReadRoseBy : {A : Type 0} → (List ℕ → ℕ) → (List ℕ → ℕ) → List ℕ → Result A EarlyEnd → Type 0
+ReadRoseBy before now name (Ok _) = now ≡ before
+ReadRoseBy before now name (Err (early_end.Refused refusal)) = now ≡ before
+ReadRoseBy before now name (Err (early_end.Cut cut.ReadFailed)) = RoseAt before now name
+ReadRoseBy before now name (Err (early_end.Cut cut.InputFailed)) = ⊥
+ReadRoseBy before now name (Err (early_end.Cut cut.PutFailed)) = ⊥
+ReadRoseBy before now name (Err (early_end.Cut cut.Memory)) = now ≡ before
+
+-- the input's count rises where a read failed, and every other answer leaves it
+abbrev pub InputRoseBy : {A : Type 0} → ℕ → ℕ → Result A EarlyEnd → Type 0
+InputRoseBy before now (Ok _) = now ≡ before
+InputRoseBy before now (Err (early_end.Refused refusal)) = now ≡ before
+InputRoseBy before now (Err (early_end.Cut cut.ReadFailed)) = ⊥
+InputRoseBy before now (Err (early_end.Cut cut.InputFailed)) = Rose before now
+InputRoseBy before now (Err (early_end.Cut cut.PutFailed)) = ⊥
+InputRoseBy before now (Err (early_end.Cut cut.Memory)) = now ≡ before
+
+-- a refusal that a file can meet
+abbrev pub IsOfFile : Refusal → Type 0
+IsOfFile refusal.BadWords = ⊥
+IsOfFile (refusal.BadImage error) = Unit {0}
+IsOfFile refusal.TooLong = Unit {0}
+
+-- The refusal is told on standard error, which ends the program, whatever standard output has taken beside it.
+pub record Tells (refusal : Refusal) (err_before err_after : Option (List ℕ)) (before after : ℕ) (result : Result Status Cut) : Type 0 where
+  pub does : (out : Option (List ℕ)) → Does (refused refusal) (record { out = out; err = err_before }) (record { out = out; err = err_after }) result
+  pub faults : (out : ℕ) → PutsFaultBy (record { out = out; err = before }) (record { out = out; err = after }) result
+  pub status : IfOk result (λ status. status ≡ status_of_refusal refusal)
+
+-- nothing is told, and the call is cut short
+pub record IsCut (cut : Cut) (err_before err_after : Option (List ℕ)) (before after : ℕ) (result : Result Status Cut) : Type 0 where
+  pub ends : result ≡ Err cut
+  pub err : err_after ≡ err_before
+  pub faults : after ≡ before
+
+-- an early end
+abbrev pub EndsEarly : EarlyEnd → Option (List ℕ) → Option (List ℕ) → ℕ → ℕ → Result Status Cut → Type 0
+EndsEarly (early_end.Refused refusal) err_before err_after before after result = Tells refusal err_before err_after before after result
+EndsEarly (early_end.Cut cut) err_before err_after before after result = IsCut cut err_before err_after before after result

@@ -1,0 +1,32 @@
+-- What `pump` promises: a record of named facts over the outside before and after the call.
+use Rattle.std.specs.Prelude.{◌≡◌, ◌≢◌, Option, None, IfSome}
+use Rattle.host_io.specs.Outside.{Outside}
+use Rattle.host_io.specs.Pieces.{PutsFront}
+use Rattle.pump_line.specs.Task.{Task}
+use Rattle.pump_cli.specs.Codes.{IsFinal, IsOfRefusal, IsSilent}
+use Rattle.pump_cli.specs.Endings.{Outcome}
+use Rattle.pump_cli.specs.Facts.{AllStayed, FaultBy, Finishes, TaskFacts, name_in}
+use Rattle.pump_cli.specs.declared.status.Status.{Status}
+use Rattle.pump_cli.specs.declared.status.Status.TheVariants.{BadWords, Memory}
+
+-- `due` is what the definition of the program says, where the content that it rests on is told; `task` is what the words ask
+-- for.
+pub record Answers {I : Type 0} (due : Option Outcome) (task : Option Task) (status : Status) (before after : Outside I) : Type 0 where
+  -- No fault and no want of memory: all the pieces that are due, in their order, and the status that is.
+  pub exact : IsFinal status → IfSome due (λ outcome. Finishes outcome before.taken after.taken status)
+  -- In any case a front of these pieces: the first ones as a whole, of the next one at most a front, and nothing more.
+  pub front : IfSome due (λ outcome. PutsFront before.taken after.taken outcome.pieces)
+  -- Where no count of faults rose, nothing but want of memory stands in the way of that.
+  pub complete : AllStayed before.faults after.faults → status ≢ Memory → IsFinal status
+  -- Where a count rose the status is that count's: no fault is passed over, and none is made up.
+  pub faults : FaultBy (name_in task) status before.faults after.faults
+  -- Words are refused for themselves alone.
+  pub bad_words : status ≡ BadWords → task ≡ None
+  -- Nothing is written where the load or a read of the input failed, and nothing on standard output where something was
+  -- refused.
+  pub silent : IsSilent status → after.taken ≡ before.taken
+  pub no_out : IsOfRefusal status → after.taken.out ≡ before.taken.out
+  -- No name changes what it holds.
+  pub held : after.held ≡ before.held
+  -- What the subcommand does to files and to the input.
+  pub asked : TaskFacts task status before after

@@ -1,0 +1,91 @@
+//! What is read before a run: the image's file and the whole input.
+
+ghost use Rattle.std.specs.Prelude.{◌≡◌, ◌+◌, Ok, Err, IfOk, IfSome, IsTrue, OnOk};
+ghost use Rattle.host_io.specs.Causes.{count_after};
+ghost use Rattle.host_io.specs.Fronts.{LosesFront};
+ghost use Rattle.image_format.specs.Reading.{image_of};
+ghost use Rattle.pump_cli.specs.Early.{InputRoseBy, IsOfFile, ReadRoseBy};
+ghost use Rattle.pump_cli.specs.Reading.{file_read, image_or_refusal, input_limit, input_read};
+ghost use Rattle.pump_cli.specs.declared.cut.Cut.{Cut};
+ghost use Rattle.pump_cli.specs.declared.refusal.Refusal.{Refusal};
+
+use crate::cut::Cut;
+use crate::refusal::Refusal;
+use host_io::{Files, LoadFile, ReadEnd, Source, read_to_end};
+use image_format::{Image, ImageEnd, read_image};
+use std::alloc::Global;
+
+/// The most bytes of an image's file.
+const FILE_LIMIT: usize = 33_554_432;
+
+/// The most bytes of the input.
+const INPUT_LIMIT: usize = 16_777_216;
+
+/// Why nothing runs.
+#[derive(Clone, Copy)]
+pub(crate) enum EarlyEnd {
+    /// The task is refused.
+    Refused(Refusal),
+    /// The call is cut short.
+    Cut(Cut),
+}
+
+/// The image of the file of this name.
+pub(crate) fn load_image<F: Files>(
+    alloc: Global,
+    files: &mut F,
+    name: &str,
+) -> Result<Image, EarlyEnd>
+    ensures taken { IfOk result (λ image. IfSome (F.held files.old name.now) (λ bytes.
+        file_read bytes ≡ Ok image)) }
+    ensures refused { (refusal : Refusal) → result ≡ Err (EarlyEnd.Refused refusal) →
+        IfSome (F.held files.old name.now) (λ bytes. file_read bytes ≡ Err refusal) }
+    ensures of_file { (refusal : Refusal) → result ≡ Err (EarlyEnd.Refused refusal) →
+        IsOfFile refusal }
+    ensures faults { ReadRoseBy (F.read_faults files.old) (F.read_faults files.new) name.now result }
+    ensures calls { F.calls files.new ≡ count_after (F.calls files.old) }
+    ensures held { F.held files.new ≡ F.held files.old }
+{
+    match files.load(alloc, name, FILE_LIMIT) {
+        Ok(bytes) => image_of(alloc, &bytes),
+        Err(LoadFile::TooLong) => Err(EarlyEnd::Refused(Refusal::TooLong)),
+        Err(LoadFile::Failed) => Err(EarlyEnd::Cut(Cut::ReadFailed)),
+        Err(LoadFile::Memory) => Err(EarlyEnd::Cut(Cut::Memory)),
+    }
+}
+
+/// The image that these bytes spell.
+fn image_of(alloc: Global, bytes: &[u8]) -> Result<Image, EarlyEnd>
+    ensures taken { IfOk result (λ image. image_or_refusal (image_of bytes.now) ≡ Ok image) }
+    ensures refused { (refusal : Refusal) → result ≡ Err (EarlyEnd.Refused refusal) →
+        image_or_refusal (image_of bytes.now) ≡ Err refusal }
+    ensures of_file { (refusal : Refusal) → result ≡ Err (EarlyEnd.Refused refusal) →
+        IsOfFile refusal }
+    ensures cut { (cut : Cut) → result ≡ Err (EarlyEnd.Cut cut) → cut ≡ Cut.Memory }
+{
+    match read_image(alloc, bytes) {
+        Ok(image) => Ok(image),
+        Err(ImageEnd::Bad(error)) => Err(EarlyEnd::Refused(Refusal::BadImage(error))),
+        Err(ImageEnd::Memory) => Err(EarlyEnd::Cut(Cut::Memory)),
+    }
+}
+
+/// The whole input.
+#[tactic(auto, unfolding(crate::specs::Reading::input_limit))]
+pub(crate) fn read_input<S: Source>(alloc: Global, input: &mut S) -> Result<Vec<u8>, EarlyEnd>
+    ensures taken { IfOk result (λ fed. IfSome (S.left input.old) (λ all.
+        input_read all ≡ Ok fed.items)) }
+    ensures refused { (refusal : Refusal) → result ≡ Err (EarlyEnd.Refused refusal) →
+        IfSome (S.left input.old) (λ all. input_read all ≡ Err refusal) }
+    ensures long { (refusal : Refusal) → result ≡ Err (EarlyEnd.Refused refusal) → refusal ≡ Refusal.TooLong }
+    ensures closed { OnOk result (IsTrue (S.closed input.new)) }
+    ensures moved { LosesFront (S.left input.old) (S.left input.new) (input_limit + 4096) }
+    ensures faults { InputRoseBy (S.faults input.old) (S.faults input.new) result }
+{
+    match read_to_end(alloc, input, INPUT_LIMIT) {
+        Ok(fed) => Ok(fed),
+        Err(ReadEnd::TooLong) => Err(EarlyEnd::Refused(Refusal::TooLong)),
+        Err(ReadEnd::Failed) => Err(EarlyEnd::Cut(Cut::InputFailed)),
+        Err(ReadEnd::Memory) => Err(EarlyEnd::Cut(Cut::Memory)),
+    }
+}
