@@ -78,6 +78,7 @@ impl<T: Copy> Core<T> {
         requires { h < length self.now.harts }
         ensures { result ≡ stop_at self.now h }
     {
+        // Serves the proof alone: what reads the harts knows the invariant, that there are at most as many as stops.
         let _harts = &self.harts;
         self.stops[h as usize]
     }
@@ -119,6 +120,7 @@ impl<T: Copy> Core<T> {
         requires { h < length self.old.harts }
         ensures { self.new ≡ stopping self.old h why }
     {
+        // Serves the proof alone: what reads the harts knows the invariant, that there are at most as many as stops.
         let _harts = &self.harts;
         self.stops[h as usize] = Some(why);
     }

@@ -18,6 +18,7 @@ pub(crate) fn start_under<P: Policy>(
     requires { P.model.room policy ≤ image.now.ram }
     ensures { IfOk result (λ engine. engine ≡ start_standing P.model policy image.now) }
 {
+    // Serves the proof alone: memory has 4 to 16,777,216 bytes, a multiple of 4.
     let _ram = image.ram();
     let words = words_of(alloc, image)?;
     let tags = tags_of(alloc, &policy, image)?;
