@@ -1,8 +1,9 @@
 -- The operation group of an instruction, and where it has its operands and its result: the table of groups of this project's profile, one line an instruction.
 -- A group of ECALL is told by a7, the number of the service that is called.
-use Rattle.std.specs.Prelude.{ℕ, ◌==◌, if◌then◌else◌, Some, None, true, false}
+use Rattle.std.specs.Prelude.{ℕ, ◌==◌, if◌then◌else◌, Option, Some, None, true, false}
 use Rattle.rv_decode.specs.declared.groups.Group.{Group}
 use Rattle.rv_decode.specs.declared.groups.Group.TheVariants as group
+use Rattle.rv_decode.specs.declared.places.Places.{Places}
 use Rattle.rv_decode.specs.declared.places.Reads.{Reads}
 use Rattle.rv_decode.specs.declared.places.Slot.{Slot}
 use Rattle.rv_decode.specs.declared.places.Slot.TheVariants.{Nothing, Reg, Word}
@@ -167,3 +168,21 @@ writes_of (And rd _ _) _ = Reg rd
 writes_of (Fence _) _ = Nothing
 writes_of Ecall service = if service == 2 then Reg a0 else Nothing
 writes_of Ebreak _ = Nothing
+
+-- the same as plain registers: x0, which is 0 and drops what is written, for an operand or a register of the result that there is not
+
+abbrev pub register_or_zero : Option ℕ → ℕ
+register_or_zero None = 0
+register_or_zero (Some r) = r
+
+abbrev pub result_register : Slot → ℕ
+result_register Nothing = 0
+result_register (Reg r) = r
+result_register Word = 0
+
+abbrev pub places_of : Instr → ℕ → Places
+places_of instr service = record {
+  first = register_or_zero (reads_of instr).t1;
+  second = register_or_zero (reads_of instr).t2;
+  result = result_register (writes_of instr service);
+}

@@ -12,42 +12,49 @@ use crate::fields::{
 };
 use crate::instructions::Instr;
 
+#[inline(always)]
 fn rd(word: u32) -> Register
     ensures { result ≡ rd_of word }
 {
     Register::of_bits(field(word, 7, 5))
 }
 
+#[inline(always)]
 fn rs1(word: u32) -> Register
     ensures { result ≡ rs1_of word }
 {
     Register::of_bits(field(word, 15, 5))
 }
 
+#[inline(always)]
 fn rs2(word: u32) -> Register
     ensures { result ≡ rs2_of word }
 {
     Register::of_bits(field(word, 20, 5))
 }
 
+#[inline(always)]
 fn f7(word: u32) -> u32
     ensures { result ≡ f7_of word }
 {
     field(word, 25, 7)
 }
 
+#[inline(always)]
 fn immediate(word: u32) -> Immediate
     ensures { result ≡ immediate_of word }
 {
     Immediate::of_bits(field(word, 20, 12))
 }
 
+#[inline(always)]
 fn store_offset(word: u32) -> Immediate
     ensures { result ≡ store_offset_of word }
 {
     Immediate::of_bits(field(word, 7, 5) | (field(word, 25, 7) << 5))
 }
 
+#[inline(always)]
 fn branch_offset(word: u32) -> BranchOffset
     ensures { result ≡ branch_offset_of word }
 {
@@ -59,12 +66,14 @@ fn branch_offset(word: u32) -> BranchOffset
     )
 }
 
+#[inline(always)]
 fn upper_immediate(word: u32) -> UpperImmediate
     ensures { result ≡ upper_immediate_of word }
 {
     UpperImmediate::of_bits(field(word, 12, 20))
 }
 
+#[inline(always)]
 fn jump_offset(word: u32) -> JumpOffset
     ensures { result ≡ jump_offset_of word }
 {
@@ -76,6 +85,7 @@ fn jump_offset(word: u32) -> JumpOffset
     )
 }
 
+#[inline(always)]
 fn decode_jump_to_register(word: u32) -> Option<Instr>
     ensures { result ≡ jump_to_register_of word }
 {
@@ -89,6 +99,7 @@ fn decode_jump_to_register(word: u32) -> Option<Instr>
     }
 }
 
+#[inline(always)]
 fn decode_branch(word: u32) -> Option<Instr>
     ensures { result ≡ branch_of word }
 {
@@ -106,6 +117,7 @@ fn decode_branch(word: u32) -> Option<Instr>
     }
 }
 
+#[inline(always)]
 fn decode_load(word: u32) -> Option<Instr>
     ensures { result ≡ load_of word }
 {
@@ -122,6 +134,7 @@ fn decode_load(word: u32) -> Option<Instr>
     }
 }
 
+#[inline(always)]
 fn decode_store(word: u32) -> Option<Instr>
     ensures { result ≡ store_of word }
 {
@@ -136,6 +149,7 @@ fn decode_store(word: u32) -> Option<Instr>
     }
 }
 
+#[inline(always)]
 fn decode_shift_up(word: u32) -> Option<Instr>
     ensures { result ≡ shift_up_of word }
 {
@@ -148,6 +162,7 @@ fn decode_shift_up(word: u32) -> Option<Instr>
     }
 }
 
+#[inline(always)]
 fn decode_shift_down(word: u32) -> Option<Instr>
     ensures { result ≡ shift_down_of word }
 {
@@ -161,6 +176,7 @@ fn decode_shift_down(word: u32) -> Option<Instr>
     }
 }
 
+#[inline(always)]
 fn decode_with_immediate(word: u32) -> Option<Instr>
     ensures { result ≡ with_immediate_of word }
 {
@@ -180,6 +196,7 @@ fn decode_with_immediate(word: u32) -> Option<Instr>
     }
 }
 
+#[inline(always)]
 fn decode_with_registers(word: u32) -> Option<Instr>
     ensures { result ≡ with_registers_of word }
 {
@@ -201,6 +218,7 @@ fn decode_with_registers(word: u32) -> Option<Instr>
     }
 }
 
+#[inline(always)]
 fn decode_system(word: u32) -> Option<Instr>
     ensures { result ≡ system_of word }
 {
@@ -215,6 +233,7 @@ fn decode_system(word: u32) -> Option<Instr>
 ///
 /// A FENCE is any word of its opcode with f3 0, reserved forms too, and keeps its other bits: this is
 /// the project's own profile.
+#[inline(always)]
 pub fn decode(word: u32) -> Option<Instr>
     ensures value { result ≡ decoded word }
     ensures exact { (instr : Instr) → (result ≡ Some instr) ↔ Table word instr }
@@ -224,6 +243,7 @@ pub fn decode(word: u32) -> Option<Instr>
 
 // By the opcode, and then by f3 and f7 where the opcode leaves a choice.
 #[tactic(auto, unfolding(crate::specs::Decoding::decoded))]
+#[inline(always)]
 fn decode_fields(word: u32) -> Option<Instr>
     ensures { result ≡ decoded word }
 {

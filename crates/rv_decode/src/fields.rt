@@ -28,6 +28,8 @@ impl Model for Register {
 }
 
 impl Register {
+    /// x0, which is 0 and drops what is written.
+    pub const ZERO: Register = Register { number: 0 };
     /// x10, the first argument and the answer of a service.
     pub const A0: Register = Register { number: 10 };
     /// x17, the number of a service.

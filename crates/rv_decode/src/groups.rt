@@ -56,6 +56,7 @@ pub enum Group {
 
 impl Instr {
     /// The group of the instruction where register a7 holds `a7`, which decides for ECALL alone.
+    #[inline(always)]
     pub fn group(&self, a7: u32) -> Group
         ensures { result ≡ group_of self.now a7 }
     {
@@ -109,6 +110,7 @@ impl Instr {
 }
 
 // The group of an ECALL that finds this number in a7.
+#[inline(always)]
 fn service_group(service: u32) -> Group
     ensures { result ≡ service_group service }
 {

@@ -20,4 +20,4 @@ pub use fields::{
 };
 pub use groups::Group;
 pub use instructions::Instr;
-pub use places::{Reads, Slot};
+pub use places::{Places, Reads, Slot};

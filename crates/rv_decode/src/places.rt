@@ -1,7 +1,7 @@
 //! Where an instruction has its operands and its result.
 
 ghost use Rattle.std.specs.Prelude.{◌≡◌};
-ghost use Rattle.rv_decode.specs.Groups.{reads_of, writes_of};
+ghost use Rattle.rv_decode.specs.Groups.{places_of, reads_of, writes_of};
 
 use crate::fields::Register;
 use crate::instructions::Instr;
@@ -34,6 +34,31 @@ pub enum Slot {
     Reg(Register),
     /// The memory word that holds the access.
     Word,
+}
+
+/// The registers of an instruction's operands and of its result, as a turn takes them: x0, which is 0 and plain and
+/// drops what is written, stands for each that there is not.
+#[derive(Clone, Copy, PartialEq, Eq)]
+pub struct Places {
+    /// The register of the first operand.
+    pub first: Register,
+    /// The register of the second operand.
+    pub second: Register,
+    /// The register of the result.
+    pub result: Register,
+}
+
+impl Places {
+    #[inline(always)]
+    fn new(first: Register, second: Register, rd: Register) -> Places
+        ensures { result ≡ record { first = first; second = second; result = rd } }
+    {
+        Places {
+            first,
+            second,
+            result: rd,
+        }
+    }
 }
 
 impl Instr {
@@ -132,6 +157,64 @@ impl Instr {
                 } else {
                     Slot::Nothing
                 }
+            }
+        }
+    }
+
+    /// The registers of its operands and of its result where register a7 holds `a7`: those that `reads` and `writes`
+    /// give, and x0 for each that there is not.
+    #[inline(always)]
+    pub fn places(&self, a7: u32) -> Places
+        ensures { result ≡ places_of self.now a7 }
+    {
+        match *self {
+            Instr::Lui { rd, .. } | Instr::Auipc { rd, .. } | Instr::Jal { rd, .. } => {
+                Places::new(Register::ZERO, Register::ZERO, rd)
+            }
+            Instr::Jalr { rd, rs1, .. }
+            | Instr::Lb { rd, rs1, .. }
+            | Instr::Lh { rd, rs1, .. }
+            | Instr::Lw { rd, rs1, .. }
+            | Instr::Lbu { rd, rs1, .. }
+            | Instr::Lhu { rd, rs1, .. }
+            | Instr::Addi { rd, rs1, .. }
+            | Instr::Slti { rd, rs1, .. }
+            | Instr::Sltiu { rd, rs1, .. }
+            | Instr::Xori { rd, rs1, .. }
+            | Instr::Ori { rd, rs1, .. }
+            | Instr::Andi { rd, rs1, .. }
+            | Instr::Slli { rd, rs1, .. }
+            | Instr::Srli { rd, rs1, .. }
+            | Instr::Srai { rd, rs1, .. } => Places::new(rs1, Register::ZERO, rd),
+            Instr::Add { rd, rs1, rs2 }
+            | Instr::Sub { rd, rs1, rs2 }
+            | Instr::Sll { rd, rs1, rs2 }
+            | Instr::Slt { rd, rs1, rs2 }
+            | Instr::Sltu { rd, rs1, rs2 }
+            | Instr::Xor { rd, rs1, rs2 }
+            | Instr::Srl { rd, rs1, rs2 }
+            | Instr::Sra { rd, rs1, rs2 }
+            | Instr::Or { rd, rs1, rs2 }
+            | Instr::And { rd, rs1, rs2 } => Places::new(rs1, rs2, rd),
+            Instr::Beq { rs1, rs2, .. }
+            | Instr::Bne { rs1, rs2, .. }
+            | Instr::Blt { rs1, rs2, .. }
+            | Instr::Bge { rs1, rs2, .. }
+            | Instr::Bltu { rs1, rs2, .. }
+            | Instr::Bgeu { rs1, rs2, .. }
+            | Instr::Sb { rs1, rs2, .. }
+            | Instr::Sh { rs1, rs2, .. }
+            | Instr::Sw { rs1, rs2, .. } => Places::new(rs1, rs2, Register::ZERO),
+            Instr::Ecall => {
+                let answer = if a7 == 2 {
+                    Register::A0
+                } else {
+                    Register::ZERO
+                };
+                Places::new(Register::A0, Register::A7, answer)
+            }
+            Instr::Fence { .. } | Instr::Ebreak => {
+                Places::new(Register::ZERO, Register::ZERO, Register::ZERO)
             }
         }
     }

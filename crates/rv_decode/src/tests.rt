@@ -147,3 +147,31 @@ fn places_are_those_of_the_table(rt: HostRuntime) {
         assert!(rt; instr.writes(service) == place, "service {service}");
     }
 }
+
+#[test]
+fn x0_stands_for_no_operand_and_no_result(rt: HostRuntime) {
+    let store = Instr::Sh {
+        rs1: x(3),
+        rs2: x(4),
+        imm: Immediate::of_bits(6),
+    };
+    let add = Instr::Addi {
+        rd: x(1),
+        rs1: x(2),
+        imm: Immediate::of_bits(0),
+    };
+    // instruction, number in a7, registers of the operands and of the result
+    let rows = [
+        (store, 0, 3, 4, 0),
+        (add, 0, 2, 0, 1),
+        (Instr::Ecall, 2, 10, 17, 10),
+        (Instr::Ecall, 48, 10, 17, 0),
+        (Instr::Ebreak, 0, 0, 0, 0),
+    ];
+    for (instr, service, first, second, rd) in rows {
+        let places = instr.places(service);
+        assert_eq!(rt; places.first.number(), first, "service {service}");
+        assert_eq!(rt; places.second.number(), second, "service {service}");
+        assert_eq!(rt; places.result.number(), rd, "service {service}");
+    }
+}

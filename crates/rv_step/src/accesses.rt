@@ -18,6 +18,7 @@ pub enum Width {
 
 impl Width {
     /// The number of bytes: 1, 2 or 4.
+    #[inline(always)]
     pub fn bytes(self) -> u32
         ensures { result ≡ bytes_of self }
     {
@@ -49,6 +50,7 @@ pub enum Access {
 }
 
 /// What a load from address `addr` puts in rd, where `word` is the memory word that holds the access.
+#[inline(always)]
 pub fn loaded(word: u32, addr: u32, width: Width, signed: bool) -> u32
     ensures { result ≡ loaded_from word addr width signed }
 {
@@ -66,6 +68,7 @@ pub fn loaded(word: u32, addr: u32, width: Width, signed: bool) -> u32
 }
 
 /// What a store of `value` to address `addr` leaves in `word`, the memory word that holds the access.
+#[inline(always)]
 pub fn stored(word: u32, addr: u32, width: Width, value: u32) -> u32
     ensures { result ≡ stored_in word addr width value }
 {

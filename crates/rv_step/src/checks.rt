@@ -13,6 +13,7 @@ use crate::faults::Fault;
 /// then alignment of the jump.
 ///
 /// A branch that is not taken never faults.
+#[inline(always)]
 pub fn check(effect: &Effect, ram: u32) -> Result<(), Fault>
     ensures first { result_err result ≡ first_fault effect.now ram }
     ensures safe { OnOk result (IsSafe ram effect.now) }
@@ -22,6 +23,7 @@ pub fn check(effect: &Effect, ram: u32) -> Result<(), Fault>
     check_jump(effect)
 }
 
+#[inline(always)]
 fn check_access(access: Access, ram: u32) -> Result<(), Fault>
     ensures { result_err result ≡ access_fault access ram }
 {
@@ -49,12 +51,14 @@ fn check_access(access: Access, ram: u32) -> Result<(), Fault>
 }
 
 // Whether the access ends past a memory of `ram` bytes.
+#[inline(always)]
 fn passes_end(addr: u32, width: Width, ram: u32) -> bool
     ensures { result ≡ nat_lt ram (addr + bytes_of width) }
 {
     u64::from(ram) < u64::from(addr) + u64::from(width.bytes())
 }
 
+#[inline(always)]
 fn check_jump(effect: &Effect) -> Result<(), Fault>
     ensures { result_err result ≡ jump_fault effect.now }
 {

@@ -13,6 +13,7 @@ use rv_decode::Instr;
 /// written.
 ///
 /// Sums wrap modulo 2^32. An ECALL only goes on here: what its service does is the machine's.
+#[inline(always)]
 pub fn exec(instr: &Instr, pc: u32, a: u32, b: u32) -> Effect
     ensures value { result ≡ effect_of instr.now pc a b }
     ensures onward { pc % 4 ≡ 0 → GoesOnToWord result }
@@ -60,6 +61,7 @@ pub fn exec(instr: &Instr, pc: u32, a: u32, b: u32) -> Effect
 }
 
 // The effect of going on to the next instruction, and nothing else.
+#[inline(always)]
 fn pass(pc: u32) -> Effect
     ensures { result ≡ passes pc }
 {
@@ -71,6 +73,7 @@ fn pass(pc: u32) -> Effect
     }
 }
 
+#[inline(always)]
 fn compute(pc: u32, value: u32) -> Effect
     ensures { result ≡ computes pc value }
 {
@@ -80,6 +83,7 @@ fn compute(pc: u32, value: u32) -> Effect
     }
 }
 
+#[inline(always)]
 fn jump(pc: u32, target: u32) -> Effect
     ensures { result ≡ jumps pc target }
 {
@@ -91,6 +95,7 @@ fn jump(pc: u32, target: u32) -> Effect
     }
 }
 
+#[inline(always)]
 fn branch(pc: u32, offset: u32, taken: bool) -> Effect
     ensures { result ≡ branches pc offset taken }
 {
@@ -107,6 +112,7 @@ fn branch(pc: u32, offset: u32, taken: bool) -> Effect
     }
 }
 
+#[inline(always)]
 fn load(pc: u32, addr: u32, width: Width, signed: bool) -> Effect
     ensures { result ≡ loads pc addr width signed }
 {
@@ -120,6 +126,7 @@ fn load(pc: u32, addr: u32, width: Width, signed: bool) -> Effect
     }
 }
 
+#[inline(always)]
 fn store(pc: u32, addr: u32, width: Width, value: u32) -> Effect
     ensures { result ≡ stores pc addr width value }
 {

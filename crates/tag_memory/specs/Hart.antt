@@ -1,5 +1,5 @@
 -- A hart: the registers x1 to x31 with their tags, and the pc with its tag. x0 is not kept: it is 0 and plain.
-use Rattle.std.specs.Prelude.{◌≡◌, ℕ, ◌-◌, ◌%◌, ◌==◌, List, length, replicate, slice_index, slice_index_or, slice_set, if◌then◌else◌}
+use Rattle.std.specs.Prelude.{◌≡◌, ℕ, ◌-◌, ◌%◌, ◌==◌, List, drop, length, replicate, slice_index, slice_index_or, slice_set, if◌then◌else◌}
 
 pub record HartState (T : Type 0) : Type 0 where
   -- x1 is the first
@@ -19,6 +19,17 @@ pub record IsHart {T : Type 0} (hart : HartState T) : Type 0 where
 pub record IsHartOf {T : Type 0} (tag : T) (hart : HartState T) : Type 0 where
   pub shape : IsHart hart
   pub plain : hart.plain ≡ tag
+
+-- the hart of thirty-two values and tags, of which the first are those of x0
+abbrev pub hart_of : {T : Type 0} → List ℕ → List T → ℕ → T → T → HartState T
+hart_of values tags pc pc_tag plain = record { values = drop 1 values; tags = drop 1 tags; pc = pc; pc_tag = pc_tag; plain = plain }
+
+-- such values and tags, 0 and plain at the place of x0, and the pc of a word
+pub record IsKept {T : Type 0} (values : List ℕ) (tags : List T) (pc : ℕ) (plain : T) : Type 0 where
+  pub all : length tags ≡ 32
+  pub zero : slice_index values 0 ≡ 0
+  pub untagged : slice_index_or tags 0 plain ≡ plain
+  pub aligned : pc % 4 ≡ 0
 
 abbrev pub reg_value : {T : Type 0} → HartState T → ℕ → ℕ
 reg_value hart r = if r == 0 then 0 else slice_index hart.values (r - 1)

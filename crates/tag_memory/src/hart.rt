@@ -7,9 +7,11 @@ use std::marker::Model;
 
 /// The registers and the pc of one hart, with their tags. x0 is 0 and plain and drops every write. The pc is a
 /// multiple of 4. Contracts see it as a `HartState`.
+///
+/// x0 has its place too, so that a read needs no test: each write puts 0 and the plain tag back there.
 #[derive(Drop)]
 pub struct Hart<T: Copy> {
-    values: Vec<u32>,
+    values: [u32; 32],
     tags: Vec<T>,
     pc: u32,
     pc_tag: T,
@@ -17,13 +19,13 @@ pub struct Hart<T: Copy> {
 }
 
 impl<T: Copy> Model for Hart<T> {
-    ghost use Rattle.tag_memory.specs.Hart.{HartState, IsHart};
+    ghost use Rattle.tag_memory.specs.Hart.{HartState, IsKept, hart_of};
 
     ghost Value = { HartState T };
 
-    ghost view = { λ h. record { values = h.values.items; tags = h.tags.items; pc = h.pc; pc_tag = h.pc_tag; plain = h.plain } };
+    ghost view = { λ h. hart_of h.values h.tags.items h.pc h.pc_tag h.plain };
 
-    ghost invariant = { λ h. IsHart (record { values = h.values.items; tags = h.tags.items; pc = h.pc; pc_tag = h.pc_tag; plain = h.plain }) };
+    ghost invariant = { λ h. IsKept h.values h.tags.items h.pc h.plain };
 }
 
 impl<T: Copy> Hart<T> {
@@ -32,10 +34,9 @@ impl<T: Copy> Hart<T> {
         requires { pc % 4 ≡ 0 }
         ensures { IfOk result (λ hart. hart ≡ fresh_hart pc pc_tag plain) }
     {
-        let values = filled(alloc, 0, 31)?;
-        let tags = filled(alloc, plain, 31)?;
+        let tags = filled(alloc, plain, 32)?;
         Ok(Hart {
-            values,
+            values: [0; 32],
             tags,
             pc,
             pc_tag,
@@ -48,10 +49,7 @@ impl<T: Copy> Hart<T> {
         requires { r < 32 }
         ensures { result ≡ reg_value self.now r }
     {
-        if r == 0 {
-            return 0;
-        }
-        self.values[(r - 1) as usize]
+        self.values[r as usize]
     }
 
     /// Writes register `r`; a write to x0 is dropped. Its tag and every other register stay.
@@ -59,9 +57,8 @@ impl<T: Copy> Hart<T> {
         requires { r < 32 }
         ensures { self.new ≡ with_reg self.old r value }
     {
-        if r != 0 {
-            self.values[(r - 1) as usize] = value;
-        }
+        self.values[r as usize] = value;
+        self.values[0] = 0;
     }
 
     /// The tag of register `r`, plain for x0.
@@ -69,10 +66,7 @@ impl<T: Copy> Hart<T> {
         requires { r < 32 }
         ensures { result ≡ reg_tag self.now r }
     {
-        if r == 0 {
-            return self.plain;
-        }
-        self.tags[(r - 1) as usize]
+        self.tags[r as usize]
     }
 
     /// Writes the tag of register `r`; a write to x0 is dropped. Its value and every other tag stay.
@@ -80,9 +74,8 @@ impl<T: Copy> Hart<T> {
         requires { r < 32 }
         ensures { self.new ≡ with_reg_tag self.old r tag }
     {
-        if r != 0 {
-            self.tags[(r - 1) as usize] = tag;
-        }
+        self.tags[r as usize] = tag;
+        self.tags[0] = self.plain;
     }
 
     /// The plain tag, which x0 has.

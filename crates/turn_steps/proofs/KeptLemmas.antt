@@ -1,10 +1,8 @@
 -- What every step of a turn keeps: x0 is 0 and plain, the pc is that of a word, and memory is as large as it was.
 use Rattle.std.proofs.Common.{◌≡◌, ℕ, ◌%◌, List, [], ◌∷◌, Option, Some, None, refl, ◌∙◌}
-use Rattle.rv_decode.specs.Groups.{a0, writes_of}
+use Rattle.rv_decode.specs.Groups.{a0}
 use Rattle.rv_decode.specs.declared.groups.Group.{Group}
 use Rattle.rv_decode.specs.declared.groups.Group.TheVariants as group
-use Rattle.rv_decode.specs.declared.places.Slot.{Slot}
-use Rattle.rv_decode.specs.declared.places.Slot.TheVariants as slot
 use Rattle.rv_step.specs.Accesses.{stored_in}
 use Rattle.rv_step.specs.declared.accesses.Access.{Access}
 use Rattle.rv_step.specs.declared.accesses.Access.TheVariants as access
@@ -14,7 +12,7 @@ use Rattle.tag_memory.specs.Hart.{HartState, IsHartOf, moved_to, with_reg, with_
 use Rattle.tag_memory.specs.Ram.{IsRamOf, RamState, ram_bytes, ram_word, with_ram_tag, with_ram_word}
 use Rattle.tag_memory.proofs.HartLemmas.{pc_keeps, tag_keeps, value_keeps}
 use Rattle.tag_memory.proofs.RamLemmas.{word_bytes, word_keeps, word_tag_keeps}
-use Rattle.turn_steps.specs.Effects.{IsCarriedOf, IsSound, carried_by, carried_out, fed_hart, result_value, stepped, with_result, with_store}
+use Rattle.turn_steps.specs.Effects.{IsCarriedOf, IsSound, carried_by, carried_out, fed_hart, result_value, stepped, with_store}
 use Rattle.turn_steps.specs.Feeds.{got}
 use Rattle.turn_steps.specs.Services.{with_answer, with_words}
 use Rattle.turn_steps.specs.declared.look.Look.{Look}
@@ -23,11 +21,6 @@ use Rattle.turn_steps.specs.declared.look.Look.{Look}
 
 tagged_keeps : {T : Type 0} (plain : T) (hart : HartState T) (r value : ℕ) (tag : T) → IsHartOf plain hart → IsHartOf plain (with_reg_tag (with_reg hart r value) r tag)
 tagged_keeps plain hart r value tag is = tag_keeps plain (with_reg hart r value) r tag (value_keeps plain hart r value is)
-
-result_keeps : {T : Type 0} (plain : T) (hart : HartState T) (place : Slot) (value : ℕ) (tag : T) → IsHartOf plain hart → IsHartOf plain (with_result hart place value tag)
-result_keeps plain hart slot.Nothing value tag is = is
-result_keeps plain hart (slot.Reg r) value tag is = tagged_keeps plain hart r value tag is
-result_keeps plain hart slot.Word value tag is = is
 
 pub answer_keeps : {T : Type 0} (plain : T) (hart : HartState T) (answer : Option (Answer T)) → IsHartOf plain hart → IsHartOf plain (with_answer hart answer)
 answer_keeps plain hart None is = is
@@ -65,7 +58,7 @@ store_bytes ram (access.Store addr width value) tag = word_bytes ram addr (store
 step_keeps : {T : Type 0} (plain : T) (hart : HartState T) (ram : RamState T) (look : Look T) (outs : Outs T) → look.effect.next % 4 ≡ 0 → IsHartOf plain hart → IsHartOf plain (stepped hart ram look outs)
 step_keeps plain hart ram look outs aligned is =
     pc_keeps plain _ look.effect.next outs.pc aligned
-    (result_keeps plain hart (writes_of look.instr look.service) (result_value ram look.effect.value look.effect.access) outs.result is)
+    (tagged_keeps plain hart look.result (result_value ram look.effect.value look.effect.access) outs.result is)
 
 by_group : {T : Type 0} (plain : T) (called : Group) (hart : HartState T) (ram : RamState T) (feed : List ℕ) (look : Look T) (outs : Outs T) → look.effect.next % 4 ≡ 0
     → IsHartOf plain hart → IsRamOf plain ram → IsCarriedOf plain (ram_bytes ram) (carried_by called hart ram feed look outs)

@@ -1,3 +1,4 @@
 pub mod KeptLemmas
 pub mod LookLemmas
+pub mod PlaceLemmas
 pub mod RowLemmas

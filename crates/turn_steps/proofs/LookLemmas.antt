@@ -1,17 +1,20 @@
 -- What a look gives where no check fails.
-use Rattle.std.proofs.Common.{◌≡◌, Option, Some, None, Result, Ok, Err, refl, subst, ◌∙◌}
+use Rattle.std.proofs.Common.{◌≡◌, ℕ, Option, Some, None, Result, Ok, Err, refl, ap, subst, ◌∙◌}
 use Rattle.policy_trait.specs.Steps.{◌>>=◌}
-use Rattle.rv_decode.specs.Groups.{reads_of}
+use Rattle.rv_decode.specs.Decoding.{decoded}
+use Rattle.rv_decode.specs.Groups.{a7, reads_of, result_register, writes_of}
 use Rattle.rv_decode.specs.declared.instructions.Instr.{Instr}
 use Rattle.rv_step.specs.Checks.{first_fault}
 use Rattle.rv_step.specs.CheckLaws.{next_aligned, safe_if_none}
 use Rattle.rv_step.specs.declared.effects.Effect.{Effect}
 use Rattle.rv_step.specs.declared.faults.Fault.{Fault}
-use Rattle.tag_memory.specs.Hart.{HartState, IsHart}
+use Rattle.rv_step.specs.declared.faults.Fault.TheVariants.{Illegal}
+use Rattle.tag_memory.specs.Hart.{HartState, IsHart, reg_value}
 use Rattle.tag_memory.specs.Ram.{RamState, ram_bytes}
-use Rattle.turn_steps.specs.Effects.{IsSound}
-use Rattle.turn_steps.specs.Looks.{effect_at, fetched, look_at, looked, operand, passed, read_instr}
+use Rattle.turn_steps.specs.Effects.{IsSound, with_result, with_tagged}
+use Rattle.turn_steps.specs.Looks.{effect_at, fetched, found_or, look_at, looked, operand, passed, read_instr}
 use Rattle.turn_steps.specs.declared.look.Look.{Look}
+use Rattle.turn_steps.proofs.PlaceLemmas.{result_is}
 
 -- a step that did not fail
 on_ok : {A B E P : Type 0} (r : Result A E) (f : A → Result B E) (y : B) → (r >>= f) ≡ Ok y → ((x : A) → r ≡ Ok x → f x ≡ Ok y → P) → P
@@ -45,3 +48,27 @@ looked_is_sound hart ram look is e =
     on_ok (passed (effect_at hart instr) (first_fault (effect_at hart instr) (ram_bytes ram))) _ look e2 λ effect effect-is e3.
     on_passed (effect_at hart instr) effect (first_fault (effect_at hart instr) (ram_bytes ram)) effect-is λ none same.
     subst (IsSound (ram_bytes ram)) (same ∙ effect_is (look_at hart ram word instr effect) look e3) (sound_if_none hart ram instr is none)
+
+look_is : {T : Type 0} (look given : Look T) → done look ≡ done given → look ≡ given
+look_is look given e = cc
+
+found_is : (fault : Fault) (found : Option Instr) (given instr : Instr) → found_or fault found ≡ Ok given → found ≡ Some instr → given ≡ instr
+found_is fault None given instr e is = absurd cc
+found_is fault (Some x) given instr e is = cc
+
+-- its result's register is that of its instruction's result
+register_is : {T : Type 0} (hart : HartState T) (ram : RamState T) (look : Look T) (instr : Instr) → looked hart ram ≡ Ok look → decoded look.word ≡ Some instr
+    → look.result ≡ result_register (writes_of instr look.service)
+unfolding looked
+register_is {T} hart ram look instr e =
+    on_ok (fetched hart ram) _ look e λ word word-is e1.
+    on_ok (read_instr word) _ look e1 λ given given-is e2.
+    on_ok (passed (effect_at hart given) (first_fault (effect_at hart given) (ram_bytes ram))) _ look e2 λ effect effect-is e3.
+    subst (λ (l : Look T). decoded l.word ≡ Some instr → l.result ≡ result_register (writes_of instr l.service)) (look_is (look_at hart ram word given effect) look e3)
+    (λ decoded-is. ap (λ (i : Instr). result_register (writes_of i (reg_value hart a7))) (found_is (Illegal word) (decoded word) given instr given-is decoded-is))
+
+-- and takes what the place of that result takes
+pub looked_is_placed : {T : Type 0} (hart : HartState T) (ram : RamState T) (look : Look T) (instr : Instr) → looked hart ram ≡ Ok look → decoded look.word ≡ Some instr
+    → (written : HartState T) (value : ℕ) (tag : T) → with_tagged written look.result value tag ≡ with_result written (writes_of instr look.service) value tag
+looked_is_placed hart ram look instr e is written value tag =
+    ap (λ (r : ℕ). with_tagged written r value tag) (register_is hart ram look instr e is) ∙ result_is written (writes_of instr look.service) value tag

@@ -1,7 +1,7 @@
 -- What an allowed instruction does to its hart, to memory and to the feed.
 use Rattle.std.specs.Prelude.{◌≡◌, ℕ, ◌%◌, ◌^◌, List, Option, Some, None}
 use Rattle.std.specs.Option.{unwrap_or}
-use Rattle.rv_decode.specs.Groups.{a0, writes_of}
+use Rattle.rv_decode.specs.Groups.{a0}
 use Rattle.rv_decode.specs.declared.groups.Group.{Group}
 use Rattle.rv_decode.specs.declared.groups.Group.TheVariants as group
 use Rattle.rv_decode.specs.declared.places.Slot.{Slot}
@@ -42,10 +42,14 @@ result_value ram value access.None = unwrap_or value 0
 result_value ram value (access.Load addr width signed) = loaded_from (ram_word ram addr) addr width signed
 result_value ram value (access.Store addr width stored) = unwrap_or value 0
 
--- a register with its tag
+-- a register with its tag; a write to x0 is dropped
+abbrev pub with_tagged : {T : Type 0} → HartState T → ℕ → ℕ → T → HartState T
+with_tagged hart r value tag = with_reg_tag (with_reg hart r value) r tag
+
+-- the same for the place of a result, which may be no register
 abbrev pub with_result : {T : Type 0} → HartState T → Slot → ℕ → T → HartState T
 with_result hart slot.Nothing value tag = hart
-with_result hart (slot.Reg r) value tag = with_reg_tag (with_reg hart r value) r tag
+with_result hart (slot.Reg r) value tag = with_tagged hart r value tag
 with_result hart slot.Word value tag = hart
 
 -- memory after the access: a store writes the word that holds it, with the result's tag
@@ -58,7 +62,7 @@ with_store ram (access.Store addr width value) tag =
 -- the instruction's own result, and the next pc
 abbrev pub stepped : {T : Type 0} → HartState T → RamState T → Look T → Outs T → HartState T
 stepped hart ram look outs =
-    moved_to (with_result hart (writes_of look.instr look.service) (result_value ram look.effect.value look.effect.access) outs.result) look.effect.next outs.pc
+    moved_to (with_tagged hart look.result (result_value ram look.effect.value look.effect.access) outs.result) look.effect.next outs.pc
 
 -- a0 takes the next byte of the feed, with the result's tag
 abbrev pub fed_hart : {T : Type 0} → HartState T → List ℕ → T → HartState T

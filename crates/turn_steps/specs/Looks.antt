@@ -2,10 +2,11 @@
 use Rattle.std.specs.Prelude.{ℕ, ◌/◌, Bool, true, false, Option, Some, None, Result, Ok, Err, slice_get}
 use Rattle.policy_trait.specs.Steps.{◌>>=◌}
 use Rattle.rv_decode.specs.Decoding.{decoded}
-use Rattle.rv_decode.specs.Groups.{a7, group_of, reads_of}
+use Rattle.rv_decode.specs.Groups.{a7, group_of, places_of, reads_of}
 use Rattle.rv_decode.specs.declared.groups.Group.{Group}
 use Rattle.rv_decode.specs.declared.groups.Group.TheVariants as group
 use Rattle.rv_decode.specs.declared.instructions.Instr.{Instr}
+use Rattle.rv_decode.specs.declared.places.Places.{Places}
 use Rattle.rv_step.specs.Effects.{effect_of}
 use Rattle.rv_step.specs.Checks.{first_fault}
 use Rattle.rv_step.specs.declared.accesses.Access.{Access}
@@ -63,13 +64,27 @@ inputs_at hart ram instr effect = record {
   tm = access_tag ram hart.plain effect.access;
 }
 
+-- the same by plain registers, where x0 stands for an operand that there is not
+
+abbrev pub effect_on : {T : Type 0} → HartState T → Instr → Places → Effect
+effect_on hart instr places = effect_of instr hart.pc (reg_value hart places.first) (reg_value hart places.second)
+
+abbrev pub inputs_on : {T : Type 0} → HartState T → RamState T → Places → Access → Ins T
+inputs_on hart ram places access = record {
+  pc = hart.pc_tag;
+  ci = ram_tag ram hart.pc;
+  t1 = reg_tag hart places.first;
+  t2 = reg_tag hart places.second;
+  tm = access_tag ram hart.plain access;
+}
+
 abbrev pub look_at : {T : Type 0} → HartState T → RamState T → ℕ → Instr → Effect → Look T
 look_at hart ram word instr effect = record {
   word = word;
-  instr = instr;
   effect = effect;
   service = reg_value hart a7;
   group = group_of instr (reg_value hart a7);
+  result = (places_of instr (reg_value hart a7)).result;
   inputs = inputs_at hart ram instr effect;
 }
 

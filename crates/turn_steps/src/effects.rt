@@ -10,7 +10,7 @@ ghost use Rattle.turn_steps.specs.Looks.{is_call};
 use crate::feed::Feed;
 use crate::look::Look;
 use policy_trait::Outs;
-use rv_decode::{Group, Slot};
+use rv_decode::Group;
 use rv_step::{Access, loaded, stored};
 use tag_memory::{Hart, Ram};
 
@@ -71,20 +71,20 @@ pub fn carry_out<T: Copy>(
 }
 
 /// The instruction's own result, and the next pc.
+#[inline(always)]
 fn step<T: Copy>(hart: &mut Hart<T>, ram: &Ram<T>, look: &Look<T>, outs: Outs<T>)
     requires { IsSound (ram_bytes ram.now) look.now.effect }
     ensures { hart.new ≡ stepped hart.old ram.now look.now outs }
 {
     let value = value_of(ram, look.effect.value, look.effect.access);
-    if let Slot::Reg(register) = look.instr.writes(look.service) {
-        let register = u32::from(register.number());
-        hart.set_reg(register, value);
-        hart.set_reg_tag(register, outs.result);
-    }
+    let register = u32::from(look.result.number());
+    hart.set_reg(register, value);
+    hart.set_reg_tag(register, outs.result);
     go_on(hart, look, outs);
 }
 
 /// What goes into the result's register.
+#[inline(always)]
 fn value_of<T: Copy>(ram: &Ram<T>, value: Option<u32>, access: Access) -> u32
     requires { EndsWithin (ram_bytes ram.now) access }
     ensures { result ≡ result_value ram.now value access }
@@ -100,6 +100,7 @@ fn value_of<T: Copy>(ram: &Ram<T>, value: Option<u32>, access: Access) -> u32
 }
 
 /// Memory after the access.
+#[inline(always)]
 fn store<T: Copy>(ram: &mut Ram<T>, access: Access, tag: T)
     requires { EndsWithin (ram_bytes ram.old) access }
     ensures exact { ram.new ≡ with_store ram.old access tag }
@@ -122,6 +123,7 @@ fn take_byte<T: Copy>(hart: &mut Hart<T>, feed: &mut Feed, tag: T)
 }
 
 /// The next pc and its tag.
+#[inline(always)]
 fn go_on<T: Copy>(hart: &mut Hart<T>, look: &Look<T>, outs: Outs<T>)
     requires { look.now.effect.next % 4 ≡ 0 }
     ensures { hart.new ≡ moved_to hart.old look.now.effect.next outs.pc }

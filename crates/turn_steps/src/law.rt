@@ -1,22 +1,31 @@
 //! What the steps of a turn keep and write, for callers that reason about them.
 
-ghost use Rattle.std.specs.Prelude.{◌≡◌, ℕ, ◌%◌, List, Ok, Option};
+ghost use Rattle.std.specs.Prelude.{◌≡◌, ℕ, ◌%◌, List, Ok, Option, Some};
 ghost use Rattle.std.specs.List.{All};
 ghost use Rattle.policy_trait.specs.declared.rules.Outs.{Outs};
+ghost use Rattle.rv_decode.specs.Decoding.{decoded};
+ghost use Rattle.rv_decode.specs.Groups.{writes_of};
+ghost use Rattle.rv_decode.specs.declared.instructions.Instr.{Instr};
 ghost use Rattle.policy_trait.specs.declared.services.Answer.{Answer};
 ghost use Rattle.tag_memory.specs.Hart.{HartState, IsHart, IsHartOf, moved_to};
 ghost use Rattle.tag_memory.specs.Ram.{IsPlace, IsRam, IsRamOf, RamState, ram_bytes};
 ghost use Rattle.tag_memory.specs.Rows.{StandFrom};
-ghost use Rattle.turn_steps.specs.Effects.{IsCarriedOf, IsSound, carried_out};
+ghost use Rattle.turn_steps.specs.Effects.{IsCarriedOf, IsSound, carried_out, with_result, with_tagged};
 ghost use Rattle.turn_steps.specs.Looks.{looked};
 ghost use Rattle.turn_steps.specs.Services.{WritesRow, with_answer, with_words};
 ghost use Rattle.turn_steps.specs.declared.look.Look.{Look};
 
-/// What is looked at can be carried out, and each step of a turn keeps the hart's x0 at 0 and plain, its pc at a word,
+/// What is looked at can be carried out; its result's register takes what the place of its instruction's result takes,
+/// be that a register or not; and each step of a turn keeps the hart's x0 at 0 and plain, its pc at a word,
 /// and memory as large as it was. The function does nothing.
 pub fn steps_law<T: Copy>()
     ensures looked { (hart : HartState T) (ram : RamState T) (look : Look T) → IsHart hart
         → looked hart ram ≡ Ok look → IsSound (ram_bytes ram) look.effect }
+    ensures placed { (hart : HartState T) (ram : RamState T) (look : Look T) (instr : Instr)
+        → looked hart ram ≡ Ok look → decoded look.word ≡ Some instr
+        → (written : HartState T) (value : ℕ) (tag : T)
+        → with_tagged written look.result value tag
+        ≡ with_result written (writes_of instr look.service) value tag }
     ensures carried { (plain : T) (hart : HartState T) (ram : RamState T) (feed : List ℕ)
         (look : Look T) (outs : Outs T)
         → IsSound (ram_bytes ram) look.effect → IsHartOf plain hart → IsRamOf plain ram

@@ -1,5 +1,5 @@
 use policy_trait::Ins;
-use rv_decode::{Group, Instr};
+use rv_decode::{Group, Register};
 use rv_step::Effect;
 
 /// What a hart is about to do, once the checks have passed.
@@ -7,14 +7,14 @@ use rv_step::Effect;
 pub struct Look<T> {
     /// The word at the pc.
     pub word: u32,
-    /// Its instruction.
-    pub instr: Instr,
-    /// What the instruction computes, and its access.
+    /// What its instruction computes, and its access.
     pub effect: Effect,
     /// The value of a7, the number of a service.
     pub service: u32,
     /// The operation group.
     pub group: Group,
+    /// The register of the result, x0 where it goes to memory or nowhere.
+    pub result: Register,
     /// The five tags that the rule is asked with.
     pub inputs: Ins<T>,
 }

@@ -2,11 +2,12 @@ ghost use Rattle.std.specs.Prelude.{◌≡◌, ◌+◌, ◌%◌, ◌≤◌, IfOk
 ghost use Rattle.rv_step.specs.Accesses.{EndsWithin};
 ghost use Rattle.turn_steps.specs.Effects.{IsSound};
 ghost use Rattle.tag_memory.specs.Ram.{ram_bytes};
-ghost use Rattle.turn_steps.specs.Looks.{access_tag, effect_at, fetched, inputs_at, looked, operand, operand_tag};
+ghost use Rattle.tag_memory.specs.Hart.{reg_tag, reg_value};
+ghost use Rattle.turn_steps.specs.Looks.{access_tag, effect_on, fetched, inputs_on, looked};
 
 use crate::look::Look;
 use policy_trait::Ins;
-use rv_decode::{Instr, Register, decode};
+use rv_decode::{Instr, Places, Register, decode};
 use rv_step::{Access, Effect, Fault, check, exec};
 use tag_memory::{Hart, Ram};
 
@@ -24,20 +25,23 @@ pub fn look_ahead<T: Copy>(hart: &Hart<T>, ram: &Ram<T>) -> Result<Look<T>, Faul
     let Some(instr) = decode(word) else {
         return Err(Fault::Illegal(word));
     };
-    let effect = effect_of(hart, &instr);
-    check(&effect, ram.bytes())?;
     let service = hart.reg(A7);
+    let group = instr.group(service);
+    let places = instr.places(service);
+    let effect = effect_of(hart, &instr, &places);
+    check(&effect, ram.bytes())?;
     Ok(Look {
         word,
-        instr,
         effect,
         service,
-        group: instr.group(service),
-        inputs: inputs_of(hart, ram, &instr, &effect),
+        group,
+        result: places.result,
+        inputs: inputs_of(hart, ram, &places, effect.access),
     })
 }
 
 /// The word at the pc.
+#[inline(always)]
 fn fetch<T: Copy>(hart: &Hart<T>, ram: &Ram<T>) -> Result<u32, Fault>
     ensures value { result ≡ fetched hart.now ram.now }
     ensures within { OnOk result (hart.now.pc + 4 ≤ ram_bytes ram.now) }
@@ -50,56 +54,50 @@ fn fetch<T: Copy>(hart: &Hart<T>, ram: &Ram<T>) -> Result<u32, Fault>
 }
 
 /// What the instruction computes of its operands.
-fn effect_of<T: Copy>(hart: &Hart<T>, instr: &Instr) -> Effect
-    ensures value { result ≡ effect_at hart.now instr.now }
+#[inline(always)]
+fn effect_of<T: Copy>(hart: &Hart<T>, instr: &Instr, places: &Places) -> Effect
+    ensures value { result ≡ effect_on hart.now instr.now places.now }
     ensures onward { IsFalse result.taken → result.next % 4 ≡ 0 }
 {
-    let reads = instr.reads();
-    exec(
-        instr,
-        hart.pc(),
-        value_of(hart, reads.t1),
-        value_of(hart, reads.t2),
-    )
+    let first = value_of(hart, places.first);
+    let second = value_of(hart, places.second);
+    exec(instr, hart.pc(), first, second)
 }
 
-/// The value of an operand, 0 for an absent one.
-fn value_of<T: Copy>(hart: &Hart<T>, register: Option<Register>) -> u32
-    ensures { result ≡ operand hart.now register }
+/// The value of a register.
+#[inline(always)]
+fn value_of<T: Copy>(hart: &Hart<T>, register: Register) -> u32
+    ensures { result ≡ reg_value hart.now register }
 {
-    match register {
-        None => 0,
-        Some(register) => hart.reg(u32::from(register.number())),
-    }
+    hart.reg(u32::from(register.number()))
 }
 
-/// The tag of an operand, plain for an absent one.
-fn tag_of<T: Copy>(hart: &Hart<T>, register: Option<Register>) -> T
-    ensures { result ≡ operand_tag hart.now register }
+/// The tag of a register.
+#[inline(always)]
+fn tag_of<T: Copy>(hart: &Hart<T>, register: Register) -> T
+    ensures { result ≡ reg_tag hart.now register }
 {
-    match register {
-        None => hart.plain(),
-        Some(register) => hart.reg_tag(u32::from(register.number())),
-    }
+    hart.reg_tag(u32::from(register.number()))
 }
 
 /// The five tags that the rule is asked with.
-fn inputs_of<T: Copy>(hart: &Hart<T>, ram: &Ram<T>, instr: &Instr, effect: &Effect) -> Ins<T>
+#[inline(always)]
+fn inputs_of<T: Copy>(hart: &Hart<T>, ram: &Ram<T>, places: &Places, access: Access) -> Ins<T>
     requires fetched { hart.now.pc + 4 ≤ ram_bytes ram.now }
-    requires in_memory { EndsWithin (ram_bytes ram.now) effect.now.access }
-    ensures { result ≡ inputs_at hart.now ram.now instr.now effect.now }
+    requires in_memory { EndsWithin (ram_bytes ram.now) access }
+    ensures { result ≡ inputs_on hart.now ram.now places.now access }
 {
-    let reads = instr.reads();
     Ins {
         pc: hart.pc_tag(),
         ci: ram.tag(hart.pc()),
-        t1: tag_of(hart, reads.t1),
-        t2: tag_of(hart, reads.t2),
-        tm: memory_tag(ram, hart.plain(), effect.access),
+        t1: tag_of(hart, places.first),
+        t2: tag_of(hart, places.second),
+        tm: memory_tag(ram, hart.plain(), access),
     }
 }
 
 /// The tag of the memory word that holds the access, plain without one.
+#[inline(always)]
 fn memory_tag<T: Copy>(ram: &Ram<T>, plain: T, access: Access) -> T
     requires { EndsWithin (ram_bytes ram.now) access }
     ensures { result ≡ access_tag ram.now plain access }
