@@ -1,6 +1,8 @@
 // What a turn shows.
-ghost use Rattle.std.specs.Prelude.{◌≡◌, ◌≢◌, true, Err, OnErr};
+ghost use Rattle.std.specs.Prelude.{◌≡◌, ◌≢◌, true, Err, OnErr, OnOk};
+ghost use Rattle.host_io.specs.Causes.{PutCause};
 ghost use Rattle.host_io.specs.Fronts.{TakesAll, TakesFront};
+ghost use Rattle.tag_text.specs.Texts.{stop_line};
 ghost use Rattle.host_io.specs.Pieces.{Puts, PutsFirst};
 ghost use Rattle.host_io.specs.TwoSinks.{PutsCause};
 ghost use Rattle.engine_trait.specs.Laws.{is_made};
@@ -30,11 +32,22 @@ pub(crate) fn tell<K: Sink, L: Sink>(
 {
     match end {
         TurnEnd::Ran(Some(byte)) => out.put(&[byte]),
-        TurnEnd::Stopped(why) => {
-            let mut line = Line::new();
-            write_stop_line(&mut line, h, why);
-            err.put(&line)
-        }
+        TurnEnd::Stopped(why) => put_stop(h, why, err),
         _ => Ok(()),
     }
+}
+
+/// Puts the line of the stop of hart `h`. It stays a call, since few turns stop a hart, and the room of the line would
+/// be cleared at every turn.
+#[inline(never)]
+fn put_stop<L: Sink>(h: u32, why: Stop, err: &mut L) -> Result<(), PutEnd>
+    ensures ok { OnOk result (TakesAll (L.taken err.old) (L.taken err.new) (stop_line h why)) }
+    ensures failed { result ≡ Err PutEnd.Failed
+        → TakesFront (L.taken err.old) (L.taken err.new) (stop_line h why) }
+    ensures memory { result ≡ Err PutEnd.Memory → L.taken err.new ≡ L.taken err.old }
+    ensures cause { PutCause (L.faults err.old) (L.faults err.new) result }
+{
+    let mut line = Line::new();
+    write_stop_line(&mut line, h, why);
+    err.put(&line)
 }

@@ -19,14 +19,12 @@ returns-in-Ran-Some-clause-whole g c =
 
 pub returns-in-Stopped-clause-puts : goal.returns-in-Stopped-clause-puts
 returns-in-Stopped-clause-puts g c =
-    let text : c.deref.result.now ≡ stop_line c.args.h c.in-Stopped.why = search (rules, c.deref.ensures.0, c.write_stop_line.ensures, c.new-line.ensures) in
-    let puts = put_on_err (g.L.Sink.taken c.args.err.now) (g.L.Sink.taken c.put-in-Stopped.new.self) (g.K.Sink.taken c.args.out.now) _ c.put-in-Stopped.result
-    c.put-in-Stopped.ensures.ok c.put-in-Stopped.ensures.failed c.put-in-Stopped.ensures.memory in
-    rw (c.in-Stopped.is, ← text) puts
+    rw c.in-Stopped.is
+    (put_on_err (g.L.Sink.taken c.args.err.now) (g.L.Sink.taken c.put_stop.new.err) (g.K.Sink.taken c.args.out.now) _ c.put_stop.result
+    c.put_stop.ensures.ok c.put_stop.ensures.failed c.put_stop.ensures.memory)
 
 pub returns-in-Stopped-clause-whole : goal.returns-in-Stopped-clause-whole
 returns-in-Stopped-clause-whole g c =
-    let text : c.deref.result.now ≡ stop_line c.args.h c.in-Stopped.why = search (rules, c.deref.ensures.0, c.write_stop_line.ensures, c.new-line.ensures) in
-    let whole = whole_on_err (g.L.Sink.taken c.args.err.now) (g.L.Sink.taken c.put-in-Stopped.new.self) (g.K.Sink.taken c.args.out.now) _ c.put-in-Stopped.result
-    c.put-in-Stopped.ensures.ok c.put-in-Stopped.ensures.memory in
-    rw (c.in-Stopped.is, ← text) whole
+    rw c.in-Stopped.is
+    (whole_on_err (g.L.Sink.taken c.args.err.now) (g.L.Sink.taken c.put_stop.new.err) (g.K.Sink.taken c.args.out.now) _ c.put_stop.result
+    c.put_stop.ensures.ok c.put_stop.ensures.memory)
