@@ -106,7 +106,8 @@ pub(crate) fn heap_bytes_of(
     base: u32,
     bytes: &[u8],
 ) -> Result<(u32, &[u8]), ImageEnd>
-    ensures { Gives (λ x. (x.0, x.1.now)) result (field_at size 4 (is_heap_bytes ram base) bytes.now) }
+    ensures { Gives (λ x. (x.0, x.1.now)) result
+        (field_at size 4 (is_heap_bytes ram base) bytes.now) }
 {
     let (heap, rest) = number_of(size, bytes)?;
     if heap % 4 != 0 || u64::from(base) + u64::from(heap) > u64::from(ram) {
@@ -153,7 +154,8 @@ pub(crate) fn word_count_of(
     address: u32,
     bytes: &[u8],
 ) -> Result<(u32, &[u8]), ImageEnd>
-    ensures { Gives (λ x. (x.0, x.1.now)) result (field_at size field (is_word_count ram address) bytes.now) }
+    ensures { Gives (λ x. (x.0, x.1.now)) result
+        (field_at size field (is_word_count ram address) bytes.now) }
 {
     let (words, rest) = number_of(size, bytes)?;
     if words < 1 || u64::from(address) + 4 * u64::from(words) > u64::from(ram) {

@@ -8,5 +8,6 @@ ghost use Rattle.image_format.specs.declared.errors.ImageError.TheVariants.{Shor
 
 /// Each proper front of the file of an image that is taken is refused as short, at its own length.
 pub fn front_law()
-    ensures { (bytes : List ℕ) (g : Picture) (n : ℕ) → IsTakenFile bytes g → n < length bytes → image_of (take n bytes) ≡ Err (Short n) }
+    ensures { (bytes : List ℕ) (g : Picture) (n : ℕ) → IsTakenFile bytes g → n < length bytes
+        → image_of (take n bytes) ≡ Err (Short n) }
 {}

@@ -176,8 +176,10 @@ pub(crate) fn in_place<R: Row>(row: R, before: Option<R>) -> bool
 /// The row at the front of the bytes, in order behind the one before it.
 #[tactic(auto, unfolding(crate::specs::Reading::row_at))]
 fn row_of<R: Row>(place: RowPlace<R>, bounds: Bounds, bytes: &[u8]) -> Result<(R, &[u8]), ImageEnd>
-    ensures { Gives (λ x. (x.0, record { row = place.row + 1; before = Some x.0; bytes = x.1.now })) result
-        (row_at place.list R.follows (R.fields bounds.size bounds.ram) (record { row = place.row; before = place.before; bytes = bytes.now })) }
+    ensures { Gives
+        (λ x. (x.0, record { row = place.row + 1; before = Some x.0; bytes = x.1.now })) result
+        (row_at place.list R.follows (R.fields bounds.size bounds.ram)
+        (record { row = place.row; before = place.before; bytes = bytes.now })) }
 {
     let (row, rest) = R::read(bounds, bytes)?;
     if !in_place(row, place.before) {
@@ -194,7 +196,8 @@ fn rows_of<R: Row>(
     bounds: Bounds,
     bytes: &[u8],
 ) -> Result<(Vec<R>, &[u8]), ImageEnd>
-    ensures { Gives (λ x. (x.0.items, x.1.now)) result (rows_at count (row_at list R.follows (R.fields bounds.size bounds.ram)) bytes.now) }
+    ensures { Gives (λ x. (x.0.items, x.1.now)) result
+        (rows_at count (row_at list R.follows (R.fields bounds.size bounds.ram)) bytes.now) }
 {
     let mut rows = room_for(alloc, count as usize, R::BYTES, bytes.len())?;
     let mut before = None;
@@ -217,7 +220,8 @@ fn count_of(
     size: usize,
     bytes: &[u8],
 ) -> Result<(u32, &[u8]), ImageEnd>
-    ensures { Gives (λ x. (x.0, x.1.now)) result (count_at size list (takes_count others) bytes.now) }
+    ensures { Gives (λ x. (x.0, x.1.now)) result
+        (count_at size list (takes_count others) bytes.now) }
 {
     let (count, rest) = number_of(size, bytes)?;
     if !others.takes(count) {
@@ -235,7 +239,9 @@ pub(crate) fn list_of<R: Row>(
     bounds: Bounds,
     bytes: &[u8],
 ) -> Result<(Vec<R>, &[u8]), ImageEnd>
-    ensures { Gives (λ x. (x.0.items, x.1.now)) result (list_at bounds.size list (takes_count others) (row_at list R.follows (R.fields bounds.size bounds.ram)) bytes.now) }
+    ensures { Gives (λ x. (x.0.items, x.1.now)) result
+        (list_at bounds.size list (takes_count others)
+        (row_at list R.follows (R.fields bounds.size bounds.ram)) bytes.now) }
 {
     let (count, rest) = count_of(list, others, bounds.size, bytes)?;
     rows_of(alloc, list, count, bounds, rest)

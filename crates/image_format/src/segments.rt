@@ -78,7 +78,8 @@ fn range_behind(
     bounds: Bounds,
     bytes: &[u8],
 ) -> Result<(WordRange, &[u8]), ImageEnd>
-    ensures { Gives (λ x. (x.0, x.1.now)) result (range_behind_at bounds.size bounds.ram row before bytes.now) }
+    ensures { Gives (λ x. (x.0, x.1.now)) result
+        (range_behind_at bounds.size bounds.ram row before bytes.now) }
 {
     let (range, rest) = range_of(6, bounds, bytes)?;
     if !in_place(range, before) {
@@ -94,7 +95,8 @@ fn words_of<'a>(
     size: usize,
     bytes: &'a [u8],
 ) -> Result<&'a [u8], ImageEnd>
-    ensures { Gives (λ rest. (contents.new.items, rest.now)) result (with_front contents.old.items (times count (number_at w32 size) bytes.now)) }
+    ensures { Gives (λ rest. (contents.new.items, rest.now)) result
+        (with_front contents.old.items (times count (number_at w32 size) bytes.now)) }
 {
     let mut rest = bytes;
     for _ in 0..count {
@@ -112,7 +114,8 @@ fn segments_of(
     bounds: Bounds,
     bytes: &[u8],
 ) -> Result<(Segments, &[u8]), ImageEnd>
-    ensures { Gives (λ x. (x.0, x.1.now)) result (rows_at count (segment_at bounds.size bounds.ram) bytes.now) }
+    ensures { Gives (λ x. (x.0, x.1.now)) result
+        (rows_at count (segment_at bounds.size bounds.ram) bytes.now) }
 {
     // A row takes at least the bytes of an extent, and the words of all rows together lie in the RAM.
     let most_words = bounds.ram as usize / 4;
@@ -141,7 +144,8 @@ pub(crate) fn segment_list_of(
     bounds: Bounds,
     bytes: &[u8],
 ) -> Result<(Segments, &[u8]), ImageEnd>
-    ensures { Gives (λ x. (x.0, x.1.now)) result (list_at bounds.size 1 any_count (segment_at bounds.size bounds.ram) bytes.now) }
+    ensures { Gives (λ x. (x.0, x.1.now)) result
+        (list_at bounds.size 1 any_count (segment_at bounds.size bounds.ram) bytes.now) }
 {
     let (count, rest) = number_of(bounds.size, bytes)?;
     segments_of(alloc, count, bounds, rest)

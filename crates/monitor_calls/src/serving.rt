@@ -43,16 +43,21 @@ pub fn serve<P: Policy, W: View<Tag = P::Tag>>(
     requires bytes { W.bytes_of view.now ≡ arguments.now.ram }
 
     // The service, up to its effect. A refusal is the first one.
-    ensures ok { IfOk result (λ v. served P.model policy.now (W.word_at view.now) (W.tag_at view.now) number arguments.now pc ≡ Ok (job_by v.plan v.words.items)) }
-    ensures err { IfErr result (λ e. EndsAs e (served P.model policy.now (W.word_at view.now) (W.tag_at view.now) number arguments.now pc)) }
+    ensures ok { IfOk result (λ v. served P.model policy.now
+        (W.word_at view.now) (W.tag_at view.now) number arguments.now pc
+        ≡ Ok (job_by v.plan v.words.items)) }
+    ensures err { IfErr result (λ e. EndsAs e (served P.model policy.now
+        (W.word_at view.now) (W.tag_at view.now) number arguments.now pc)) }
 
     // Want of memory is told only of a service that nothing refuses and that has words to write.
     ensures memory { result ≡ Err ServeEnd.Memory
-        → IsOkAnd (served P.model policy.now (W.word_at view.now) (W.tag_at view.now) number arguments.now pc)
+        → IsOkAnd (served P.model policy.now
+        (W.word_at view.now) (W.tag_at view.now) number arguments.now pc)
         (λ job. 1 ≤ length job.words) }
 
     // It can be carried out: each word is in memory, and the policy can take note of the plan.
-    ensures places { IfOk result (λ v. All (λ word. IsPlace (W.bytes_of view.now) word.0) v.words.items) }
+    ensures places { IfOk result
+        (λ v. All (λ word. IsPlace (W.bytes_of view.now) word.0) v.words.items) }
     ensures given { IfOk result (λ v. IsGiven P.model policy.now v.plan) }
 {
     // Serves the proof alone: it says that the policy's invariant holds, by which a plan's range lies in memory.
@@ -82,9 +87,13 @@ fn retag_words<P: Policy, W: View<Tag = P::Tag>>(
 ) -> Result<Vec<(u32, u32, P::Tag)>, ServeEnd>
     requires given { IsGiven P.model policy.now plan.now }
     requires range { IsRange (W.bytes_of view.now) range }
-    ensures ok { IfOk result (λ words. retagged P.model policy.now (W.word_at view.now) (W.tag_at view.now) plan.now range.base range.count ≡ Ok words.items) }
-    ensures err { IfErr result (λ e. EndsAs e (retagged P.model policy.now (W.word_at view.now) (W.tag_at view.now) plan.now range.base range.count)) }
-    ensures places { IfOk result (λ words. All (λ word. IsPlace (W.bytes_of view.now) word.0) words.items) }
+    ensures ok { IfOk result (λ words. retagged P.model policy.now
+        (W.word_at view.now) (W.tag_at view.now) plan.now range.base range.count
+        ≡ Ok words.items) }
+    ensures err { IfErr result (λ e. EndsAs e (retagged P.model policy.now
+        (W.word_at view.now) (W.tag_at view.now) plan.now range.base range.count)) }
+    ensures places { IfOk result
+        (λ words. All (λ word. IsPlace (W.bytes_of view.now) word.0) words.items) }
 {
     // Serves the proof alone: by its type memory has less than 2^32 bytes, so that no address of the range wraps.
     let _bytes = view.bytes();

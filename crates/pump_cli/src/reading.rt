@@ -42,7 +42,8 @@ pub(crate) fn load_image<F: Files>(
         IfSome (F.held files.old name.now) (λ bytes. file_read bytes ≡ Err refusal) }
     ensures of_file { (refusal : Refusal) → result ≡ Err (EarlyEnd.Refused refusal) →
         IsOfFile refusal }
-    ensures faults { ReadRoseBy (F.read_faults files.old) (F.read_faults files.new) name.now result }
+    ensures faults { ReadRoseBy (F.read_faults files.old) (F.read_faults files.new)
+        name.now result }
     ensures calls { F.calls files.new ≡ count_after (F.calls files.old) }
     ensures held { F.held files.new ≡ F.held files.old }
 {
@@ -77,7 +78,8 @@ pub(crate) fn read_input<S: Source>(alloc: Global, input: &mut S) -> Result<Vec<
         input_read all ≡ Ok fed.items)) }
     ensures refused { (refusal : Refusal) → result ≡ Err (EarlyEnd.Refused refusal) →
         IfSome (S.left input.old) (λ all. input_read all ≡ Err refusal) }
-    ensures long { (refusal : Refusal) → result ≡ Err (EarlyEnd.Refused refusal) → refusal ≡ Refusal.TooLong }
+    ensures long { (refusal : Refusal) → result ≡ Err (EarlyEnd.Refused refusal)
+        → refusal ≡ Refusal.TooLong }
     ensures closed { OnOk result (IsTrue (S.closed input.new)) }
     ensures moved { LosesFront (S.left input.old) (S.left input.new) (input_limit + 4096) }
     ensures faults { InputRoseBy (S.faults input.old) (S.faults input.new) result }

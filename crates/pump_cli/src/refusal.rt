@@ -56,7 +56,8 @@ fn write_refusal(to: &mut Line, refusal: Refusal)
 
 /// Says in one line on standard error why the task is refused, which ends the program.
 pub(crate) fn refuse<L: Sink>(err: &mut L, refusal: Refusal) -> Result<Status, Cut>
-    ensures { Tells refusal (L.taken err.old) (L.taken err.new) (L.faults err.old) (L.faults err.new) result }
+    ensures { Tells refusal (L.taken err.old) (L.taken err.new)
+        (L.faults err.old) (L.faults err.new) result }
 {
     let mut line = Line::new();
     write_refusal(&mut line, refusal);
@@ -69,7 +70,8 @@ pub(crate) fn refuse<L: Sink>(err: &mut L, refusal: Refusal) -> Result<Status, C
 
 /// Ends the program before anything ran: a refusal is told, and a cut is not.
 pub(crate) fn end_early<L: Sink>(err: &mut L, end: EarlyEnd) -> Result<Status, Cut>
-    ensures { EndsEarly end (L.taken err.old) (L.taken err.new) (L.faults err.old) (L.faults err.new) result }
+    ensures { EndsEarly end (L.taken err.old) (L.taken err.new)
+        (L.faults err.old) (L.faults err.new) result }
 {
     match end {
         EarlyEnd::Refused(refusal) => refuse(err, refusal),

@@ -499,14 +499,16 @@ const RUNS: [Run<'static>; 4] = [
     },
 ];
 
+/// Puts `A` twice.
+const PUTS_TWICE: Program<'static> = Program {
+    entries: &[0],
+    ram: 256,
+    words: &[0x0410_0513, 0x0010_0893, 0x73, 0x73],
+};
+
 #[test]
 fn failures_of_the_outside_end_the_program(rt: HostRuntime) -> Result<(), Fail> {
-    let program = Program {
-        entries: &[0],
-        ram: 256,
-        words: &[0x0410_0513, 0x0010_0893, 0x73, 0x73],
-    };
-    let image = image_of(rt.alloc(), program)?;
+    let image = image_of(rt.alloc(), PUTS_TWICE)?;
     let failing_put = Outside {
         image: &image,
         input: b"abc",
@@ -540,12 +542,7 @@ fn failures_of_the_outside_end_the_program(rt: HostRuntime) -> Result<(), Fail> 
 // The first put on err fails: the line of a stop, after two bytes on out, and a refusal.
 #[test]
 fn a_failing_put_on_err_ends_the_program(rt: HostRuntime) -> Result<(), Fail> {
-    let program = Program {
-        entries: &[0],
-        ram: 256,
-        words: &[0x0410_0513, 0x0010_0893, 0x73, 0x73],
-    };
-    let image = image_of(rt.alloc(), program)?;
+    let image = image_of(rt.alloc(), PUTS_TWICE)?;
     let failing_tell = Outside {
         image: &image,
         input: b"abc",

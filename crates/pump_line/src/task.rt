@@ -87,7 +87,8 @@ fn task_named<'a>(name: &str, matches: &ArgMatches<'a>) -> Option<Task<'a>>
 
 /// What a match asks for.
 fn task_matched<'a>(matches: &ArgMatches<'a>) -> Option<Task<'a>>
-    ensures { option_map told result ≡ option_and_then task_in (request_at (subcommand_rows_of matches.now)) }
+    ensures { option_map told result
+        ≡ option_and_then task_in (request_at (subcommand_rows_of matches.now)) }
 {
     let (name, inner) = matches.subcommand()?;
     task_named(name, inner)

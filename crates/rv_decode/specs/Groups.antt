@@ -25,6 +25,10 @@ service_group service =
     if service == 2 then group.Get else
     group.Call
 
+-- ADDI with immediate 0 is a move
+abbrev pub addi_group : ℕ → Group
+addi_group immediate = if immediate == 0 then group.Move else group.AddImm
+
 abbrev pub group_of : Instr → ℕ → Group
 group_of (Lui _ _) _ = group.Const
 group_of (Auipc _ _) _ = group.Here
@@ -44,7 +48,7 @@ group_of (Lhu _ _ _) _ = group.LoadPart
 group_of (Sb _ _ _) _ = group.StorePart
 group_of (Sh _ _ _) _ = group.StorePart
 group_of (Sw _ _ _) _ = group.StoreWord
-group_of (Addi _ _ imm) _ = if imm == 0 then group.Move else group.AddImm
+group_of (Addi _ _ imm) _ = addi_group imm
 group_of (Slti _ _ _) _ = group.AluImm
 group_of (Sltiu _ _ _) _ = group.AluImm
 group_of (Xori _ _ _) _ = group.AluImm

@@ -1,7 +1,7 @@
 //! Operation groups: what a policy's rule is asked for.
 
 ghost use Rattle.std.specs.Prelude.{◌≡◌};
-ghost use Rattle.rv_decode.specs.Groups.{group_of, service_group};
+ghost use Rattle.rv_decode.specs.Groups.{addi_group, group_of, service_group};
 
 use crate::instructions::Instr;
 
@@ -77,13 +77,7 @@ impl Instr {
             }
             Instr::Sw { .. } => Group::StoreWord,
             Instr::Sb { .. } | Instr::Sh { .. } => Group::StorePart,
-            Instr::Addi { imm, .. } => {
-                if imm.word() == 0 {
-                    Group::Move
-                } else {
-                    Group::AddImm
-                }
-            }
+            Instr::Addi { imm, .. } => addi_group(imm.word()),
             Instr::Slti { .. }
             | Instr::Sltiu { .. }
             | Instr::Xori { .. }
@@ -109,7 +103,19 @@ impl Instr {
     }
 }
 
-// The group of an ECALL that finds this number in a7.
+/// The group of an ADDI with this immediate.
+#[inline(always)]
+fn addi_group(immediate: u32) -> Group
+    ensures { result ≡ addi_group immediate }
+{
+    if immediate == 0 {
+        Group::Move
+    } else {
+        Group::AddImm
+    }
+}
+
+/// The group of an ECALL that finds this number in a7.
 #[inline(always)]
 fn service_group(service: u32) -> Group
     ensures { result ≡ service_group service }

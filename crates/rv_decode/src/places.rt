@@ -59,6 +59,19 @@ impl Places {
             result: rd,
         }
     }
+
+    /// Those of an ECALL that finds this number in a7.
+    #[inline(always)]
+    fn of_service(service: u32) -> Places
+        ensures { result ≡ places_of Instr.Ecall service }
+    {
+        let answer = if service == 2 {
+            Register::A0
+        } else {
+            Register::ZERO
+        };
+        Places::new(Register::A0, Register::A7, answer)
+    }
 }
 
 impl Instr {
@@ -151,13 +164,7 @@ impl Instr {
             | Instr::Bgeu { .. }
             | Instr::Fence { .. }
             | Instr::Ebreak => Slot::Nothing,
-            Instr::Ecall => {
-                if a7 == 2 {
-                    Slot::Reg(Register::A0)
-                } else {
-                    Slot::Nothing
-                }
-            }
+            Instr::Ecall => answer_slot(a7),
         }
     }
 
@@ -205,17 +212,21 @@ impl Instr {
             | Instr::Sb { rs1, rs2, .. }
             | Instr::Sh { rs1, rs2, .. }
             | Instr::Sw { rs1, rs2, .. } => Places::new(rs1, rs2, Register::ZERO),
-            Instr::Ecall => {
-                let answer = if a7 == 2 {
-                    Register::A0
-                } else {
-                    Register::ZERO
-                };
-                Places::new(Register::A0, Register::A7, answer)
-            }
+            Instr::Ecall => Places::of_service(a7),
             Instr::Fence { .. } | Instr::Ebreak => {
                 Places::new(Register::ZERO, Register::ZERO, Register::ZERO)
             }
         }
+    }
+}
+
+/// The place of the result of an ECALL that finds this number in a7: only the service that gets a byte has one.
+fn answer_slot(service: u32) -> Slot
+    ensures { result ≡ writes_of Instr.Ecall service }
+{
+    if service == 2 {
+        Slot::Reg(Register::A0)
+    } else {
+        Slot::Nothing
     }
 }

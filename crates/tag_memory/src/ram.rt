@@ -69,7 +69,8 @@ impl<T: Copy> Ram<T> {
         ensures exact { self.new ≡ with_ram_word self.old address word }
         ensures bytes { ram_bytes self.new ≡ ram_bytes self.old }
         ensures written { ram_word self.new address ≡ word }
-        ensures others { (other : ℕ) → other / 4 ≢ address / 4 → ram_word self.new other ≡ ram_word self.old other }
+        ensures others { (other : ℕ) → other / 4 ≢ address / 4
+            → ram_word self.new other ≡ ram_word self.old other }
     {
         self.words[(address / 4) as usize] = word;
     }
@@ -90,7 +91,8 @@ impl<T: Copy> Ram<T> {
         ensures exact { self.new ≡ with_ram_tag self.old address tag }
         ensures bytes { ram_bytes self.new ≡ ram_bytes self.old }
         ensures written { ram_tag self.new address ≡ tag }
-        ensures others { (other : ℕ) → other / 4 ≢ address / 4 → ram_tag self.new other ≡ ram_tag self.old other }
+        ensures others { (other : ℕ) → other / 4 ≢ address / 4
+            → ram_tag self.new other ≡ ram_tag self.old other }
     {
         self.tags[(address / 4) as usize] = tag;
     }
