@@ -1,4 +1,5 @@
 pub mod AccountLemmas
 pub mod MachineLemmas
+pub mod MirrorLemmas
 pub mod StepLemmas
 pub mod TurnLemmas

@@ -2,6 +2,8 @@ pub mod Accounts
 pub mod Events
 pub mod Laws
 pub mod Machine
+pub mod Maps
+pub mod Mirrored
 pub mod Runs
 pub mod Standing
 pub mod Turn

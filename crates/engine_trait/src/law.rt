@@ -1,10 +1,13 @@
 //! Laws of the definitions, for callers that reason about turns and steps.
 
 ghost use Rattle.std.specs.Prelude.{◌≡◌, ◌≢◌, ℕ, ◌<◌, ◌≤◌, List, false, true, length};
+ghost use Rattle.policy_trait.specs.Mirrors.{Mirrors};
 ghost use Rattle.engine_trait.specs.Accounts.{IsUncached};
 ghost use Rattle.engine_trait.specs.Events.{event_of, retired};
 ghost use Rattle.engine_trait.specs.Laws.{FollowsTurn, HasPlainZero, RunsOut, StaysIdle, StaysMachine, is_made};
 ghost use Rattle.engine_trait.specs.Machine.{IsMachine, Machine, is_ready_in};
+ghost use Rattle.engine_trait.specs.Maps.{machine_by, turned_by};
+ghost use Rattle.engine_trait.specs.Mirrored.{IsMirrored, StepsMirrored};
 ghost use Rattle.engine_trait.specs.Standing.{Standing, step};
 ghost use Rattle.engine_trait.specs.Turn.{turn_of};
 
@@ -59,4 +62,16 @@ pub fn plain_law<P: Policy>()
         → IsUncached (step P.Tag.eq P.model e feed h).standing.account }
     ensures hits { (e : Standing P P.Tag) (feed : List ℕ) (h : ℕ) → IsUncached e.account
         → (step P.Tag.eq P.model e feed h).standing.account.hits ≡ e.account.hits }
+{}
+
+/// Under a policy that mirrors the machine's, the machine with changed tags has the same turn with changed tags; and two
+/// engines of which one is the other so mirrored stay that in every step. The function does nothing.
+pub fn mirror_law<P: Policy, Q: Policy>()
+    ensures turn { (f : P.Tag → Q.Tag) (s : Machine P P.Tag) (t : Q) (feed : List ℕ) (h : ℕ)
+        → Mirrors f P.model s.policy Q.model t
+        → turn_of Q.model (machine_by f t s) feed h ≡ turned_by f t (turn_of P.model s feed h) }
+    ensures step { (f : P.Tag → Q.Tag) (e : Standing P P.Tag) (d : Standing Q Q.Tag)
+        (feed : List ℕ) (h : ℕ) → IsMirrored f P.model Q.model e d
+        → StepsMirrored f P.model Q.model
+        (step P.Tag.eq P.model e feed h) (step Q.Tag.eq Q.model d feed h) }
 {}

@@ -1,6 +1,7 @@
 pub mod Laws
 pub mod LawsLemmas
 pub mod Maps
+pub mod Mirrors
 pub mod Model
 pub mod Steps
 pub mod Uses

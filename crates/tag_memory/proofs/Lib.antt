@@ -1,2 +1,3 @@
 pub mod HartLemmas
+pub mod MapLemmas
 pub mod RamLemmas

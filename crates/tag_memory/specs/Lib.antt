@@ -1,4 +1,5 @@
 pub mod Hart
+pub mod Maps
 pub mod Ram
 pub mod Rows
 pub mod Writes

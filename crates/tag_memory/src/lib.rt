@@ -9,5 +9,5 @@ mod ram;
 mod tests;
 
 pub use hart::Hart;
-pub use law::{hart_law, ram_law};
+pub use law::{hart_law, map_law, ram_law};
 pub use ram::Ram;

@@ -1,4 +1,5 @@
 pub mod KeptLemmas
 pub mod LookLemmas
+pub mod MapLemmas
 pub mod PlaceLemmas
 pub mod RowLemmas

@@ -1,4 +1,5 @@
 pub mod Effects
 pub mod Feeds
 pub mod Looks
+pub mod Maps
 pub mod Services

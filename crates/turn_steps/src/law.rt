@@ -2,16 +2,19 @@
 
 ghost use Rattle.std.specs.Prelude.{◌≡◌, ℕ, ◌%◌, List, Ok, Option, Some};
 ghost use Rattle.std.specs.List.{All};
+ghost use Rattle.policy_trait.specs.Maps.{ok_by, outs_by};
 ghost use Rattle.policy_trait.specs.declared.rules.Outs.{Outs};
 ghost use Rattle.rv_decode.specs.Decoding.{decoded};
 ghost use Rattle.rv_decode.specs.Groups.{writes_of};
 ghost use Rattle.rv_decode.specs.declared.instructions.Instr.{Instr};
 ghost use Rattle.policy_trait.specs.declared.services.Answer.{Answer};
 ghost use Rattle.tag_memory.specs.Hart.{HartState, IsHart, IsHartOf, moved_to};
+ghost use Rattle.tag_memory.specs.Maps.{hart_by, ram_by};
 ghost use Rattle.tag_memory.specs.Ram.{IsPlace, IsRam, IsRamOf, RamState, ram_bytes};
 ghost use Rattle.tag_memory.specs.Rows.{StandFrom};
 ghost use Rattle.turn_steps.specs.Effects.{IsCarriedOf, IsSound, carried_out, with_result, with_tagged};
 ghost use Rattle.turn_steps.specs.Looks.{looked};
+ghost use Rattle.turn_steps.specs.Maps.{carry_by, look_by};
 ghost use Rattle.turn_steps.specs.Services.{WritesRow, with_answer, with_words};
 ghost use Rattle.turn_steps.specs.declared.look.Look.{Look};
 
@@ -44,4 +47,14 @@ pub fn words_law<T: Copy>()
         → IsRamOf plain (with_words ram words) }
     ensures bytes { (ram : RamState T) (words : List (ℕ × ℕ × T))
         → ram_bytes (with_words ram words) ≡ ram_bytes ram }
+{}
+
+/// A change of each tag goes through the look and the effect. The function does nothing.
+pub fn map_law<T: Copy, U: Copy>()
+    ensures looked { (f : T → U) (hart : HartState T) (ram : RamState T)
+        → looked (hart_by f hart) (ram_by f ram) ≡ ok_by (look_by f) (looked hart ram) }
+    ensures carried { (f : T → U) (hart : HartState T) (ram : RamState T) (feed : List ℕ)
+        (look : Look T) (outs : Outs T)
+        → carried_out (hart_by f hart) (ram_by f ram) feed (look_by f look) (outs_by f outs)
+        ≡ carry_by f (carried_out hart ram feed look outs) }
 {}

@@ -12,7 +12,7 @@ mod stop;
 
 pub use effects::{Done, carry_out};
 pub use feed::Feed;
-pub use law::{steps_law, words_law};
+pub use law::{map_law, steps_law, words_law};
 pub use look::Look;
 pub use looking::look_ahead;
 pub use services::{answer_to, arguments_of, write_words};

@@ -1,0 +1,258 @@
+-- The turn of a machine with changed tags, under a policy that mirrors the machine's.
+use Rattle.std.proofs.Common.{◌≡◌, ℕ, Bool, true, false, ◌||◌, not, nat_lt, List, Option, None, Result, Ok, Err, refl, ap, sym, subst, ◌∙◌, ◌&&◌, if◌then◌else◌}
+use Rattle.std.proofs.Math.ListN.{get_or-map}
+use Rattle.std.proofs.lemmas.List.{length-map, map-set}
+use Rattle.policy_trait.specs.Maps.{ins_by, ok_by, outs_by}
+use Rattle.policy_trait.specs.Mirrors.{Mirrors}
+use Rattle.policy_trait.specs.Model.{PolicyModel}
+use Rattle.policy_trait.specs.Steps.{◌>>=◌}
+use Rattle.policy_trait.specs.declared.rules.Outs.{Outs}
+use Rattle.policy_trait.specs.declared.rules.Refused.{Refused}
+use Rattle.monitor_calls.specs.Service.{Job}
+use Rattle.rv_step.specs.declared.faults.Fault.{Fault}
+use Rattle.rv_step.specs.declared.faults.Fault.TheVariants.{NoService}
+use Rattle.tag_memory.specs.Hart.{HartState, fresh_hart}
+use Rattle.tag_memory.specs.Maps.{hart_by, ram_by}
+use Rattle.tag_memory.specs.Ram.{RamState}
+use Rattle.turn_steps.specs.Effects.{Carried, carried_out}
+use Rattle.turn_steps.specs.Looks.{is_call, looked}
+use Rattle.turn_steps.specs.Maps.{carry_by, look_by}
+use Rattle.turn_steps.specs.declared.effects.Done.{Done}
+use Rattle.turn_steps.specs.declared.effects.Done.TheVariants as done
+use Rattle.turn_steps.specs.declared.look.Look.{Look}
+use Rattle.turn_steps.specs.declared.stop.Stop.{Stop}
+use Rattle.turn_steps.specs.declared.stop.Stop.TheVariants as stop
+use Rattle.turn_steps.proofs.MapLemmas.{carried_out_by, looked_by}
+use Rattle.engine_trait.specs.Accounts.{IsUncached}
+use Rattle.engine_trait.specs.Machine.{CoreState, Machine, has_no_stop, hart_at, is_ready_in, stop_at, stopping, with_hart}
+use Rattle.engine_trait.specs.Maps.{core_by, machine_by, turned_by}
+use Rattle.engine_trait.specs.Mirrored.{IsMirrored, StepsMirrored}
+use Rattle.engine_trait.specs.Standing.{Standing, Stepped, idle, is_ready, is_running, made, step}
+use Rattle.engine_trait.specs.Turn.{Turned, allowed, attempt, carried_at, core_effected, core_ended, effected, end_of, is_offered, offered, or_fault, or_unserved, or_violation, planned, prepared, service_on, settled, turn_by, turn_of}
+use Rattle.engine_trait.specs.declared.ends.Halt.{Halt}
+use Rattle.engine_trait.proofs.AccountLemmas.{accounted_halt}
+use Rattle.engine_trait.proofs.StepLemmas.{plain_stays, plain_step, step_idle}
+use Rattle.engine_trait.proofs.TurnLemmas.{allowed_turn, planned_turn}
+
+-- ---- steps in a row
+
+-- the first step gives what changes too
+both_by : {A B C D E : Type 0} (turn : A → B) (change : C → D) (first : Result A E) (changed_first : Result B E) (rest : A → Result C E) (changed : B → Result D E)
+    → changed_first ≡ ok_by turn first → ((x : A) → first ≡ Ok x → changed (turn x) ≡ ok_by change (rest x))
+    → (changed_first >>= changed) ≡ ok_by change (first >>= rest)
+both_by turn change (Ok x) changed_first rest changed is each = ap (λ r. r >>= changed) is ∙ each x refl
+both_by turn change (Err e) changed_first rest changed is each = ap (λ r. r >>= changed) is
+
+-- ---- the core
+
+module _ {T U : Type 0} (f : T → U) where
+  hart_at_by : (core : CoreState T) (h : ℕ) → hart_at (core_by f core) h ≡ hart_by f (hart_at core h)
+  hart_at_by core h = get_or-map (hart_by f) core.harts h (fresh_hart 0 core.ram.plain core.ram.plain)
+
+  pub ready_by : (core : CoreState T) (h : ℕ) → is_ready_in (core_by f core) h ≡ is_ready_in core h
+  ready_by core h = ap (λ (n : ℕ). nat_lt h n && has_no_stop (stop_at core h)) (length-map core.harts (hart_by f))
+
+  with_hart_by : (core : CoreState T) (h : ℕ) (hart : HartState T) (ram : RamState T)
+      → with_hart (core_by f core) h (hart_by f hart) (ram_by f ram) ≡ core_by f (with_hart core h hart ram)
+  with_hart_by core h hart ram =
+      ap (λ (harts : List (HartState U)). record (core_by f core) { harts = harts; ram = ram_by f ram }) (sym (map-set (hart_by f) core.harts h hart))
+
+  core_ended_by : (core : CoreState T) (h : ℕ) (carried : Carried T) (end : Done)
+      → core_ended (core_by f core) h (carry_by f carried) end ≡ core_by f (core_ended core h carried end)
+  core_ended_by core h carried (done.Stepped byte) = with_hart_by core h carried.hart carried.ram
+  core_ended_by core h carried done.Broke = with_hart_by core h carried.hart carried.ram
+  core_ended_by core h carried (done.Exited code) =
+      ap (λ (c : CoreState U). stopping c h (stop.Exit code)) (with_hart_by core h carried.hart carried.ram)
+
+  module _ (core : CoreState T) (feed : List ℕ) (h : ℕ) (look : Look T) (outs : Outs T) where
+    carried_at_by : carried_at (core_by f core) feed h (look_by f look) (outs_by f outs) ≡ carry_by f (carried_at core feed h look outs)
+    unfolding carried_at
+    carried_at_by =
+        ap (λ hart. carried_out hart (ram_by f core.ram) feed (look_by f look) (outs_by f outs)) (hart_at_by core h)
+        ∙ carried_out_by f (hart_at core h) core.ram feed look outs
+
+    core_effected_by : core_effected (core_by f core) feed h (look_by f look) (outs_by f outs) ≡ core_by f (core_effected core feed h look outs)
+    unfolding core_effected
+    core_effected_by =
+        ap (λ (c : Carried U). core_ended (core_by f core) h c c.done) carried_at_by
+        ∙ core_ended_by core h (carried_at core feed h look outs) (carried_at core feed h look outs).done
+
+-- ---- a policy that offers no service
+
+module _ {S T : Type 0} (m : PolicyModel T S) (s : Machine S T) (none : (k : ℕ) → m.knows s.policy k ≡ false) where
+  abbrev found : Look T → Result (Look T) Stop
+  found look = Ok look
+
+  own_if : (call known : Bool) (look given : Look T) (fault : Stop) → known ≡ false → is_call look.group ≡ call
+      → (if not call || known then found look else Err fault) ≡ Ok given → is_call given.group ≡ false
+  own_if true known look given fault unknown is e = absurd cc
+  own_if false known look given fault unknown is e = cc
+
+  offered_own : (look given : Look T) → offered m s look ≡ Ok given → is_call given.group ≡ false
+  offered_own look given e = own_if (is_call look.group) (m.knows s.policy look.service) look given (stop.Fault (NoService look.service)) (none look.service) refl e
+
+  first_own : (first : Result (Look T) Stop) (look : Look T) → (first >>= offered m s) ≡ Ok look → is_call look.group ≡ false
+  first_own (Ok found) look e = offered_own found look e
+  first_own (Err why) look e = absurd cc
+
+  -- a turn that comes to its rule calls no service of the policy
+  prepared_own : (h : ℕ) (look : Look T) → prepared m s h ≡ Ok look → is_call look.group ≡ false
+  unfolding prepared
+  prepared_own h look e = first_own (or_fault (looked (hart_at s.core h) s.core.ram)) look e
+
+planned_own : {S T : Type 0} (m : PolicyModel T S) (s : Machine S T) (h : ℕ) (look : Look T) (outs : Outs T) → is_call look.group ≡ false → planned m s h look outs ≡ Ok None
+unfolding planned
+planned_own m s h look outs own =
+    ap (λ call. if call then or_unserved (hart_at s.core h).pc look.service (service_on m s h look outs) else Ok None) own
+
+module _ {S T : Type 0} (m : PolicyModel T S) (s : Machine S T) (feed : List ℕ) (h : ℕ) (none : (k : ℕ) → m.knows s.policy k ≡ false) where
+  abbrev KeepsPolicy : Result (Turned S T) Stop → Type 0
+  KeepsPolicy result = (settled m s feed h result).machine.policy ≡ s.policy
+
+  steps_keep : {A : Type 0} (first : Result A Stop) (rest : A → Result (Turned S T) Stop) → ((x : A) → first ≡ Ok x → KeepsPolicy (rest x)) → KeepsPolicy (first >>= rest)
+  steps_keep (Ok x) rest each = each x refl
+  steps_keep (Err why) rest each = refl
+
+  attempt_keeps : KeepsPolicy (attempt m s feed h)
+  unfolding attempt
+  attempt_keeps =
+      steps_keep (prepared m s h) _ λ look look-is.
+      steps_keep (allowed m s h look) _ λ outs outs-is.
+      ap (λ job. (settled m s feed h (job >>= λ j. Ok (effected m s feed h look outs j))).machine.policy)
+      (planned_own m s h look outs (prepared_own m s none h look look-is))
+
+  turn_keeps_if : (ready : Bool) → (turn_by m s feed h ready).machine.policy ≡ s.policy
+  turn_keeps_if true = attempt_keeps
+  turn_keeps_if false = refl
+
+  -- its value stays
+  pub turn_keeps_policy : (turn_of m s feed h).machine.policy ≡ s.policy
+  unfolding turn_of
+  turn_keeps_policy = turn_keeps_if (is_ready_in s.core h)
+
+-- ---- the turn
+
+or_fault_by : {A B : Type 0} (change : A → B) (r : Result A Fault) → or_fault (ok_by change r) ≡ ok_by change (or_fault r)
+or_fault_by change (Ok x) = refl
+or_fault_by change (Err fault) = refl
+
+or_violation_by : {A B : Type 0} (change : A → B) (pc : ℕ) (r : Result A Refused) → or_violation pc (ok_by change r) ≡ ok_by change (or_violation pc r)
+or_violation_by change pc (Ok x) = refl
+or_violation_by change pc (Err refused) = refl
+
+if_by : {A B E : Type 0} (change : A → B) (test : Bool) (x : A) (e : E) → (if test then Ok (change x) else Err e) ≡ ok_by change (if test then Ok x else Err e)
+if_by change true x e = refl
+if_by change false x e = refl
+
+module _ {S T U V : Type 0} (f : T → U) (m : PolicyModel T S) (n : PolicyModel U V) (s : Machine S T) (t : V) (mirrors : Mirrors f m s.policy n t) where
+  abbrev mirror : Machine V U
+  mirror = machine_by f t s
+
+  offered_by : (look : Look T) → offered n mirror (look_by f look) ≡ ok_by (look_by f) (offered m s look)
+  offered_by look =
+      ap (λ (known : Bool). if not (is_call look.group) || known then Ok (look_by f look) else Err (stop.Fault (NoService look.service)))
+      (mirrors.mirror_offers_none look.service ∙ sym (mirrors.offers_none look.service))
+      ∙ if_by (look_by f) (is_offered m s look) look (stop.Fault (NoService look.service))
+
+  prepared_by : (h : ℕ) → prepared n mirror h ≡ ok_by (look_by f) (prepared m s h)
+  unfolding prepared
+  prepared_by h =
+      both_by (look_by f) (look_by f) (or_fault (looked (hart_at s.core h) s.core.ram)) (or_fault (looked (hart_at mirror.core h) mirror.core.ram)) (offered m s) (offered n mirror)
+      (ap or_fault (ap (λ hart. looked hart (ram_by f s.core.ram)) (hart_at_by f s.core h) ∙ looked_by f (hart_at s.core h) s.core.ram)
+      ∙ or_fault_by (look_by f) (looked (hart_at s.core h) s.core.ram))
+      (λ look is. offered_by look)
+
+  allowed_by : (h : ℕ) (look : Look T) → allowed n mirror h (look_by f look) ≡ ok_by (outs_by f) (allowed m s h look)
+  unfolding allowed
+  allowed_by h look =
+      ap (λ (hart : HartState U). or_violation hart.pc (n.rule t look.group (ins_by f look.inputs))) (hart_at_by f s.core h)
+      ∙ ap (or_violation (hart_at s.core h).pc) (mirrors.rule look.group look.inputs)
+      ∙ or_violation_by (outs_by f) (hart_at s.core h).pc (m.rule s.policy look.group look.inputs)
+
+  module _ (feed : List ℕ) (h : ℕ) where
+    effected_by : (look : Look T) (outs : Outs T) → effected n mirror feed h (look_by f look) (outs_by f outs) None ≡ turned_by f t (effected m s feed h look outs None)
+    effected_by look outs = λ j. record {
+      machine = record { policy = t; core = core_effected_by f s.core feed h look outs j };
+      feed = (carried_at_by f s.core feed h look outs j).feed;
+      ended = end_of (carried_at_by f s.core feed h look outs j).done;
+    }
+
+    abbrev ends_by : Look T → Outs T → Option (Job U) → Result (Turned V U) Stop
+    ends_by look outs job = Ok (effected n mirror feed h (look_by f look) (outs_by f outs) job)
+
+    planned_by : (look : Look T) (outs : Outs T) → is_call look.group ≡ false
+        → planned_turn n mirror feed h (look_by f look) (outs_by f outs) ≡ ok_by (turned_by f t) (planned_turn m s feed h look outs)
+    planned_by look outs own =
+        ap (λ job. job >>= ends_by look outs) (planned_own n mirror h (look_by f look) (outs_by f outs) own)
+        ∙ ap (λ turned. Ok turned) (effected_by look outs)
+        ∙ sym (ap (λ job. ok_by (turned_by f t) (job >>= λ j. Ok (effected m s feed h look outs j))) (planned_own m s h look outs own))
+
+    attempt_by : attempt n mirror feed h ≡ ok_by (turned_by f t) (attempt m s feed h)
+    unfolding attempt
+    attempt_by =
+        both_by (look_by f) (turned_by f t) (prepared m s h) (prepared n mirror h) (allowed_turn m s feed h) (allowed_turn n mirror feed h) (prepared_by h) λ look look-is.
+        both_by (outs_by f) (turned_by f t) (allowed m s h look) (allowed n mirror h (look_by f look)) (planned_turn m s feed h look) (planned_turn n mirror feed h (look_by f look))
+        (allowed_by h look) λ outs outs-is.
+        planned_by look outs (prepared_own m s mirrors.offers_none h look look-is)
+
+    settled_by : (result : Result (Turned S T) Stop) → settled n mirror feed h (ok_by (turned_by f t) result) ≡ turned_by f t (settled m s feed h result)
+    settled_by (Ok turned) = refl
+    settled_by (Err why) = refl
+
+    turn_if : (ready : Bool) → turn_by n mirror feed h ready ≡ turned_by f t (turn_by m s feed h ready)
+    turn_if true = ap (settled n mirror feed h) attempt_by ∙ settled_by (attempt m s feed h)
+    turn_if false = refl
+
+    pub turn_by_mirror : turn_of n mirror feed h ≡ turned_by f t (turn_of m s feed h)
+    unfolding turn_of
+    turn_by_mirror = ap (turn_by n mirror feed h) (ready_by f s.core h) ∙ turn_if (is_ready_in s.core h)
+
+-- ---- the step
+
+module _ {S T U V : Type 0} (same_tag : T → T → Bool) (same_mirror : U → U → Bool) (f : T → U) (m : PolicyModel T S) (n : PolicyModel U V)
+    (e : Standing S T) (d : Standing V U) (feed : List ℕ) (h : ℕ) (mirrored : IsMirrored f m n e d) where
+  turn_is : turn_of n d.machine feed h ≡ turned_by f d.machine.policy (turn_of m e.machine feed h)
+  turn_is =
+      ap (λ (core : CoreState U). turn_of n (record { policy = d.machine.policy; core = core }) feed h) mirrored.core
+      ∙ turn_by_mirror f m n e.machine d.machine.policy mirrored.policy feed h
+
+  ready_is : is_ready d h ≡ is_ready e h
+  ready_is =
+      ap (λ (halt : Option Halt). is_running halt && is_ready_in d.machine.core h) mirrored.halt
+      ∙ ap (λ (core : CoreState U). is_running e.account.halt && is_ready_in core h) mirrored.core
+      ∙ ap (λ ready. is_running e.account.halt && ready) (ready_by f e.machine.core h)
+
+  policy_is : Mirrors f m (turn_of m e.machine feed h).machine.policy n (turn_of n d.machine feed h).machine.policy
+  policy_is =
+      subst (λ s. Mirrors f m s n (turn_of n d.machine feed h).machine.policy) (sym (turn_keeps_policy m e.machine feed h mirrored.policy.offers_none))
+      (subst (λ t. Mirrors f m e.machine.policy n t) (sym (ap (λ (turned : Turned V U). turned.machine.policy) turn_is)) mirrored.policy)
+
+  made_mirrored : is_ready e h ≡ true → is_ready d h ≡ true → StepsMirrored f m n (made same_tag m e feed h) (made same_mirror n d feed h)
+  made_mirrored ready mirror_ready = record {
+    standing = record {
+      policy = policy_is;
+      core = ap (λ (turned : Turned V U). turned.machine.core) turn_is;
+      halt = accounted_halt same_mirror n d.machine h d.account ∙ mirrored.halt ∙ sym (accounted_halt same_tag m e.machine h e.account);
+      uncached = subst (λ (stepped : Stepped S T). IsUncached stepped.standing.account) (plain_step same_tag m e feed h mirrored.uncached ready) (plain_stays same_tag m e feed h mirrored.uncached);
+      mirror_uncached = subst (λ (stepped : Stepped V U). IsUncached stepped.standing.account) (plain_step same_mirror n d feed h mirrored.mirror_uncached mirror_ready) (plain_stays same_mirror n d feed h mirrored.mirror_uncached);
+    };
+    feed = ap (λ (turned : Turned V U). turned.feed) turn_is;
+    ended = ap (λ (turned : Turned V U). turned.ended) turn_is;
+  }
+
+  abbrev GoesAlong : Type 0
+  GoesAlong = StepsMirrored f m n (step same_tag m e feed h) (step same_mirror n d feed h)
+
+  step_if : (ready : Bool) → is_ready e h ≡ ready → GoesAlong
+  step_if true ready =
+      let mirror_ready : is_ready d h ≡ true = ready_is ∙ ready in
+      subst (λ a. StepsMirrored f m n a (step same_mirror n d feed h)) (sym (plain_step same_tag m e feed h mirrored.uncached ready))
+      (subst (λ b. StepsMirrored f m n (made same_tag m e feed h) b) (sym (plain_step same_mirror n d feed h mirrored.mirror_uncached mirror_ready))
+      (made_mirrored ready mirror_ready))
+  step_if false waits =
+      subst (λ a. StepsMirrored f m n a (step same_mirror n d feed h)) (sym (step_idle same_tag m e feed h waits))
+      (subst (λ b. StepsMirrored f m n (idle same_tag m e feed h) b) (sym (step_idle same_mirror n d feed h (ready_is ∙ waits)))
+      (record { standing = mirrored; feed = refl; ended = refl }))
+
+  pub step_mirrored : GoesAlong
+  step_mirrored = step_if (is_ready e h) refl

@@ -1,0 +1,8 @@
+use Rattle.turn_steps.proofs.MapLemmas.{carried_out_by, looked_by}
+use Rattle.turn_steps.proofs.law.map_law.Goals as goal
+
+pub returns-clause-looked : goal.returns-clause-looked
+returns-clause-looked g c = looked_by
+
+pub returns-clause-carried : goal.returns-clause-carried
+returns-clause-carried g c = carried_out_by
