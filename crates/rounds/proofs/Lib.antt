@@ -1,3 +1,5 @@
+pub mod MirrorLemmas
 pub mod Readiness
-pub mod Turning
 pub mod RunLemmas
+pub mod Stopping
+pub mod Turning

@@ -1,9 +1,12 @@
--- The first ready hart, one hart at a time.
-use Rattle.std.proofs.Common.{◌≡◌, ℕ, zero, suc, ◌+◌, ◌-◌, ◌<◌, nat_lt, Bool, true, false, ◌&&◌, Option, Some, None, if◌then◌else◌, length, refl, ap, ◌∙◌, arith}
+-- Which harts are ready, and whose turn is next.
+use Rattle.std.proofs.Common.{◌≡◌, ℕ, zero, suc, ◌+◌, ◌-◌, ◌<◌, nat_lt, Bool, true, false, ◌&&◌, List, map, Option, Some, None, if◌then◌else◌, length, slice_index_or, refl, ap, subst, sym, ◌∙◌, arith}
+use Rattle.std.specs.List.{range_with_len}
 use Rattle.std.proofs.lemmas.Bool.Decides.{nat_tests}
+use Rattle.std.proofs.lemmas.List.FromFn.{get_or-map-range_with_len, length-map-range_with_len}
 use Rattle.turn_steps.specs.declared.stop.Stop.{Stop}
 use Rattle.engine_trait.specs.Machine.{CoreState, has_no_stop, is_ready_in, stop_at}
-use Rattle.rounds.specs.Course.{first_ready}
+use Rattle.engine_trait.specs.Standing.{Standing, is_running}
+use Rattle.rounds.specs.Course.{first_ready, found_or_first, hart_stops, next_hart, next_turn, order_in, unless_stopped}
 
 never_both : (x : Bool) → (x && false) ≡ false
 never_both true = refl
@@ -39,3 +42,90 @@ module _ {T : Type 0} (core : CoreState T) (h : ℕ) where
   not_first (suc n) why some stopped =
       rw (stopped_in why stopped)
       (ap (first_ready core (h + 1)) (let e : suc n - 1 ≡ n = omega arith in e))
+
+-- ---- what is next is there
+
+left_true : (x y : Bool) → (x && y) ≡ true → x ≡ true
+left_true true y both = refl
+left_true false y both = both
+
+module _ {T : Type 0} (core : CoreState T) where
+  abbrev IsThere : ℕ → Type 0
+  IsThere h = h < length core.harts
+
+  ready_there : (h : ℕ) → is_ready_in core h ≡ true → IsThere h
+  ready_there h ready =
+      let below : nat_lt h (length core.harts) ≡ true = left_true (nat_lt h (length core.harts)) (has_no_stop (stop_at core h)) ready in
+      grind (arith, nat_tests)
+
+  found_there : (ready : Bool) (from h : ℕ) (rest : Option ℕ) → is_ready_in core from ≡ ready → (if ready then Some from else rest) ≡ Some h
+      → (rest ≡ Some h → IsThere h) → IsThere h
+  found_there true from h rest is found others = subst IsThere (let e : from ≡ h = cc in e) (ready_there from is)
+  found_there false from h rest is found others = others found
+
+  first_there : (from n h : ℕ) → first_ready core from n ≡ Some h → IsThere h
+  unfolding first_ready
+  first_there from zero h found = absurd cc
+  first_there from (suc n) h found = found_there (is_ready_in core from) from h (first_ready core (from + 1) n) refl found (first_there (from + 1) n h)
+
+  either_there : (found first : Option ℕ) (h : ℕ) → found_or_first found first ≡ Some h → (found ≡ Some h → IsThere h) → (first ≡ Some h → IsThere h) → IsThere h
+  either_there (Some k) first h is now later = now is
+  either_there None first h is now later = later is
+
+  next_hart_there : (from h : ℕ) → next_hart core from ≡ Some h → IsThere h
+  unfolding next_hart
+  next_hart_there from h is =
+      either_there (first_ready core from (length core.harts - from)) (first_ready core 0 (length core.harts)) h is
+      (first_there from (length core.harts - from) h) (first_there 0 (length core.harts) h)
+
+if_running : (running : Bool) (next : Option ℕ) (h : ℕ) → (if running then next else None) ≡ Some h → next ≡ Some h
+if_running true next h is = is
+if_running false next h is = absurd cc
+
+pub next_there : {S T : Type 0} (e : Standing S T) (from h : ℕ) → next_turn e from ≡ Some h → h < length e.machine.core.harts
+unfolding next_turn
+next_there e from h is = next_hart_there e.machine.core from h (if_running (is_running e.account.halt) (next_hart e.machine.core from) h is)
+
+-- ---- the order of turns
+
+module _ {S T : Type 0} (e : Standing S T) (order : List (Option ℕ)) (kept : order ≡ order_in e.machine.core) (h : ℕ) (there : h < length e.machine.core.harts) where
+  abbrev after : ℕ → Option ℕ
+  after k = next_hart e.machine.core (k + 1)
+
+  pub in_order : h < length order
+  in_order = subst (λ (n : ℕ). h < n) (sym (ap length kept ∙ length-map-range_with_len after 0 (length e.machine.core.harts))) there
+
+  pub next_in_order : unless_stopped e.account.halt (slice_index_or order h None) ≡ next_turn e (h + 1)
+  unfolding next_turn
+  next_in_order =
+      ap (unless_stopped e.account.halt)
+      (ap (λ (items : List (Option ℕ)). slice_index_or items h None) kept
+      ∙ get_or-map-range_with_len after 0 (length e.machine.core.harts) h h None there (let e : 0 + h ≡ h = omega arith in e))
+
+-- ---- two cores whose harts are ready alike
+
+module _ {T U : Type 0} (core : CoreState T) (other : CoreState U) (stops : other.stops ≡ core.stops) (count : length other.harts ≡ length core.harts) where
+  ready_same : (h : ℕ) → is_ready_in other h ≡ is_ready_in core h
+  ready_same h =
+      ap (λ (n : ℕ). nat_lt h n && has_no_stop (stop_at other h)) count
+      ∙ ap (λ (all : List (Option Stop)). nat_lt h (length core.harts) && has_no_stop (slice_index_or all h None)) stops
+
+  first_ready_same : (from n : ℕ) → first_ready other from n ≡ first_ready core from n
+  unfolding first_ready
+  first_ready_same from zero = refl
+  first_ready_same from (suc more) =
+      ap (λ ready. if ready then Some from else first_ready other (from + 1) more) (ready_same from)
+      ∙ ap (λ rest. if is_ready_in core from then Some from else rest) (first_ready_same (from + 1) more)
+
+  pub next_hart_same : (from : ℕ) → next_hart other from ≡ next_hart core from
+  unfolding next_hart
+  next_hart_same from =
+      ap (λ (n : ℕ). found_or_first (first_ready other from (n - from)) (first_ready other 0 n)) count
+      ∙ ap (λ found. found_or_first found (first_ready other 0 (length core.harts))) (first_ready_same from (length core.harts - from))
+      ∙ ap (found_or_first (first_ready core from (length core.harts - from))) (first_ready_same 0 (length core.harts))
+
+  pub hart_stops_same : hart_stops other ≡ hart_stops core
+  hart_stops_same = λ j. map (λ h. slice_index_or (stops j) h None) (range_with_len 0 (count j))
+
+  pub order_same : order_in other ≡ order_in core
+  order_same = λ j. map (λ h. next_hart_same (h + 1) j) (range_with_len 0 (count j))

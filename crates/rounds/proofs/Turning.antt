@@ -1,5 +1,5 @@
 -- Rounds, one turn at a time, and what is put of them on the way.
-use Rattle.std.proofs.Common.{◌≡◌, ℕ, zero, suc, ◌+◌, ◌-◌, ◌<◌, Bool, true, false, List, [], ◌++◌, Option, Some, None, refl, ap, sym, subst, ◌∙◌, arith}
+use Rattle.std.proofs.Common.{◌≡◌, ℕ, zero, suc, ◌+◌, ◌-◌, ◌<◌, Bool, true, false, List, [], ◌++◌, Option, Some, None, Result, Err, refl, ap, sym, subst, ◌∙◌, arith}
 use Rattle.std.proofs.lemmas.List.Concat.{flat_map-cons}
 use Rattle.host_io.specs.Pieces.{Piece, PutsAll, PutsFirst, PutsFront, PutsSoFar, Taken}
 use Rattle.host_io.proofs.PieceLemmas.{puts_are_cut, puts_are_cut_between, puts_are_whole, puts_begin, puts_go_on}
@@ -14,6 +14,9 @@ use Rattle.engine_trait.specs.declared.ends.TurnEnd.TheVariants as ends
 use Rattle.engine_trait.proofs.StepLemmas.{step_follows}
 use Rattle.rounds.specs.Course.{Course, after_turn, next_turn, rounds, stays, taking}
 use Rattle.rounds.specs.Shown.{pieces_of, shown, shown_by}
+
+pub same_err : {A E : Type 0} (x y : E) → ◌≡◌ {A = Result A E} (Err x) (Err y) → x ≡ y
+same_err x y e = cc
 
 -- a turn that was not made shows nothing
 unmade_shows_nothing : (h : ℕ) (ended : TurnEnd) → is_made ended ≡ false → shown_by h ended ≡ []
@@ -57,7 +60,7 @@ module _ {S T : Type 0} (eq : T → T → Bool) (m : PolicyModel T S) (e : Stand
   pieces_if false course is =
       ap (λ (pieces : List Piece). pieces ++ pieces_of course.events) (sym (unmade_shows_nothing h (step eq m e feed h).ended is))
 
-  pieces_after : (course : Course S T) → pieces_of (after_turn (is_made (step eq m e feed h).ended) h (event_of m e.machine feed h) course).events
+  pub pieces_after : (course : Course S T) → pieces_of (after_turn (is_made (step eq m e feed h).ended) h (event_of m e.machine feed h) course).events
       ≡ shown_by h (step eq m e feed h).ended ++ pieces_of course.events
   pieces_after course = pieces_if (is_made (step eq m e feed h).ended) course refl
 
@@ -70,11 +73,11 @@ module _ {S T : Type 0} (eq : T → T → Bool) (m : PolicyModel T S) (e : Stand
 
 -- a turn before others changes neither how they end nor the feed that they leave
 module _ {S T : Type 0} (h : ℕ) (event : Event T) (course : Course S T) where
-  after-standing : (counted : Bool) → (after_turn counted h event course).standing ≡ course.standing
+  pub after-standing : (counted : Bool) → (after_turn counted h event course).standing ≡ course.standing
   after-standing true = refl
   after-standing false = refl
 
-  after-feed : (counted : Bool) → (after_turn counted h event course).feed ≡ course.feed
+  pub after-feed : (counted : Bool) → (after_turn counted h event course).feed ≡ course.feed
   after-feed true = refl
   after-feed false = refl
 

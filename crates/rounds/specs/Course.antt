@@ -1,5 +1,5 @@
 -- Rounds of turns: over all harts of an engine, round after round, passing over those that have stopped.
-use Rattle.std.specs.Prelude.{ℕ, zero, suc, ◌+◌, ◌-◌, Bool, List, [], ◌∷◌, length, map, Option, Some, None, if◌then◌else◌}
+use Rattle.std.specs.Prelude.{ℕ, zero, suc, ◌+◌, ◌-◌, Bool, true, false, List, [], ◌∷◌, length, map, Option, Some, None, if◌then◌else◌}
 use Rattle.std.specs.List.{range_with_len}
 use Rattle.policy_trait.specs.Model.{PolicyModel}
 use Rattle.turn_steps.specs.declared.stop.Stop.{Stop}
@@ -7,6 +7,9 @@ use Rattle.engine_trait.specs.Events.{Event, event_of}
 use Rattle.engine_trait.specs.Laws.{is_made}
 use Rattle.engine_trait.specs.Machine.{CoreState, is_ready_in, stop_at}
 use Rattle.engine_trait.specs.Runs.{Trace}
+use Rattle.engine_trait.specs.declared.ends.Halt.{Halt}
+use Rattle.engine_trait.specs.declared.ends.TurnEnd.{TurnEnd}
+use Rattle.engine_trait.specs.declared.ends.TurnEnd.TheVariants as ends
 use Rattle.engine_trait.specs.Standing.{Standing, is_running, step}
 
 -- why each hart stopped, if it did
@@ -26,9 +29,17 @@ found_or_first None first = first
 unfoldable pub next_hart : {T : Type 0} → CoreState T → ℕ → Option ℕ
 next_hart core from = found_or_first (first_ready core from (length core.harts - from)) (first_ready core 0 (length core.harts))
 
--- the hart whose turn is next, from one on; none where the engine as a whole is stopped
+-- of each hart: whose turn comes after its own, while none stops
+abbrev pub order_in : {T : Type 0} → CoreState T → List (Option ℕ)
+order_in core = map (λ h. next_hart core (h + 1)) (range_with_len 0 (length core.harts))
+
+-- none where the engine as a whole is stopped
+abbrev pub unless_stopped : Option Halt → Option ℕ → Option ℕ
+unless_stopped halt next = if is_running halt then next else None
+
+-- the hart whose turn is next, from one on
 unfoldable pub next_turn : {S T : Type 0} → Standing S T → ℕ → Option ℕ
-next_turn e from = if is_running e.account.halt then next_hart e.machine.core from else None
+next_turn e from = unless_stopped e.account.halt (next_hart e.machine.core from)
 
 -- after some rounds: the standing and the feed, and of the turns that were counted the events and the harts, in their order
 pub record Course (S T : Type 0) : Type 0 where
@@ -40,6 +51,15 @@ pub record Course (S T : Type 0) : Type 0 where
 -- the same as a run of a machine
 abbrev pub trace_of : {S T : Type 0} → Course S T → Trace S T
 trace_of course = record { machine = course.standing.machine; feed = course.feed; events = course.events }
+
+-- the turn stopped its hart
+abbrev pub is_stop : TurnEnd → Bool
+is_stop (ends.Stopped why) = true
+is_stop (ends.Ran byte) = false
+is_stop ends.Break = false
+is_stop ends.Idle = false
+is_stop ends.TagsOut = false
+is_stop ends.Memory = false
 
 -- no turn
 abbrev pub stays : {S T : Type 0} → Standing S T → List ℕ → Course S T

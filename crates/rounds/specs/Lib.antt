@@ -1,3 +1,4 @@
 pub mod Course
 pub mod Cuts
+pub mod Same
 pub mod Shown

@@ -1,8 +1,10 @@
 // What holds of rounds.
 ghost use Rattle.std.specs.Prelude.{◌≡◌, ℕ, ◌≤◌, List, length, map};
+ghost use Rattle.engine_trait.specs.Mirrored.{IsMirrored};
 ghost use Rattle.engine_trait.specs.Runs.{run_along, turn};
 ghost use Rattle.engine_trait.specs.Standing.{Standing};
 ghost use Rattle.rounds.specs.Course.{rounds, trace_of};
+ghost use Rattle.rounds.specs.Same.{ShowsSame};
 
 use policy_trait::Policy;
 
@@ -16,4 +18,13 @@ pub fn rounds_law<P: Policy>()
         (map turn (rounds P.Tag.eq P.model limit from e feed).order) }
     ensures few { (limit from : ℕ) (e : Standing P P.Tag) (feed : List ℕ) →
         length (rounds P.Tag.eq P.model limit from e feed).order ≤ limit }
+{}
+
+/// Rounds of an engine without a rule cache and of one that mirrors it, on the same feed, show the
+/// same. The function does nothing.
+pub fn mirror_law<P: Policy, Q: Policy>()
+    ensures { (f : P.Tag → Q.Tag) (e : Standing P P.Tag) (d : Standing Q Q.Tag)
+        (limit from : ℕ) (feed : List ℕ) → IsMirrored f P.model Q.model e d
+        → ShowsSame (rounds P.Tag.eq P.model limit from e feed)
+        (rounds Q.Tag.eq Q.model limit from d feed) }
 {}

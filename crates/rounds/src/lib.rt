@@ -2,10 +2,11 @@
 #![tactic(auto)]
 
 mod law;
+mod order;
 mod running;
 mod stops;
 mod telling;
 
-pub use law::rounds_law;
+pub use law::{mirror_law, rounds_law};
 pub use running::{RoundsEnd, make_rounds};
 pub use stops::stops_of;

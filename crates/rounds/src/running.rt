@@ -1,11 +1,12 @@
 // The loop of rounds.
-ghost use Rattle.std.specs.Prelude.{◌≡◌, ◌≢◌, ◌-◌, ◌<◌, Err, None, Some, IfSome, OnOk, length};
+ghost use Rattle.std.specs.Prelude.{◌≡◌, ◌≢◌, ◌<◌, Err, None, Some, IfOk, OnOk, length};
 ghost use Rattle.host_io.specs.Pieces.{Puts, PutsFirst};
 ghost use Rattle.engine_trait.specs.Standing.{step};
-ghost use Rattle.rounds.specs.Course.{first_ready, next_turn, rounds};
+ghost use Rattle.rounds.specs.Course.{rounds};
 ghost use Rattle.rounds.specs.Cuts.{RoundsCause};
 ghost use Rattle.rounds.specs.Shown.{pieces_of, shown_by};
 
+use crate::order::{next_after, next_turn, order_of};
 use crate::telling::tell;
 use engine_trait::{Engine, Feed, Halt, TurnEnd};
 use host_io::{PutEnd, Sink};
@@ -19,50 +20,22 @@ pub enum RoundsEnd {
     Engine,
 }
 
-/// The first ready hart from one on.
-fn first_ready<E: Engine>(engine: &E, from: u32) -> Option<u32>
-    ensures first { let core = (E.standing engine.now).machine.core in
-        result ≡ first_ready core from (length core.harts - from) }
-    ensures hart { IfSome result (λ h. h < length (E.standing engine.now).machine.core.harts) }
-    ensures few { IfSome result (λ h. h < 8) }
-{
-    for h in from..engine.harts() {
-        let None = engine.stop(h) else {
-            continue;
-        };
-        return Some(h);
-    }
-    None
-}
-
-/// The hart whose turn is next, from one on. None is where the engine as a whole is stopped, or no
-/// hart is ready.
-#[tactic(auto, unfolding(crate::specs::Course::next_turn, crate::specs::Course::next_hart))]
-fn next_turn<E: Engine>(engine: &E, from: u32) -> Option<u32>
-    ensures next { result ≡ next_turn (E.standing engine.now) from }
-    ensures hart { IfSome result (λ h. h < length (E.standing engine.now).machine.core.harts) }
-    ensures few { IfSome result (λ h. h < 8) }
-{
-    if engine.stopped() {
-        return None;
-    }
-    match first_ready(engine, from) {
-        Some(h) => Some(h),
-        None => first_ready(engine, 0),
-    }
-}
-
-/// One turn of a hart, and what it shows.
+/// One turn of a hart, and what it shows. The answer is how the turn ended.
+#[inline(always)]
 fn make_turn<E: Engine, K: Sink, L: Sink>(
     engine: &mut E,
     h: u32,
     feed: &mut Feed,
     out: &mut K,
     err: &mut L,
-) -> Result<(), RoundsEnd>
+) -> Result<TurnEnd, RoundsEnd>
     requires { h < length (E.standing engine.old).machine.core.harts }
+    ensures ended { IfOk result (λ end.
+        end ≡ (step E.P.Tag.eq E.P.model (E.standing engine.old) feed.old h).ended) }
     ensures standing { OnOk result (E.standing engine.new
         ≡ (step E.P.Tag.eq E.P.model (E.standing engine.old) feed.old h).standing) }
+    ensures harts { OnOk result (length (E.standing engine.new).machine.core.harts
+        ≡ length (E.standing engine.old).machine.core.harts) }
     ensures feed { OnOk result (feed.new
         ≡ (step E.P.Tag.eq E.P.model (E.standing engine.old) feed.old h).feed) }
     ensures puts { Puts (record { out = K.taken out.old; err = L.taken err.old })
@@ -83,7 +56,10 @@ fn make_turn<E: Engine, K: Sink, L: Sink>(
     if let TurnEnd::Memory = end {
         return Err(RoundsEnd::Engine);
     }
-    tell(h, end, out, err).map_err(RoundsEnd::Put)
+    match tell(h, end, out, err) {
+        Ok(()) => Ok(end),
+        Err(cause) => Err(RoundsEnd::Put(cause)),
+    }
 }
 
 /// Turns of an engine in rounds from hart 0 on, at most `limit`, passing over harts that have
@@ -120,13 +96,14 @@ pub fn make_rounds<E: Engine, K: Sink, L: Sink>(
     ensures runs_on { (end : PutEnd) → result ≡ Err (RoundsEnd.Put end)
         → (E.standing engine.new).account.halt ≡ None }
 {
-    let mut from = 0;
+    let mut order = order_of(engine);
+    let mut next = next_turn(engine, 0);
     for _ in 0..limit {
-        let Some(h) = next_turn(engine, from) else {
+        let Some(h) = next else {
             break;
         };
-        make_turn(engine, h, feed, out, err)?;
-        from = h + 1;
+        let end = make_turn(engine, h, feed, out, err)?;
+        next = next_after(engine, h, end, &mut order);
     }
     Ok(())
 }

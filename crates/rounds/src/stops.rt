@@ -6,7 +6,7 @@ use arrayvec::ArrayVec;
 use engine_trait::{Engine, Stop};
 
 /// The most harts of a machine.
-const MOST_HARTS: usize = 8;
+pub(crate) const MOST_HARTS: usize = 8;
 
 /// Why each hart stopped, in the order of their numbers; `None` for one that is ready.
 pub fn stops_of<E: Engine>(engine: &E) -> ArrayVec<Option<Stop>, MOST_HARTS>

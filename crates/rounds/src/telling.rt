@@ -2,10 +2,10 @@
 ghost use Rattle.std.specs.Prelude.{◌≡◌, ◌≢◌, true, Err, OnErr, OnOk};
 ghost use Rattle.host_io.specs.Causes.{PutCause};
 ghost use Rattle.host_io.specs.Fronts.{TakesAll, TakesFront};
-ghost use Rattle.tag_text.specs.Texts.{stop_line};
 ghost use Rattle.host_io.specs.Pieces.{Puts, PutsFirst};
 ghost use Rattle.host_io.specs.TwoSinks.{PutsCause};
 ghost use Rattle.engine_trait.specs.Laws.{is_made};
+ghost use Rattle.tag_text.specs.Texts.{stop_line};
 ghost use Rattle.rounds.specs.Shown.{shown_by};
 
 use engine_trait::{Stop, TurnEnd};
@@ -14,6 +14,7 @@ use pump_words::Line;
 use tag_text::write_stop_line;
 
 /// Tells what a turn of hart `h` that ended so shows.
+#[inline(always)]
 pub(crate) fn tell<K: Sink, L: Sink>(
     h: u32,
     end: TurnEnd,

@@ -1,6 +1,6 @@
 use Rattle.std.proofs.Common.{◌≡◌, ◌-◌, length}
 use Rattle.rounds.specs.Course.{first_ready}
-use Rattle.rounds.proofs.running.first_ready.Given as goal
+use Rattle.rounds.proofs.order.first_ready.Given as goal
 
 abbrev pub invariant-loop-h : goal.invariant-loop-h
 invariant-loop-h g l =

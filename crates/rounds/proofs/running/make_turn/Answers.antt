@@ -1,5 +1,3 @@
-use Rattle.std.proofs.Common.{rules, ◌≡◌, true}
-use Rattle.engine_trait.specs.Laws.{is_made}
 use Rattle.rounds.proofs.Turning.{made_runs}
 use Rattle.host_io.proofs.PieceLemmas.{puts_begin, puts_none}
 use Rattle.rounds.proofs.running.make_turn.Goals as goal
@@ -10,8 +8,7 @@ returns-in-Memory-clause-puts g c = puts_none _ _
 pub returns-in-Memory-clause-whole : goal.returns-in-Memory-clause-whole
 returns-in-Memory-clause-whole g c = λ sound. (_, puts_begin _ _)
 
-pub returns-clause-runs_on : goal.returns-clause-runs_on
-returns-clause-runs_on g c = λ end is.
-    let made : is_made c.turn-end.result ≡ true = search (rules, c.map_err.ensures.cases, c.map_err.ensures.variant, c.tell.ensures.made, is) in
+pub returns-in-Err-clause-runs_on : goal.returns-in-Err-clause-runs_on
+returns-in-Err-clause-runs_on g c = λ end is.
     made_runs g.E.P.Tag.PartialEq.eq g.E.P.Policy.model (g.E.Engine.standing c.args.engine.now) c.args.feed.now c.args.h
-    (g.E.Engine.standing c.turn-end.new.self) c.turn-end.new.feed c.turn-end.result (c.turn-end.ensures.step c.in_default.not-Memory) made
+    (g.E.Engine.standing c.turn-end.new.self) c.turn-end.new.feed c.turn-end.result (c.turn-end.ensures.step c.in_default.not-Memory) c.in-Err.ensures.made

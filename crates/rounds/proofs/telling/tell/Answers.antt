@@ -1,5 +1,4 @@
-use Rattle.std.proofs.Common.{rules, Some, ◌≡◌}
-use Rattle.tag_text.specs.Texts.{stop_line}
+use Rattle.std.proofs.Common.{Some, ◌≡◌}
 use Rattle.host_io.proofs.PieceLemmas.{put_on_err, put_on_out, whole_on_err, whole_on_out}
 use Rattle.rounds.proofs.telling.tell.Goals as goal
 
