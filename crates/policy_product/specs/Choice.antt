@@ -1,5 +1,5 @@
 -- The policies that can be chosen so far, sealing or none, and what is chosen as one policy.
-use Rattle.std.specs.Prelude.{ℕ, Bool, true, false, List, codes, Option, Some, None, if◌then◌else◌}
+use Rattle.std.specs.Prelude.{ℕ, Bool, true, false, not, List, codes, Option, Some, None, if◌then◌else◌}
 use Rattle.std.specs.Option.{option_eq}
 use Rattle.std.specs.Str.{bytes_eq}
 use Rattle.policy_trait.specs.Model.{PolicyModel}
@@ -35,3 +35,7 @@ all_eq = option_eq eq-value.it
 -- the chosen policies, before anything was asked of them
 abbrev pub chosen : Choice → AllState
 chosen choice = record { part = if choice.seal then Some 0 else None }
+
+-- no policy is chosen
+abbrev pub is_none : Choice → Bool
+is_none choice = not choice.seal

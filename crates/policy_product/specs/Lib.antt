@@ -1,3 +1,5 @@
 pub mod Choice
 pub mod Maybe
 pub mod MaybeLaws
+pub mod Nothing
+pub mod NothingLaws

@@ -1,7 +1,7 @@
 //! Which policies are chosen, and these as one policy.
 
 ghost use Rattle.std.specs.Prelude.{◌≡◌};
-ghost use Rattle.policy_product.specs.Choice.{choice_of, chosen};
+ghost use Rattle.policy_product.specs.Choice.{choice_of, chosen, is_none};
 
 use crate::maybe::Maybe;
 use sealing_policy::{SealTag, Sealing};
@@ -11,6 +11,15 @@ use sealing_policy::{SealTag, Sealing};
 pub struct Choice {
     /// Whether sealing is.
     pub seal: bool,
+}
+
+impl Choice {
+    /// Whether no policy is chosen.
+    pub fn is_none(self) -> bool
+        ensures { result ≡ is_none self }
+    {
+        !self.seal
+    }
 }
 
 /// All policies together, each of them on or off.

@@ -1,6 +1,6 @@
-//! What a small policy answers, on and off; and the policies that can be chosen.
+//! What a small policy answers, on and off, and the one that is nothing; and the policies that can be chosen.
 
-use crate::{Choice, Maybe, choose, read_choice};
+use crate::{Choice, Maybe, Nothing, choose, read_choice};
 use policy_trait::{
     Answer, Args, Birth, Ins, Mask, Outs, Part, Plan, PlanEnd, Policy, Refused, Rest, Why,
 };
@@ -52,7 +52,9 @@ impl Policy for Noting {
     }
 
     fn rule(&self, group: Group, inputs: Ins<u32>) -> Result<Outs<u32>, Refused>
-        ensures { result ≡ (if inputs.t1 == 9 then Err (record { part = Heap; why = Rule group }) else Ok (record { pc = inputs.pc; result = inputs.t1 })) }
+        ensures { result ≡ (if inputs.t1 == 9
+            then Err (record { part = Heap; why = Rule group })
+            else Ok (record { pc = inputs.pc; result = inputs.t1 })) }
     {
         if inputs.t1 == 9 {
             return Err(Refused {
@@ -243,6 +245,28 @@ fn answers_of_a_policy_that_is_off(rt: HostRuntime) {
 }
 
 #[test]
+fn answers_of_the_policy_that_is_nothing(rt: HostRuntime) {
+    let inputs = Ins {
+        pc: (),
+        ci: (),
+        t1: (),
+        t2: (),
+        tm: (),
+    };
+    let allowed = Ok(Outs { pc: (), result: () });
+    for group in [Group::StoreWord, Group::Jalr, Group::Call] {
+        assert!(rt; Nothing.rule(group, inputs) == allowed);
+        assert!(rt; Nothing.ignores(group).tm);
+    }
+    for number in [16, 32, 48] {
+        assert!(rt; !Nothing.knows(number));
+    }
+    let mut line = Line::new();
+    Nothing.show((), &mut line);
+    assert!(rt; line.as_slice().is_empty());
+}
+
+#[test]
 fn answers_of_a_policy_that_is_on(rt: HostRuntime) {
     let on = on();
     let some = Mask {
@@ -315,6 +339,8 @@ fn policies_by_their_names(rt: HostRuntime) {
     for (text, choice) in rows {
         assert!(rt; read_choice(text) == choice);
     }
+    assert!(rt; none.is_none());
+    assert!(rt; !sealing.is_none());
     assert!(rt; choose(none).part.is_none());
     assert!(rt; choose(sealing).plain() == Some(SealTag::Data));
 }

@@ -1,4 +1,5 @@
 pub mod Answering
+pub mod Bare
 pub mod Ends
 pub mod Gathering
 pub mod Tasks

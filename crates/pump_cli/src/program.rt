@@ -1,9 +1,11 @@
 //! The program, from the words, the files, the input and the two sinks to its status.
 
 ghost use Rattle.std.specs.Prelude.{IfOk, Some};
+ghost use Rattle.rounds.specs.Course.{rounds};
 ghost use Rattle.pump_line.specs.Task.{run, task_of};
 ghost use Rattle.pump_line.specs.Told.{run_told, texts_of, told};
 ghost use Rattle.pump_cli.specs.Codes.{IsOfRun};
+ghost use Rattle.pump_cli.specs.Endings.{outcome_of_course};
 ghost use Rattle.pump_cli.specs.Facts.{Does, PutsFaultBy, status_in};
 ghost use Rattle.pump_cli.specs.Outsides.{outside};
 ghost use Rattle.pump_cli.specs.Program.{outcome_of_file, outcome_of_run, outcome_of_task, program};
@@ -19,9 +21,37 @@ use host_io::{Files, Sink, Source};
 use image_format::Image;
 use pump_line::{RunTask, Task, WordsEnd, read_task};
 use std::alloc::Global;
-use tag_loader::PlainLoad;
+use tag_loader::{BareLoad, PlainLoad};
 
-/// Runs an image from its start on these bytes of input.
+/// Runs what a loader starts, on these bytes of input. It stays a call, so that each kind of engine has a loop of its own.
+#[inline(never)]
+fn run_load<D: Loader, K: Sink, L: Sink>(
+    turns: u64,
+    loader: &D,
+    fed: Vec<u8>,
+    out: &mut K,
+    err: &mut L,
+) -> Result<Status, Cut>
+where
+    D::E: Drop,
+    ensures does { Does (outcome_of_course
+        (rounds D.E.P.Tag.eq D.E.P.model turns 0 (D.start loader.now) fed.items))
+        (record { out = K.taken out.old; err = L.taken err.old })
+        (record { out = K.taken out.new; err = L.taken err.new }) result }
+    ensures faults { PutsFaultBy
+        (record { out = K.faults out.old; err = L.faults err.old })
+        (record { out = K.faults out.new; err = L.faults err.new }) result }
+    ensures kind { IfOk result IsOfRun }
+{
+    let Ok(mut engine) = loader.load() else {
+        return Err(Cut::Memory);
+    };
+    let mut feed = Feed::of(fed);
+    run_engine(turns, &mut engine, &mut feed, out, err)
+}
+
+/// Runs an image from its start on these bytes of input. Where no policy is chosen the engine is one whose tags have no
+/// size: it shows the same.
 #[tactic(auto, unfolding(crate::specs::Program::outcome_of_run))]
 fn run_image<K: Sink, L: Sink>(
     alloc: Global,
@@ -39,11 +69,11 @@ fn run_image<K: Sink, L: Sink>(
         (record { out = K.faults out.new; err = L.faults err.new }) result }
     ensures kind { IfOk result IsOfRun }
 {
-    let Ok(mut engine) = PlainLoad::new(alloc, image, task.choice).load() else {
-        return Err(Cut::Memory);
-    };
-    let mut feed = Feed::of(fed);
-    run_engine(task.turns, &mut engine, &mut feed, out, err)
+    if task.choice.is_none() {
+        return run_load(task.turns, &BareLoad::new(alloc, image), fed, out, err);
+    }
+    let loader = PlainLoad::new(alloc, image, task.choice);
+    run_load(task.turns, &loader, fed, out, err)
 }
 
 /// Loads the image, reads the whole input, and runs the image on it.

@@ -18,6 +18,12 @@ impl Same for u32 {
     ghost same = { Prim.search rules };
 }
 
+impl Same for () {
+    ghost use Rattle.std.proofs.Common.{rules};
+
+    ghost same = { Prim.search rules };
+}
+
 impl<T: Same> Same for Option<T> {
     ghost use Rattle.std.proofs.Common.{rules};
 

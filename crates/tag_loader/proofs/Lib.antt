@@ -1,2 +1,3 @@
+pub mod BareLemmas
 pub mod MemoryLemmas
 mod StartLemmas

@@ -1,7 +1,9 @@
 -- A start that can be made again and again.
 use Rattle.image_format.specs.Picture.{Picture}
 use Rattle.policy_product.specs.Choice.{AllState, AllTag, all, chosen}
+use Rattle.policy_product.specs.Nothing.{nothing}
 use Rattle.policy_product.specs.declared.choice.Choice.{Choice}
+use Rattle.policy_product.specs.declared.nothing.Nothing.{Nothing}
 use Rattle.engine_trait.specs.Standing.{Standing}
 use Rattle.tag_loader.specs.Start.{start_standing}
 
@@ -15,3 +17,7 @@ start_of choice g = start_standing all (chosen choice) g
 
 abbrev pub start_of_load : Load → Standing AllState AllTag
 start_of_load load = start_of load.choice load.image
+
+-- the image's start under the policy that is nothing
+abbrev pub bare_start_of : Picture → Standing Nothing (Unit {0})
+bare_start_of g = start_standing nothing (record {}) g

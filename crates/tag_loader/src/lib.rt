@@ -10,5 +10,5 @@ mod start;
 mod tests;
 
 pub use births::birth;
-pub use law::memory_law;
-pub use load::PlainLoad;
+pub use law::{bare_law, memory_law};
+pub use load::{BareLoad, PlainLoad};

@@ -5,7 +5,7 @@ use crate::start::start_under;
 use engine_trait::{LoadEnd, Loader};
 use image_format::Image;
 use plain_engine::Plain;
-use policy_product::{All, Choice, choose};
+use policy_product::{All, Choice, Nothing, choose};
 use std::alloc::Global;
 use std::marker::Model;
 
@@ -49,11 +49,59 @@ impl<'a> Loader for PlainLoad<'a> {
     fn load(&self) -> Result<Plain<All>, LoadEnd>
         ensures start { IfOk result (λ engine. engine ≡ start_of_load self.now) }
         ensures within { IfOk result (λ engine. is_over (start_of_load self.now).account ≡ false) }
-        ensures out { result ≡ Err LoadEnd.TagsOut → is_over (start_of_load self.now).account ≡ true }
+        ensures out { result ≡ Err LoadEnd.TagsOut
+            → is_over (start_of_load self.now).account ≡ true }
         // An engine without tag words does not run out of them.
         ensures memory { result ≢ Err LoadEnd.TagsOut }
     {
         match start_under(self.alloc, choose(self.choice), self.image) {
+            Ok(engine) => Ok(engine),
+            Err(_) => Err(LoadEnd::Memory),
+        }
+    }
+}
+
+/// The start of an image under the policy that is nothing, on the engine that asks its policy at every turn. It can be
+/// made again and again. `bare_law` says what it has to do with the start under a choice of no policy.
+#[derive(Drop)]
+pub struct BareLoad<'a> {
+    alloc: Global,
+    image: &'a Image,
+}
+
+impl<'a> Model for BareLoad<'a> {
+    ghost use Rattle.image_format.specs.Picture.{Picture};
+
+    ghost Value = { Picture };
+
+    ghost view = { λ l. l.image.now };
+}
+
+impl<'a> BareLoad<'a> {
+    /// The start of this image.
+    pub fn new(alloc: Global, image: &'a Image) -> BareLoad<'a>
+        ensures { result ≡ image.now }
+    {
+        BareLoad { alloc, image }
+    }
+}
+
+impl<'a> Loader for BareLoad<'a> {
+    ghost use Rattle.tag_loader.specs.Loads.{bare_start_of};
+
+    type E = Plain<Nothing>;
+
+    ghost start = { bare_start_of };
+
+    fn load(&self) -> Result<Plain<Nothing>, LoadEnd>
+        ensures start { IfOk result (λ engine. engine ≡ bare_start_of self.now) }
+        ensures within { IfOk result (λ engine. is_over (bare_start_of self.now).account ≡ false) }
+        ensures out { result ≡ Err LoadEnd.TagsOut
+            → is_over (bare_start_of self.now).account ≡ true }
+        // An engine without tag words does not run out of them.
+        ensures memory { result ≢ Err LoadEnd.TagsOut }
+    {
+        match start_under(self.alloc, Nothing, self.image) {
             Ok(engine) => Ok(engine),
             Err(_) => Err(LoadEnd::Memory),
         }

@@ -1,4 +1,4 @@
-use crate::PlainLoad;
+use crate::{BareLoad, PlainLoad};
 use engine_trait::{Engine, Feed, Loader, Stop, TurnEnd};
 use image_format::read_image;
 use plain_engine::Plain;
@@ -133,6 +133,24 @@ fn a_sealed_value_can_be_moved(rt: HostRuntime) -> Result<(), Fail> {
     assert_eq!(rt; register_of(&engine, 0, 10), Some(7));
     assert_eq!(rt; engine.harts(), 1);
     assert!(rt; engine.reg_tag(0, 10) == Some(SealTag::Sealed(0)));
+    Ok(())
+}
+
+// A load of the second instruction's own word, on an engine whose tags have no size.
+#[test]
+fn a_bare_start_has_the_words_of_the_image(rt: HostRuntime) -> Result<(), Fail> {
+    let bytes = file_of(rt.alloc(), 256, &[0x0010_0293, 0x0040_2303])?;
+    let image = read_image(rt.alloc(), &bytes).ok().ok_or("no image")?;
+    let mut engine = BareLoad::new(rt.alloc(), &image)
+        .load()
+        .ok()
+        .ok_or("no engine")?;
+    let mut feed = Feed::new(rt.alloc());
+    let ended = make_turns(&mut engine, &mut feed, &[0, 0]);
+    assert!(rt; ended == TurnEnd::Ran(None));
+    assert_eq!(rt; register_of(&engine, 0, 5), Some(1));
+    assert_eq!(rt; register_of(&engine, 0, 6), Some(0x0040_2303));
+    assert_eq!(rt; pc_of(&engine, 0), Some(8));
     Ok(())
 }
 

@@ -1,0 +1,30 @@
+-- The policy that is nothing: it allows and ignores everything, knows no service, and has one tag.
+use Rattle.std.specs.Prelude.{false, [], None, Ok, Err}
+use Rattle.policy_trait.specs.Model.{PolicyModel}
+use Rattle.policy_trait.specs.declared.services.PlanEnd.TheVariants as plan_end
+use Rattle.policy_product.specs.Choice.{AllTag}
+use Rattle.policy_product.specs.Maybe.{all_ignored}
+use Rattle.policy_product.specs.declared.nothing.Nothing.{Nothing}
+
+abbrev pub nothing : PolicyModel (Unit {0}) Nothing
+nothing = record {
+  plain = λ s. tt;
+  rule = λ s g x. Ok (record { pc = tt; result = tt });
+  ignores = λ s g. all_ignored;
+  knows = λ s number. false;
+  uses = λ s number. 0;
+  lend = λ s tag. Ok tt;
+  room = λ s. 0;
+  plan = λ s number a pc. Err plan_end.Spent;
+  retag = λ s p old. Ok tt;
+  wipe = λ s pc old. Ok tt;
+  commit = λ s p. s;
+  start_pc = λ s birth. tt;
+  start_word = λ s birth. tt;
+  text = λ s tag. [];
+  listed = λ s place. None;
+}
+
+-- whatever a tag was, it is the only one
+abbrev pub untagged : AllTag → Unit {0}
+untagged tag = tt
