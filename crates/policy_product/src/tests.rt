@@ -2,7 +2,8 @@
 
 use crate::{Choice, Maybe, Nothing, choose, read_choice};
 use policy_trait::{
-    Answer, Args, Birth, Ins, Mask, Outs, Part, Plan, PlanEnd, Policy, Refused, Rest, Why,
+    Answer, Args, Birth, CompartmentSet, Ins, Mask, Outs, Part, Plan, PlanEnd, Policy, Refused,
+    Rest, Why,
 };
 use pump_words::{Line, write_text};
 use rv_decode::Group;
@@ -37,7 +38,7 @@ impl Policy for Noting {
       retag = λ s p old. Ok old;
       wipe = λ s pc old. Ok pc;
       commit = λ s p. record { noted = p.note };
-      start_pc = λ s birth. birth.into;
+      start_pc = λ s birth. birth.into.bits;
       start_word = λ s birth. birth.owner;
       text = λ s tag. codes "noting";
       listed = λ s place. Some (place, 4, 1);
@@ -119,7 +120,7 @@ impl Policy for Noting {
     }
 
     fn start_pc(&self, birth: &Birth) -> u32 {
-        birth.into
+        birth.into.bits()
     }
 
     fn start_word(&self, birth: &Birth) -> u32 {
@@ -348,8 +349,8 @@ fn policies_by_their_names(rt: HostRuntime) {
 fn birth() -> Birth {
     Birth {
         owner: 2,
-        into: 12,
-        write: 0,
+        into: CompartmentSet::of_bits(12),
+        write: CompartmentSet::empty(),
         code: false,
         label: None,
         heap: false,

@@ -3,5 +3,6 @@ pub mod LawsLemmas
 pub mod Maps
 pub mod Mirrors
 pub mod Model
+pub mod Sets
 pub mod Steps
 pub mod Uses

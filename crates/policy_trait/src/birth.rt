@@ -1,12 +1,14 @@
+use crate::sets::CompartmentSet;
+
 /// What an image says of one memory word.
 #[derive(Clone, Copy, PartialEq, Eq)]
 pub struct Birth {
     /// The compartment that owns the word.
     pub owner: u32,
-    /// A bit for each compartment that may jump to the word.
-    pub into: u32,
-    /// A bit for each compartment that may write the word.
-    pub write: u32,
+    /// The compartments that may jump to the word.
+    pub into: CompartmentSet,
+    /// The compartments that may write the word.
+    pub write: CompartmentSet,
     /// Whether the word lies in a code range.
     pub code: bool,
     /// The label of the word.

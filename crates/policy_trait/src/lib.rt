@@ -10,6 +10,7 @@ mod maps;
 mod policy;
 mod rules;
 mod services;
+mod sets;
 #[cfg(test)]
 mod tests;
 
@@ -18,3 +19,4 @@ pub use maps::TagMap;
 pub use policy::Policy;
 pub use rules::{Ins, Mask, Outs, Part, Refused, Why};
 pub use services::{Answer, Args, Plan, PlanEnd, Rest, Words};
+pub use sets::CompartmentSet;

@@ -1,6 +1,7 @@
-//! Tags changed by one function.
+//! Tags changed by one function, and sets of compartments.
 
-use crate::{Answer, Args, Ins, Outs, Plan, Rest, TagMap, Words};
+use crate::{Answer, Args, CompartmentSet, Ins, Outs, Plan, Rest, TagMap, Words};
+use pump_words::Line;
 
 /// Small tags as those of another type, raised by a number.
 #[derive(Clone, Copy)]
@@ -69,6 +70,35 @@ fn tags_of_a_service_are_changed(rt: HostRuntime) {
     };
     assert!(rt; arguments.map(&Raising { by: 100 }) == changed);
     assert!(rt; plan(1_u8, 2_u8).map(&Raising { by: 100 }) == plan(101_u64, 102_u64));
+}
+
+#[test]
+fn compartments_of_a_set(rt: HostRuntime) {
+    let set = CompartmentSet::empty().with(1).with(31).with(1);
+    assert_eq!(rt; set.bits(), 0x8000_0002);
+    assert!(rt; set == CompartmentSet::of_bits(0x8000_0002));
+    // number, whether it is in the set
+    let rows = [
+        (0, false),
+        (1, true),
+        (2, false),
+        (30, false),
+        (31, true),
+        (32, false),
+        (33, false),
+        (0xFFFF_FFFF, false),
+    ];
+    for (number, is_in) in rows {
+        assert!(rt; set.has(number) == is_in, "at {number}");
+    }
+    assert!(rt; !CompartmentSet::of_bits(0xFFFF_FFFF).has(32));
+}
+
+#[test]
+fn text_of_a_set(rt: HostRuntime) {
+    let mut line = Line::new();
+    CompartmentSet::of_bits(0xA1).show(&mut line);
+    assert_eq!(rt; line.as_slice(), b"000000A1".as_slice());
 }
 
 /// A plan with these tags of the pc and of the answer.

@@ -6,6 +6,7 @@ use Rattle.image_format.specs.Picture.{Picture}
 use Rattle.image_format.specs.declared.rows.CompartmentRange.{CompartmentRange}
 use Rattle.image_format.specs.declared.rows.Label.{Label}
 use Rattle.image_format.specs.declared.rows.WordRange.{WordRange}
+use Rattle.policy_trait.specs.Sets.{set_of}
 use Rattle.policy_trait.specs.declared.birth.Birth.{Birth}
 
 abbrev pub lies_in : ℕ → WordRange → Bool
@@ -26,8 +27,8 @@ id_of (Some label) = Some label.id
 
 -- the compartment's row decides owner and masks; outside the rows these are 0
 abbrev pub birth_by : Option CompartmentRange → Bool → Option ℕ → Bool → Birth
-birth_by None code label heap = record { owner = 0; into = 0; write = 0; code = code; label = label; heap = heap }
-birth_by (Some row) code label heap = record { owner = row.owner; into = row.into; write = row.write; code = code; label = label; heap = heap }
+birth_by None code label heap = record { owner = 0; into = set_of 0; write = set_of 0; code = code; label = label; heap = heap }
+birth_by (Some row) code label heap = record { owner = row.owner; into = set_of row.into; write = set_of row.write; code = code; label = label; heap = heap }
 
 unfoldable pub birth_of : Picture → ℕ → Birth
 birth_of g address =

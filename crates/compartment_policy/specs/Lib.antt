@@ -1,0 +1,2 @@
+pub mod CompartmentLaws
+pub mod Compartments
