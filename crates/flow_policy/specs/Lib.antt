@@ -1,0 +1,4 @@
+pub mod Flow
+pub mod FlowLaws
+pub mod Sorted
+pub mod TextLaws
