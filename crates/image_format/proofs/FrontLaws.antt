@@ -6,19 +6,16 @@ use Rattle.std.proofs.lemmas.Bool.{cases_lt, lt-ltb, leb-true, ltb-true}
 use Rattle.std.proofs.lemmas.List.{take-append-le, length-append, length-take-le}
 use Rattle.std.proofs.lemmas.List.Concat.{flat_map-cons}
 use Rattle.image_format.specs.declared.errors.ImageError.{ImageError}
-use Rattle.image_format.specs.declared.errors.ImageError.TheVariants.{Magic, Version, Short, Field, Order}
-use Rattle.image_format.specs.declared.others.OtherLists.{OtherLists}
-use Rattle.image_format.specs.declared.others.OtherLists.TheVariants.{Empty}
+use Rattle.image_format.specs.declared.errors.ImageError.TheVariants.{Magic, Version, Short, Field}
 use Rattle.image_format.specs.Picture.{Picture}
-use Rattle.image_format.specs.Conditions.{is_u32, is_aligned, is_harts, is_ram, is_heap_base, is_heap_bytes, is_place, is_word_count, is_owner, is_range, is_label, is_edge, is_compartment, is_segment, is_clear_of, is_label_after, is_edge_after, is_compartment_after, in_order, are_rows, extent_of, whole, any_count, takes_count}
-use Rattle.image_format.specs.Spelling.{half, number, range_spelling, segment_spelling, label_spelling, edge_spelling, compartment_spelling, list_spelling, opening_spelling, sizes_spelling, lists_spelling, spelling}
-use Rattle.image_format.specs.Taken.{IsTakenFile, IsFileWith}
-use Rattle.image_format.specs.Reading.{Reads, Place, number_at, tested_at, field_at, times, range_at, label_at, edge_at, compartment_at, row_at, range_behind_at, segment_at, rows_at, list_at, is_magic, is_version, opening_at, sizes_at, lists_at, picture_at, whole_of, image_of}
+use Rattle.image_format.specs.Conditions.{is_u32, is_aligned, is_harts, is_ram, is_heap_base, is_heap_bytes, is_place, is_word_count, is_owner, is_range, is_label, is_edge, is_compartment, is_segment, is_clear_of, is_label_after, is_edge_after, is_compartment_after, in_order, are_rows, extent_of, whole, IsImage, IsList}
+use Rattle.image_format.specs.Spelling.{half, number, range_spelling, segment_spelling, label_spelling, edge_spelling, compartment_spelling, list_spelling, opening_spelling, sizes_spelling, lists_spelling, spelling, IsFileOf}
+use Rattle.image_format.specs.Reading.{Reads, Place, number_at, tested_at, field_at, times, range_at, label_at, edge_at, compartment_at, row_at, range_behind_at, segment_at, rows_at, list_at, is_magic, is_version, opening_at, sizes_at, lists_at, picture_at, image_of}
 use Rattle.image_format.proofs.FieldLaws.{both, ReadsExactly, number_exact, tested_exact}
 use Rattle.image_format.proofs.LoopLaws.{placed}
-use Rattle.image_format.proofs.ListLaws.{items_again, ReadsRow, FitsList, row_reads}
+use Rattle.image_format.proofs.ListLaws.{items_again, ReadsRow, row_reads}
 use Rattle.image_format.proofs.RowLaws.{field_exact, range_exact, label_exact, edge_exact, compartment_exact, segment_reads}
-use Rattle.image_format.proofs.FileLaws.{FitSizes, FitsWhole, spelling_of_sizes, sizes_of, ram_small, harts_small, entry_small, harts_exact, sizes_exact, opening_again, segments_exact, code_exact, labels_exact, edges_exact, taken_file}
+use Rattle.image_format.proofs.FileLaws.{FitSizes, spelling_of_sizes, sizes_of, ram_small, harts_small, entry_small, harts_exact, sizes_exact, opening_again, segments_exact, code_exact, labels_exact, edges_exact}
 
 -- ---- a text of two parts, cut
 
@@ -162,14 +159,14 @@ rows_short size step part text fits follows reads tells row before (x ∷ xs) n 
     (λ in_first. rw (tells.short row before x n first.0 first.1 in_first) refl)
     (λ m in_others. rw (reads.again row before x (take m (flat_map text xs)) first.0 first.1, rows_short size step part text fits follows reads tells (row + 1) (Some (part x)) xs m parts.1 in_others) refl)
 
-list_short : {A B : Type 0} (size list : ℕ) (takes : ℕ → Bool) (step : Place A → Result (B × Place A) ImageError) (part : B → A) (text : B → List ℕ) (fits : B → Bool) (follows : A → A → Bool) → ReadsRow step part text fits follows → RowTellsShort size step part text fits follows → TellsShort size (list_at size list takes step) (list_spelling text) (FitsList takes part fits follows)
+list_short : {A B : Type 0} (size : ℕ) (step : Place A → Result (B × Place A) ImageError) (part : B → A) (text : B → List ℕ) (fits : B → Bool) (follows : A → A → Bool) → ReadsRow step part text fits follows → RowTellsShort size step part text fits follows → TellsShort size (list_at size step) (list_spelling text) (IsList part fits follows)
 unfolding list_at rows_at
-list_short size list takes step part text fits follows reads tells = record {
+list_short size step part text fits follows reads tells = record {
   short = λ rows n is lt.
-      let count = (tested_exact size takes (λ _. Order list 0)).again (length rows) in
-      cut (λ (t : List ℕ). list_at size list takes step t ≡ Err (Short size)) n (number (length rows)) (flat_map text rows) lt
-      (λ in_count. rw (tested_short w32 size takes (λ _. Order list 0) (take n (number (length rows))) (number_cut (length rows) n in_count)) refl)
-      (λ m in_rows. rw (count (take m (flat_map text rows)) (ltb-true _ _ is.in_order.count, is.taken), rows_short size step part text fits follows reads tells 0 None rows m is.in_order.rows in_rows) refl);
+      let count = (number_exact size).again (length rows) in
+      cut (λ (t : List ℕ). list_at size step t ≡ Err (Short size)) n (number (length rows)) (flat_map text rows) lt
+      (λ in_count. rw (id_short size (length rows) n in_count) refl)
+      (λ m in_rows. rw (count (take m (flat_map text rows)) is.count, rows_short size step part text fits follows reads tells 0 None rows m is.rows in_rows) refl);
 }
 
 segment_short : (size ram : ℕ) → ram < 2 ^ 32 → RowTellsShort size (segment_at size ram) extent_of segment_spelling (is_segment ram) is_clear_of
@@ -220,47 +217,39 @@ entries_short size ram entries n small places lt =
     items_short size (field_at size 5 (is_place ram)) number (λ n. (n < 2 ^ 32) × (is_place ram n ≡ true)) (is_place ram) (field_exact size 5 (is_place ram)) entry (λ n below. entry_small ram n small below) entries n places lt
 
 -- the five lists
-lists_short : (size : ℕ) (others : OtherLists) (g : Picture) (n : ℕ) → FitsWhole others g → n < length (lists_spelling g) → lists_at size others (sizes_of g) g.entries (take n (lists_spelling g)) ≡ Err (Short size)
+lists_short : (size : ℕ) (g : Picture) (n : ℕ) → IsImage g → n < length (lists_spelling g) → lists_at size (sizes_of g) g.entries (take n (lists_spelling g)) ≡ Err (Short size)
 unfolding lists_at
-lists_short size others g n fits lt =
-    let is = fits.is_image in
-    let takes = takes_count others in
+lists_short size g n is lt =
     let small = ram_small g.ram is.ram in
     let t1 = list_spelling segment_spelling g.segments in
     let t2 = list_spelling range_spelling g.code in
     let t3 = list_spelling label_spelling g.labels in
     let t4 = list_spelling edge_spelling g.edges in
     let t5 = list_spelling compartment_spelling g.compartments in
-    let f1 : FitsList any_count extent_of (is_segment g.ram) is_clear_of g.segments = record { in_order = is.segments; taken = refl } in
-    let f2 : FitsList takes whole (is_range g.ram) is_clear_of g.code = record { in_order = is.code; taken = fits.rows.code } in
-    let f3 : FitsList takes whole (is_label g.ram) is_label_after g.labels = record { in_order = is.labels; taken = fits.rows.labels } in
-    let f4 : FitsList takes whole is_edge is_edge_after g.edges = record { in_order = is.edges; taken = fits.rows.edges } in
-    let f5 : FitsList takes whole (is_compartment g.ram) is_compartment_after g.compartments = record { in_order = is.compartments; taken = fits.rows.compartments } in
-    let again1 = λ (rest : List ℕ). (segments_exact size g.ram small).again g.segments rest f1 in
-    let again2 = λ (rest : List ℕ). (code_exact size g.ram takes small).again g.code rest f2 in
-    let again3 = λ (rest : List ℕ). (labels_exact size g.ram takes small).again g.labels rest f3 in
-    let again4 = λ (rest : List ℕ). (edges_exact size takes).again g.edges rest f4 in
-    let short1 = list_short size 1 any_count (segment_at size g.ram) extent_of segment_spelling (is_segment g.ram) is_clear_of (segment_reads size g.ram small) (segment_short size g.ram small) in
-    let short2 = list_short size 2 takes (row_at 2 is_clear_of (range_at size g.ram 8)) whole range_spelling (is_range g.ram) is_clear_of (row_reads 2 is_clear_of (range_at size g.ram 8) range_spelling (is_range g.ram) (range_exact size g.ram 8 small)) (row_short size 2 is_clear_of (range_at size g.ram 8) range_spelling (is_range g.ram) (range_short size g.ram 8 small)) in
-    let short3 = list_short size 3 takes (row_at 3 is_label_after (label_at size g.ram)) whole label_spelling (is_label g.ram) is_label_after (row_reads 3 is_label_after (label_at size g.ram) label_spelling (is_label g.ram) (label_exact size g.ram small)) (row_short size 3 is_label_after (label_at size g.ram) label_spelling (is_label g.ram) (label_short size g.ram small)) in
-    let short4 = list_short size 4 takes (row_at 4 is_edge_after (edge_at size)) whole edge_spelling is_edge is_edge_after (row_reads 4 is_edge_after (edge_at size) edge_spelling is_edge (edge_exact size)) (row_short size 4 is_edge_after (edge_at size) edge_spelling is_edge (edge_short size)) in
-    let short5 = list_short size 5 takes (row_at 5 is_compartment_after (compartment_at size g.ram)) whole compartment_spelling (is_compartment g.ram) is_compartment_after (row_reads 5 is_compartment_after (compartment_at size g.ram) compartment_spelling (is_compartment g.ram) (compartment_exact size g.ram small)) (row_short size 5 is_compartment_after (compartment_at size g.ram) compartment_spelling (is_compartment g.ram) (compartment_short size g.ram small)) in
-    let IsShort : List ℕ → Type 0 = λ t. lists_at size others (sizes_of g) g.entries t ≡ Err (Short size) in
+    let again1 = λ (rest : List ℕ). (segments_exact size g.ram small).again g.segments rest is.segments in
+    let again2 = λ (rest : List ℕ). (code_exact size g.ram small).again g.code rest is.code in
+    let again3 = λ (rest : List ℕ). (labels_exact size g.ram small).again g.labels rest is.labels in
+    let again4 = λ (rest : List ℕ). (edges_exact size).again g.edges rest is.edges in
+    let short1 = list_short size (segment_at size g.ram) extent_of segment_spelling (is_segment g.ram) is_clear_of (segment_reads size g.ram small) (segment_short size g.ram small) in
+    let short2 = list_short size (row_at 2 is_clear_of (range_at size g.ram 8)) whole range_spelling (is_range g.ram) is_clear_of (row_reads 2 is_clear_of (range_at size g.ram 8) range_spelling (is_range g.ram) (range_exact size g.ram 8 small)) (row_short size 2 is_clear_of (range_at size g.ram 8) range_spelling (is_range g.ram) (range_short size g.ram 8 small)) in
+    let short3 = list_short size (row_at 3 is_label_after (label_at size g.ram)) whole label_spelling (is_label g.ram) is_label_after (row_reads 3 is_label_after (label_at size g.ram) label_spelling (is_label g.ram) (label_exact size g.ram small)) (row_short size 3 is_label_after (label_at size g.ram) label_spelling (is_label g.ram) (label_short size g.ram small)) in
+    let short4 = list_short size (row_at 4 is_edge_after (edge_at size)) whole edge_spelling is_edge is_edge_after (row_reads 4 is_edge_after (edge_at size) edge_spelling is_edge (edge_exact size)) (row_short size 4 is_edge_after (edge_at size) edge_spelling is_edge (edge_short size)) in
+    let short5 = list_short size (row_at 5 is_compartment_after (compartment_at size g.ram)) whole compartment_spelling (is_compartment g.ram) is_compartment_after (row_reads 5 is_compartment_after (compartment_at size g.ram) compartment_spelling (is_compartment g.ram) (compartment_exact size g.ram small)) (row_short size 5 is_compartment_after (compartment_at size g.ram) compartment_spelling (is_compartment g.ram) (compartment_short size g.ram small)) in
+    let IsShort : List ℕ → Type 0 = λ t. lists_at size (sizes_of g) g.entries t ≡ Err (Short size) in
     cut IsShort n t1 (t2 ++ (t3 ++ (t4 ++ t5))) lt
-    (λ in1. rw (short1.short g.segments n f1 in1) refl)
+    (λ in1. rw (short1.short g.segments n is.segments in1) refl)
     (λ n1 lt1. cut (λ (t : List ℕ). IsShort (t1 ++ t)) n1 t2 (t3 ++ (t4 ++ t5)) lt1
-    (λ in2. rw (again1 (take n1 t2), short2.short g.code n1 f2 in2) refl)
+    (λ in2. rw (again1 (take n1 t2), short2.short g.code n1 is.code in2) refl)
     (λ n2 lt2. cut (λ (t : List ℕ). IsShort (t1 ++ (t2 ++ t))) n2 t3 (t4 ++ t5) lt2
-    (λ in3. rw (again1 (t2 ++ take n2 t3), again2 (take n2 t3), short3.short g.labels n2 f3 in3) refl)
+    (λ in3. rw (again1 (t2 ++ take n2 t3), again2 (take n2 t3), short3.short g.labels n2 is.labels in3) refl)
     (λ n3 lt3. cut (λ (t : List ℕ). IsShort (t1 ++ (t2 ++ (t3 ++ t)))) n3 t4 t5 lt3
-    (λ in4. rw (again1 (t2 ++ (t3 ++ take n3 t4)), again2 (t3 ++ take n3 t4), again3 (take n3 t4), short4.short g.edges n3 f4 in4) refl)
-    (λ n4 in5. rw (again1 (t2 ++ (t3 ++ (t4 ++ take n4 t5))), again2 (t3 ++ (t4 ++ take n4 t5)), again3 (t4 ++ take n4 t5), again4 (take n4 t5), short5.short g.compartments n4 f5 in5) refl))))
+    (λ in4. rw (again1 (t2 ++ (t3 ++ take n3 t4)), again2 (t3 ++ take n3 t4), again3 (take n3 t4), short4.short g.edges n3 is.edges in4) refl)
+    (λ n4 in5. rw (again1 (t2 ++ (t3 ++ (t4 ++ take n4 t5))), again2 (t3 ++ (t4 ++ take n4 t5)), again3 (t4 ++ take n4 t5), again4 (take n4 t5), short5.short g.compartments n4 is.compartments in5) refl))))
 
-picture_short : (size : ℕ) (others : OtherLists) → TellsShort size (picture_at size others) spelling (FitsWhole others)
+picture_short : (size : ℕ) → TellsShort size (picture_at size) spelling IsImage
 unfolding picture_at spelling
-picture_short size others = record {
-  short = λ g n fits lt.
-      let is = fits.is_image in
+picture_short size = record {
+  short = λ g n is lt.
       let small = ram_small g.ram is.ram in
       let fit_sizes : FitSizes (sizes_of g) = record { harts = is.harts; ram = is.ram; heap_base = is.heap_base; heap_bytes = is.heap_bytes } in
       let t2 = sizes_spelling g in
@@ -269,29 +258,24 @@ picture_short size others = record {
       let again1 = λ (rest : List ℕ). opening_again size rest in
       let again2 = λ (rest : List ℕ). (sizes_exact size).again (sizes_of g) rest fit_sizes in
       let again3 = λ (rest : List ℕ). items_again (field_at size 5 (is_place g.ram)) number (λ n. (n < 2 ^ 32) × (is_place g.ram n ≡ true)) (is_place g.ram) (field_exact size 5 (is_place g.ram)) (λ n below. entry_small g.ram n small below) g.entries rest is.entries in
-      let IsShort : List ℕ → Type 0 = λ t. picture_at size others t ≡ Err (Short size) in
+      let IsShort : List ℕ → Type 0 = λ t. picture_at size t ≡ Err (Short size) in
       cut IsShort n opening_spelling (t2 ++ (t3 ++ t4)) lt
       (λ in1. rw (opening_short size n in1) refl)
       (λ n1 lt1. cut (λ (t : List ℕ). IsShort (opening_spelling ++ t)) n1 t2 (t3 ++ t4) lt1
       (λ in2. rw (again1 (take n1 t2), (sizes_short size).short (sizes_of g) n1 fit_sizes in2) refl)
       (λ n2 lt2. cut (λ (t : List ℕ). IsShort (opening_spelling ++ (t2 ++ t))) n2 t3 t4 lt2
       (λ in3. rw (again1 (t2 ++ take n2 t3), again2 (take n2 t3), entries_short size g.ram g.entries n2 small is.entries in3) refl)
-      (λ n3 in4. rw (again1 (t2 ++ (t3 ++ take n3 t4)), again2 (t3 ++ take n3 t4), again3 (take n3 t4), lists_short size others g n3 fits in4) refl)));
+      (λ n3 in4. rw (again1 (t2 ++ (t3 ++ take n3 t4)), again2 (t3 ++ take n3 t4), again3 (take n3 t4), lists_short size g n3 is in4) refl)));
 }
 
 -- ---- the whole
 
-front_of_whole : (others : OtherLists) (bytes : List ℕ) (g : Picture) (n : ℕ) → IsFileWith others bytes g → n < length bytes → whole_of others (take n bytes) ≡ Err (Short n)
-unfolding whole_of
-front_of_whole others bytes g n is lt =
-    let fits : FitsWhole others g = record { is_image = is.file.is_image; rows = is.rows } in
-    let within : n < length (spelling g) = subst (λ (t : List ℕ). n < length t) is.file.spelled lt in
-    let len : length (take n (spelling g)) ≡ n = length-take-le n (spelling g) (omega arith) in
-    let short : picture_at n others (take n (spelling g)) ≡ Err (Short n) = (picture_short n others).short g n fits within in
-    let read : whole_of others (take n (spelling g)) ≡ Err (Short n) = rw (len, short) refl in
-    ap (λ (t : List ℕ). whole_of others (take n t)) is.file.spelled ∙ read
-
--- a proper front of the file of an image that is taken
-pub front_is_short : (bytes : List ℕ) (g : Picture) (n : ℕ) → IsTakenFile bytes g → n < length bytes → image_of (take n bytes) ≡ Err (Short n)
+-- a proper front of the file of an image
+pub front_is_short : (bytes : List ℕ) (g : Picture) (n : ℕ) → IsFileOf bytes g → n < length bytes → image_of (take n bytes) ≡ Err (Short n)
 unfolding image_of
-front_is_short bytes g n is lt = front_of_whole Empty bytes g n (taken_file bytes g is) lt
+front_is_short bytes g n is lt =
+    let within : n < length (spelling g) = subst (λ (t : List ℕ). n < length t) is.spelled lt in
+    let len : length (take n (spelling g)) ≡ n = length-take-le n (spelling g) (omega arith) in
+    let short : picture_at n (take n (spelling g)) ≡ Err (Short n) = (picture_short n).short g n is.is_image within in
+    let read : image_of (take n (spelling g)) ≡ Err (Short n) = rw (len, short) refl in
+    ap (λ (t : List ℕ). image_of (take n t)) is.spelled ∙ read

@@ -1,14 +1,14 @@
 -- Lists that are read are what their bytes spell, and what is spelled is read again.
 use Rattle.std.proofs.Common.{◌≡◌, ℕ, zero, suc, ◌+◌, Bool, true, Option, Some, None, List, [], ◌∷◌, ◌++◌, length, Result, Ok, refl, sym, ap, subst, ◌∙◌, append_assoc}
 use Rattle.std.specs.List.{list_all, flat_map}
-use Rattle.std.proofs.lemmas.Bool.{ltb-true, lt-ltb}
+use Rattle.std.specs.Int.{w32}
 use Rattle.std.proofs.lemmas.List.Concat.{flat_map-cons}
 use Rattle.image_format.specs.declared.errors.ImageError.{ImageError}
 use Rattle.image_format.specs.declared.errors.ImageError.TheVariants.{Order}
 use Rattle.image_format.specs.Conditions.{is_u32, in_order, are_rows, IsList, whole}
 use Rattle.image_format.specs.Spelling.{number, list_spelling}
-use Rattle.image_format.specs.Reading.{Reads, Place, demand, times, row_at, rows_at, count_at, list_at}
-use Rattle.image_format.proofs.FieldLaws.{on_bind, demand_ok, ok_is, and_is, both, IsBytes, Takes, takes_then, ReadsExactly, tested_exact}
+use Rattle.image_format.specs.Reading.{Reads, Place, demand, times, number_at, row_at, rows_at, list_at}
+use Rattle.image_format.proofs.FieldLaws.{on_bind, demand_ok, ok_is, and_is, both, IsBytes, Takes, takes_then, ReadsExactly, number_exact}
 use Rattle.image_format.proofs.LoopLaws.{placed, start, times_length}
 
 -- nothing was taken
@@ -87,30 +87,24 @@ rows_again step part text fits follows reads row before (x ∷ xs) rest fit =
     let others = rows_again step part text fits follows reads (row + 1) (Some (part x)) xs rest parts.1 in
     (others.0, ap (λ (bytes : List ℕ). times (suc (length xs)) step (placed row before bytes)) (texts_then text x xs rest) ∙ rw (reads.again row before x (flat_map text xs ++ rest) first.0 first.1, others.1) refl, others.2)
 
--- rows in order, as many as are taken
-pub record FitsList {A B : Type 0} (takes : ℕ → Bool) (part : B → A) (fits : B → Bool) (follows : A → A → Bool) (list : List B) : Type 0 where
-  pub in_order : IsList part fits follows list
-  pub taken : takes (length list) ≡ true
-
--- a count that is taken, and rows in order
-pub list_exact : {A B : Type 0} (size list : ℕ) (takes : ℕ → Bool) (step : Place A → Result (B × Place A) ImageError) (part : B → A) (text : B → List ℕ) (fits : B → Bool) (follows : A → A → Bool) → ReadsRow step part text fits follows → ReadsExactly (list_at size list takes step) (list_spelling text) (FitsList takes part fits follows)
+-- a count, and rows in order
+pub list_exact : {A B : Type 0} (size : ℕ) (step : Place A → Result (B × Place A) ImageError) (part : B → A) (text : B → List ℕ) (fits : B → Bool) (follows : A → A → Bool) → ReadsRow step part text fits follows → ReadsExactly (list_at size step) (list_spelling text) (IsList part fits follows)
 unfolding list_at rows_at
-list_exact {A} {B} size list takes step part text fits follows reads = record {
+list_exact {A} {B} size step part text fits follows reads = record {
   takes = λ bytes x is_bytes e.
-      on_bind (count_at size list takes bytes) _ x e λ count count-is e1.
+      on_bind (number_at w32 size bytes) _ x e λ count count-is e1.
       on_bind (times count.0 step (start count.1)) _ x e1 λ rows rows-is e2.
-      let t = (tested_exact size takes (λ _. Order list 0)).takes bytes count is_bytes count-is in
+      let t = (number_exact size).takes bytes count is_bytes count-is in
       let ts = rows_take step part text fits follows reads count.0 (start count.1) rows t.0.rest_is_bytes rows-is in
       let len : length rows.0 ≡ count.0 = times_length count.0 step (start count.1) rows rows-is in
       let made : List B × List ℕ = (rows.0, rows.1.bytes) in
       let taken = takes_then bytes (number count.0) count.1 (flat_map text rows.0) rows.1.bytes t.0 ts.0 in
       let spelled : Takes bytes (list_spelling text rows.0) rows.1.bytes = subst (λ (n : ℕ). Takes bytes (number n ++ flat_map text rows.0) rows.1.bytes) (sym len) taken in
-      let counted : is_u32 (length rows.0) ≡ true = subst (λ (n : ℕ). is_u32 n ≡ true) (sym len) (lt-ltb _ _ t.1.0) in
-      let as_many : takes (length rows.0) ≡ true = subst (λ (n : ℕ). takes n ≡ true) (sym len) t.1.1 in
-      subst (λ (y : List B × List ℕ). Takes bytes (list_spelling text y.0) y.1 × FitsList takes part fits follows y.0) (ok_is made x e2) (spelled, record { in_order = record { count = counted; rows = ts.1 }; taken = as_many });
+      let counted : is_u32 (length rows.0) ≡ true = subst (λ (n : ℕ). is_u32 n ≡ true) (sym len) t.1 in
+      subst (λ (y : List B × List ℕ). Takes bytes (list_spelling text y.0) y.1 × IsList part fits follows y.0) (ok_is made x e2) (spelled, record { count = counted; rows = ts.1 });
   again = λ rows rest is.
-      let all = rows_again step part text fits follows reads 0 None rows rest is.in_order.rows in
+      let all = rows_again step part text fits follows reads 0 None rows rest is.rows in
       let regrouped : list_spelling text rows ++ rest ≡ number (length rows) ++ (flat_map text rows ++ rest) = append_assoc (number (length rows)) (flat_map text rows) rest in
-      let count = (tested_exact size takes (λ _. Order list 0)).again (length rows) (flat_map text rows ++ rest) (ltb-true _ _ is.in_order.count, is.taken) in
-      ap (list_at size list takes step) regrouped ∙ rw (count, all.1) (ap (λ (bytes : List ℕ). Ok (rows, bytes)) all.2);
+      let count = (number_exact size).again (length rows) (flat_map text rows ++ rest) is.count in
+      ap (list_at size step) regrouped ∙ rw (count, all.1) (ap (λ (bytes : List ℕ). Ok (rows, bytes)) all.2);
 }

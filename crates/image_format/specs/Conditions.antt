@@ -5,8 +5,6 @@ use Rattle.image_format.specs.declared.rows.WordRange.{WordRange}
 use Rattle.image_format.specs.declared.rows.Label.{Label}
 use Rattle.image_format.specs.declared.rows.Edge.{Edge}
 use Rattle.image_format.specs.declared.rows.CompartmentRange.{CompartmentRange}
-use Rattle.image_format.specs.declared.others.OtherLists.{OtherLists}
-use Rattle.image_format.specs.declared.others.OtherLists.TheVariants.{Taken, Empty}
 use Rattle.image_format.specs.Picture.{Segment, Picture}
 
 -- what four bytes hold
@@ -107,24 +105,6 @@ whole row = row
 pub record IsList {A B : Type 0} (part : B → A) (fits : B → Bool) (follows : A → A → Bool) (list : List B) : Type 0 where
   pub count : IsTrue (is_u32 (length list))
   pub rows : IsTrue (are_rows part fits follows None list)
-
--- ---- how many rows are taken
-
--- any number of segments
-abbrev pub any_count : ℕ → Bool
-any_count count = true
-
--- of the other lists any number, or none
-abbrev pub takes_count : OtherLists → ℕ → Bool
-takes_count Taken count = true
-takes_count Empty count = count == 0
-
--- each of the other lists has as many rows as are taken
-pub record TakesRows (others : OtherLists) (g : Picture) : Type 0 where
-  pub code : IsTrue (takes_count others (length g.code))
-  pub labels : IsTrue (takes_count others (length g.labels))
-  pub edges : IsTrue (takes_count others (length g.edges))
-  pub compartments : IsTrue (takes_count others (length g.compartments))
 
 -- ---- the image
 

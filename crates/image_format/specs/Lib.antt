@@ -4,4 +4,3 @@ pub mod Spelling
 pub mod Parts
 pub mod Seen
 pub mod Reading
-pub mod Taken

@@ -10,10 +10,8 @@ use Rattle.image_format.specs.declared.rows.Label.{Label}
 use Rattle.image_format.specs.declared.rows.Edge.{Edge}
 use Rattle.image_format.specs.declared.rows.CompartmentRange.{CompartmentRange}
 use Rattle.image_format.specs.declared.sizes.Sizes.{Sizes}
-use Rattle.image_format.specs.declared.others.OtherLists.{OtherLists}
-use Rattle.image_format.specs.declared.others.OtherLists.TheVariants.{Empty}
 use Rattle.image_format.specs.Picture.{Segment, Picture}
-use Rattle.image_format.specs.Conditions.{is_harts, is_ram, is_heap_base, is_heap_bytes, is_place, is_aligned, is_word_count, is_owner, is_clear_of, is_label_after, is_edge_after, is_compartment_after, in_order, any_count, takes_count}
+use Rattle.image_format.specs.Conditions.{is_harts, is_ram, is_heap_base, is_heap_bytes, is_place, is_aligned, is_word_count, is_owner, is_clear_of, is_label_after, is_edge_after, is_compartment_after, in_order}
 
 infixl 10 ◌>>=◌
 abbrev pub ◌>>=◌ : {A B : Type 0} → Result A ImageError → (A → Result B ImageError) → Result B ImageError
@@ -137,14 +135,10 @@ rows_at count step bytes = do
   rows ← times count step (record { row = 0; before = None; bytes = bytes })
   Ok (rows.0, rows.1.bytes)
 
--- how many rows a list has, if that many are taken; else the list's order is told at row 0
-abbrev pub count_at : ℕ → ℕ → (ℕ → Bool) → Reads ℕ
-count_at size list takes bytes = tested_at w32 size takes (λ _. Order list 0) bytes
-
--- a count that is taken, and that many rows
-unfoldable pub list_at : {A B : Type 0} → ℕ → ℕ → (ℕ → Bool) → (Place A → Result (B × Place A) ImageError) → Reads (List B)
-list_at size list takes step bytes = do
-  count ← count_at size list takes bytes
+-- a count, and that many rows
+unfoldable pub list_at : {A B : Type 0} → ℕ → (Place A → Result (B × Place A) ImageError) → Reads (List B)
+list_at size step bytes = do
+  count ← number_at w32 size bytes
   rows_at count.0 step count.1
 
 -- ---- the whole
@@ -182,33 +176,29 @@ abbrev pub entries_at : ℕ → Sizes → Reads (List ℕ)
 entries_at size sizes bytes = times sizes.harts (field_at size 5 (is_place sizes.ram)) bytes
 
 -- the five lists, under the sizes and entries that were read before them
-unfoldable pub lists_at : ℕ → OtherLists → Sizes → List ℕ → Reads Picture
-lists_at size others sizes entries bytes = do
-  segments ← list_at size 1 any_count (segment_at size sizes.ram) bytes
-  code ← list_at size 2 (takes_count others) (row_at 2 is_clear_of (range_at size sizes.ram 8)) segments.1
-  labels ← list_at size 3 (takes_count others) (row_at 3 is_label_after (label_at size sizes.ram)) code.1
-  edges ← list_at size 4 (takes_count others) (row_at 4 is_edge_after (edge_at size)) labels.1
-  compartments ← list_at size 5 (takes_count others) (row_at 5 is_compartment_after (compartment_at size sizes.ram)) edges.1
+unfoldable pub lists_at : ℕ → Sizes → List ℕ → Reads Picture
+lists_at size sizes entries bytes = do
+  segments ← list_at size (segment_at size sizes.ram) bytes
+  code ← list_at size (row_at 2 is_clear_of (range_at size sizes.ram 8)) segments.1
+  labels ← list_at size (row_at 3 is_label_after (label_at size sizes.ram)) code.1
+  edges ← list_at size (row_at 4 is_edge_after (edge_at size)) labels.1
+  compartments ← list_at size (row_at 5 is_compartment_after (compartment_at size sizes.ram)) edges.1
   Ok (record { ram = sizes.ram; heap_base = sizes.heap_base; heap_bytes = sizes.heap_bytes; entries = entries; segments = segments.0; code = code.0; labels = labels.0; edges = edges.0; compartments = compartments.0 }, compartments.1)
 
 -- the opening, the sizes, the entries and the lists
-unfoldable pub picture_at : ℕ → OtherLists → Reads Picture
-picture_at size others bytes = do
+unfoldable pub picture_at : ℕ → Reads Picture
+picture_at size bytes = do
   rest ← opening_at size bytes
   sizes ← sizes_at size rest
   entries ← entries_at size sizes.0 sizes.1
-  lists_at size others sizes.0 entries.0 entries.1
+  lists_at size sizes.0 entries.0 entries.1
 
 -- all of the bytes: the image whose file they are, or the first condition that they fail
-unfoldable pub whole_of : OtherLists → List ℕ → Result Picture ImageError
-whole_of others bytes = do
-  g ← picture_at (length bytes) others bytes
+unfoldable pub image_of : List ℕ → Result Picture ImageError
+image_of bytes = do
+  g ← picture_at (length bytes) bytes
   ended ← demand (length g.1 == 0) (Trailing (length bytes - length g.1))
   Ok g.0
-
--- the same where no list but the segments may have rows
-unfoldable pub image_of : List ℕ → Result Picture ImageError
-image_of bytes = whole_of Empty bytes
 
 -- what was returned is the image that is read, or the condition that fails first, unless memory ran out
 abbrev pub GivesImage : Result Picture ImageEnd → Result Picture ImageError → Type 0

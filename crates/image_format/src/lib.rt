@@ -3,8 +3,7 @@
 //!
 //! `read_image` takes a file's bytes and gives the image whose one spelling they are, or the first of the
 //! format's conditions, in the order of reading, that they fail. An `Image` keeps those conditions for
-//! whoever reads it. Of its five lists only the segments may have rows so far. `front_law` says what
-//! becomes of a file that is cut.
+//! whoever reads it. `front_law` says what becomes of a file that is cut.
 #![tactic(auto)]
 
 mod errors;
@@ -12,7 +11,6 @@ mod fields;
 mod image;
 mod law;
 mod lists;
-mod others;
 mod reading;
 mod room;
 mod rows;

@@ -2,12 +2,11 @@
 
 ghost use Rattle.std.specs.Prelude.{◌≡◌, ℕ, Bool, ◌+◌, ◌<◌, Some};
 ghost use Rattle.std.proofs.Common.{arith};
-ghost use Rattle.image_format.specs.Conditions.{is_clear_of, is_label_after, is_edge_after, is_compartment_after, in_order, takes_count};
-ghost use Rattle.image_format.specs.Reading.{Gives, Reads, range_at, label_at, edge_at, compartment_at, row_at, rows_at, count_at, list_at};
+ghost use Rattle.image_format.specs.Conditions.{is_clear_of, is_label_after, is_edge_after, is_compartment_after, in_order};
+ghost use Rattle.image_format.specs.Reading.{Gives, Reads, range_at, label_at, edge_at, compartment_at, row_at, rows_at, list_at};
 
 use crate::errors::{ImageEnd, ImageError};
 use crate::fields::{aligned_of, number_of, owner_of, place_of, word_count_of};
-use crate::others::OtherLists;
 use crate::room::room_for;
 use crate::rows::{CompartmentRange, Edge, Label, WordRange};
 use std::alloc::Global;
@@ -212,37 +211,18 @@ fn rows_of<R: Row>(
     Ok((rows, rest))
 }
 
-/// How many rows a list behind the segments has, if that many are taken.
-#[tactic(auto, unfolding(crate::specs::Reading::tested_at))]
-fn count_of(
-    list: u8,
-    others: OtherLists,
-    size: usize,
-    bytes: &[u8],
-) -> Result<(u32, &[u8]), ImageEnd>
-    ensures { Gives (λ x. (x.0, x.1.now)) result
-        (count_at size list (takes_count others) bytes.now) }
-{
-    let (count, rest) = number_of(size, bytes)?;
-    if !others.takes(count) {
-        return Err(ImageEnd::Bad(ImageError::Order(list, 0)));
-    }
-    Ok((count, rest))
-}
-
-/// A list behind the segments: a count that is taken, and that many rows.
+/// A list behind the segments: a count, and that many rows.
 #[tactic(auto, unfolding(crate::specs::Reading::list_at))]
 pub(crate) fn list_of<R: Row>(
     alloc: Global,
     list: u8,
-    others: OtherLists,
     bounds: Bounds,
     bytes: &[u8],
 ) -> Result<(Vec<R>, &[u8]), ImageEnd>
     ensures { Gives (λ x. (x.0.items, x.1.now)) result
-        (list_at bounds.size list (takes_count others)
+        (list_at bounds.size
         (row_at list R.follows (R.fields bounds.size bounds.ram)) bytes.now) }
 {
-    let (count, rest) = count_of(list, others, bounds.size, bytes)?;
+    let (count, rest) = number_of(bounds.size, bytes)?;
     rows_of(alloc, list, count, bounds, rest)
 }

@@ -1,15 +1,14 @@
 //! The whole file, read from its first byte to its last.
 
-ghost use Rattle.std.specs.Prelude.{IfOk};
+ghost use Rattle.std.specs.Prelude.{IfOk, Ok};
 ghost use Rattle.image_format.specs.Picture.{Picture};
-ghost use Rattle.image_format.specs.Taken.{IsFileWith, IsTakenFile};
-ghost use Rattle.image_format.specs.Reading.{Gives, GivesImage, IsBad, sizes_at, entries_at, whole_of, image_of};
+ghost use Rattle.image_format.specs.Spelling.{IsFileOf};
+ghost use Rattle.image_format.specs.Reading.{Gives, GivesImage, IsBad, sizes_at, entries_at, image_of};
 
 use crate::errors::{ImageEnd, ImageError};
 use crate::fields::{harts_of, heap_base_of, heap_bytes_of, opening_of, place_of, ram_of};
 use crate::image::Image;
 use crate::lists::{Bounds, list_of};
-use crate::others::OtherLists;
 use crate::room::room_for;
 use crate::rows::{CompartmentRange, Edge, Label, WordRange};
 use crate::segments::segment_list_of;
@@ -54,9 +53,9 @@ fn entries_of(
 }
 
 /// The image up to the first condition that fails.
-#[tactic(auto, unfolding(crate::specs::Reading::whole_of, crate::specs::Reading::picture_at, crate::specs::Reading::lists_at))]
-fn image_in(alloc: Global, others: OtherLists, bytes: &[u8]) -> Result<Image, ImageEnd>
-    ensures { Gives (λ image. image) result (whole_of others bytes.now) }
+#[tactic(auto, unfolding(crate::specs::Reading::image_of, crate::specs::Reading::picture_at, crate::specs::Reading::lists_at))]
+fn image_in(alloc: Global, bytes: &[u8]) -> Result<Image, ImageEnd>
+    ensures { Gives (λ image. image) result (image_of bytes.now) }
 {
     let size = bytes.len();
     let rest = opening_of(size, bytes)?;
@@ -67,10 +66,10 @@ fn image_in(alloc: Global, others: OtherLists, bytes: &[u8]) -> Result<Image, Im
         ram: sizes.ram,
     };
     let (segments, rest) = segment_list_of(alloc, bounds, rest)?;
-    let (code, rest) = list_of::<WordRange>(alloc, 2, others, bounds, rest)?;
-    let (labels, rest) = list_of::<Label>(alloc, 3, others, bounds, rest)?;
-    let (edges, rest) = list_of::<Edge>(alloc, 4, others, bounds, rest)?;
-    let (compartments, rest) = list_of::<CompartmentRange>(alloc, 5, others, bounds, rest)?;
+    let (code, rest) = list_of::<WordRange>(alloc, 2, bounds, rest)?;
+    let (labels, rest) = list_of::<Label>(alloc, 3, bounds, rest)?;
+    let (edges, rest) = list_of::<Edge>(alloc, 4, bounds, rest)?;
+    let (compartments, rest) = list_of::<CompartmentRange>(alloc, 5, bounds, rest)?;
     if !rest.is_empty() {
         let offset = size.saturating_sub(rest.len());
         return Err(ImageEnd::Bad(ImageError::Trailing(offset)));
@@ -88,32 +87,17 @@ fn image_in(alloc: Global, others: OtherLists, bytes: &[u8]) -> Result<Image, Im
     })
 }
 
-/// The image whose file the bytes are, if its other lists have as many rows as are taken, or the first
-/// condition that the bytes fail.
-pub(crate) fn read_whole(alloc: Global, others: OtherLists, bytes: &[u8]) -> Result<Image, ImageEnd>
-    // What is read is an image that is taken, and the bytes are its file.
-    ensures found { IfOk result (λ g. IsFileWith others bytes.now g) }
-    // The file of an image that is taken is read, unless memory runs out.
-    ensures only { (g : Picture) → IsFileWith others bytes.now g → GivesImage result (Ok g) }
-    // Other bytes are refused by the first condition that they fail.
-    ensures exact { GivesImage result (whole_of others bytes.now) }
-{
-    image_in(alloc, others, bytes)
-}
-
 /// The image whose file the bytes are, or the first condition of the format that they fail, in the order
-/// of reading. That only the first list, that of the segments, has rows is such a condition so far: it is
-/// tested as soon as another list's count is read. No growth is larger than the bytes given, and the time
-/// is linear in them.
+/// of reading. No growth is larger than the bytes given, and the time is linear in them.
 pub fn read_image(alloc: Global, bytes: &[u8]) -> Result<Image, ImageEnd>
-    // What is read is an image that is taken, and the bytes are its file.
-    ensures found { IfOk result (λ g. IsTakenFile bytes.now g) }
-    // The file of an image that is taken is read, unless memory runs out.
-    ensures only { (g : Picture) → IsTakenFile bytes.now g → GivesImage result (Ok g) }
-    // Bytes are refused only where they are the file of no image that is taken.
-    ensures refused { IsBad result → (g : Picture) → ¬ IsTakenFile bytes.now g }
+    // What is read is an image, and the bytes are its file.
+    ensures found { IfOk result (λ g. IsFileOf bytes.now g) }
+    // The file of an image is read, unless memory runs out.
+    ensures only { (g : Picture) → IsFileOf bytes.now g → GivesImage result (Ok g) }
+    // Bytes are refused only where they are the file of no image.
+    ensures refused { IsBad result → (g : Picture) → ¬ IsFileOf bytes.now g }
     // The first condition in reading order that the bytes fail decides, unless memory runs out.
     ensures exact { GivesImage result (image_of bytes.now) }
 {
-    read_whole(alloc, OtherLists::Empty, bytes)
+    image_in(alloc, bytes)
 }

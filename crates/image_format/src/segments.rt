@@ -2,7 +2,6 @@
 
 ghost use Rattle.std.specs.Prelude.{◌≡◌, ◌<◌, length, slice_index_or};
 ghost use Rattle.std.specs.Int.{w32};
-ghost use Rattle.image_format.specs.Conditions.{any_count};
 ghost use Rattle.image_format.specs.Reading.{Gives, number_at, times, with_front, range_behind_at, segment_at, rows_at, list_at};
 
 use crate::errors::{ImageEnd, ImageError};
@@ -138,14 +137,14 @@ fn segments_of(
 }
 
 /// The first list: a count, and that many segments.
-#[tactic(auto, unfolding(crate::specs::Reading::list_at, crate::specs::Reading::tested_at))]
+#[tactic(auto, unfolding(crate::specs::Reading::list_at))]
 pub(crate) fn segment_list_of(
     alloc: Global,
     bounds: Bounds,
     bytes: &[u8],
 ) -> Result<(Segments, &[u8]), ImageEnd>
     ensures { Gives (λ x. (x.0, x.1.now)) result
-        (list_at bounds.size 1 any_count (segment_at bounds.size bounds.ram) bytes.now) }
+        (list_at bounds.size (segment_at bounds.size bounds.ram) bytes.now) }
 {
     let (count, rest) = number_of(bounds.size, bytes)?;
     segments_of(alloc, count, bounds, rest)

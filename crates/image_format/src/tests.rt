@@ -1,6 +1,4 @@
 use super::*;
-use crate::others::OtherLists;
-use crate::reading::read_whole;
 use std::alloc::{AllocError, Global};
 use std::test::Fail;
 
@@ -99,7 +97,7 @@ fn hello_is_read(rt: HostRuntime) -> Result<(), Fail> {
 #[test]
 fn sizes_and_segments_are_read(rt: HostRuntime) -> Result<(), Fail> {
     let bytes = bytes_of(rt.alloc(), &FULL)?;
-    let image = read_whole(rt.alloc(), OtherLists::Taken, &bytes)
+    let image = read_image(rt.alloc(), &bytes)
         .ok()
         .ok_or("it is the file of an image")?;
     assert_eq!(rt;
@@ -169,7 +167,7 @@ const COMPARTMENTS: [CompartmentRange; 2] = [
 #[test]
 fn other_lists_are_read(rt: HostRuntime) -> Result<(), Fail> {
     let bytes = bytes_of(rt.alloc(), &FULL)?;
-    let image = read_whole(rt.alloc(), OtherLists::Taken, &bytes)
+    let image = read_image(rt.alloc(), &bytes)
         .ok()
         .ok_or("it is the file of an image")?;
     assert_eq!(rt; image.code(), CODE.as_slice());
@@ -244,12 +242,12 @@ fn the_first_error_is_named(rt: HostRuntime) -> Result<(), Fail> {
     for (place, value, left, error) in &DAMAGES {
         let mut bytes = full_with(rt.alloc(), *place, *value)?;
         bytes.truncate(*left);
-        let found = error_of(read_whole(rt.alloc(), OtherLists::Taken, &bytes));
+        let found = error_of(read_image(rt.alloc(), &bytes));
         assert_eq!(rt; found, Some(*error), "the word at {place} is {value}");
     }
     let full = bytes_of(rt.alloc(), &FULL)?;
     for left in 0..full.len() {
-        let found = error_of(read_whole(rt.alloc(), OtherLists::Taken, &full[..left]));
+        let found = error_of(read_image(rt.alloc(), &full[..left]));
         assert_eq!(rt; found, Some(ImageError::Short(left)));
     }
     Ok(())
@@ -271,21 +269,20 @@ const HELLO_DAMAGES: [(usize, usize, &[u8], ImageError); 23] = [
     (32, 33, &[16], ImageError::Short(76)),
     (24, 28, &[0xFF; 4], ImageError::Field(7, 64)),
     (76, 76, &[0], ImageError::Trailing(76)),
-    // Rows of the other lists are not taken yet.
-    (60, 61, &[1], ImageError::Order(2, 0)),
-    (64, 65, &[1], ImageError::Order(3, 0)),
-    (68, 69, &[1], ImageError::Order(4, 0)),
-    (72, 73, &[1], ImageError::Order(5, 0)),
-    (60, 64, &[0xFF; 4], ImageError::Order(2, 0)),
-    // That is told ahead of what comes later, and once the whole count is there.
+    // A count that is another, over the bytes that stand there: a code range of no words, and rows that aren't there.
+    (60, 61, &[1], ImageError::Field(9, 68)),
+    (64, 65, &[1], ImageError::Short(76)),
+    (68, 69, &[1], ImageError::Short(76)),
+    (72, 73, &[1], ImageError::Short(76)),
+    (60, 64, &[0xFF; 4], ImageError::Field(9, 68)),
     (
         60,
         73,
         &[1, 0, 0, 0, 1, 0, 0, 0, 1, 0, 0, 0, 1],
-        ImageError::Order(2, 0),
+        ImageError::Field(8, 64),
     ),
-    (72, 76, &[1, 0, 0, 0, 9], ImageError::Order(5, 0)),
-    (60, 76, &[1, 0, 0, 0], ImageError::Order(2, 0)),
+    (72, 76, &[1, 0, 0, 0, 9], ImageError::Short(77)),
+    (60, 76, &[1, 0, 0, 0], ImageError::Short(64)),
     (60, 76, &[1, 0, 0], ImageError::Short(63)),
 ];
 
@@ -336,54 +333,6 @@ fn up_to_eight_harts_are_read(rt: HostRuntime) -> Result<(), Fail> {
     nine.extend_from_slice(&[0; 56])?;
     let found = error_of(read_image(rt.alloc(), &nine));
     assert_eq!(rt; found, Some(ImageError::Field(1, 6)));
-    Ok(())
-}
-
-/// Files of one hart with 64 bytes of RAM and one row in all their lists: a code range, a label, an
-/// edge, a compartment range. How they are refused so far.
-const LISTED: [(&[u32], ImageError); 4] = [
-    (
-        &[0x504D_5550, 0x0001_0001, 64, 0, 0, 0, 0, 1, 0, 1, 0, 0, 0],
-        ImageError::Order(2, 0),
-    ),
-    (
-        &[0x504D_5550, 0x0001_0001, 64, 0, 0, 0, 0, 0, 1, 0, 7, 0, 0],
-        ImageError::Order(3, 0),
-    ),
-    (
-        &[0x504D_5550, 0x0001_0001, 64, 0, 0, 0, 0, 0, 0, 1, 1, 2, 0],
-        ImageError::Order(4, 0),
-    ),
-    (
-        &[
-            0x504D_5550,
-            0x0001_0001,
-            64,
-            0,
-            0,
-            0,
-            0,
-            0,
-            0,
-            0,
-            1,
-            0,
-            1,
-            1,
-            0,
-            0,
-        ],
-        ImageError::Order(5, 0),
-    ),
-];
-
-#[test]
-fn other_lists_are_not_taken_yet(rt: HostRuntime) -> Result<(), Fail> {
-    for (words, error) in &LISTED {
-        let bytes = bytes_of(rt.alloc(), words)?;
-        assert!(rt; read_whole(rt.alloc(), OtherLists::Taken, &bytes).is_ok());
-        assert_eq!(rt; error_of(read_image(rt.alloc(), &bytes)), Some(*error));
-    }
     Ok(())
 }
 

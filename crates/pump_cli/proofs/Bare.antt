@@ -1,9 +1,8 @@
 -- Where no policy is chosen, a run under the policy that is nothing is the one that is due.
-use Rattle.std.proofs.Common.{◌≡◌, ℕ, Bool, true, List, ◌++◌, refl, sym, subst}
+use Rattle.std.proofs.Common.{◌≡◌, ℕ, Bool, true, List, ◌++◌}
 use Rattle.image_format.specs.Picture.{Picture}
 use Rattle.policy_product.specs.Choice.{all, all_eq, is_none}
 use Rattle.policy_product.specs.Nothing.{nothing, untagged}
-use Rattle.engine_trait.specs.Standing.{Standing}
 use Rattle.rounds.specs.Course.{Course, rounds}
 use Rattle.rounds.specs.Same.{ShowsSame}
 use Rattle.rounds.proofs.MirrorLemmas.{rounds_same}

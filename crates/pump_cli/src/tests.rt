@@ -173,7 +173,7 @@ fn images_are_read_or_refused(rt: HostRuntime) -> Result<(), Fail> {
         (b"pumpkin", b"pump: bad image: magic\n"),
         (&later, b"pump: bad image: version 3\n"),
         (&nine_harts, b"pump: bad image: field 1 at 6\n"),
-        (&labelled, b"pump: bad image: order 3 row 0\n"),
+        (&labelled, b"pump: bad image: short at 76\n"),
     ];
     for (image, err) in table {
         check_image(&rt, image, refused(err, Status::BadImage), 3)?;

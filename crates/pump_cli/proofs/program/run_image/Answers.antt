@@ -1,8 +1,7 @@
-use Rattle.std.proofs.Common.{◌≡◌, List, ℕ, true, ap, subst, sym, ◌∙◌}
+use Rattle.std.proofs.Common.{◌≡◌, true, ap, subst, sym, ◌∙◌}
 use Rattle.image_format.specs.Picture.{Picture}
 use Rattle.policy_product.specs.Choice.{AllState, AllTag, all, all_eq, is_none}
 use Rattle.policy_product.specs.Nothing.{nothing}
-use Rattle.policy_product.specs.declared.nothing.Nothing.{Nothing}
 use Rattle.engine_trait.specs.Standing.{Standing}
 use Rattle.rounds.specs.Course.{rounds}
 use Rattle.pump_line.specs.Told.{run_told}
