@@ -1,3 +1,4 @@
 pub mod BareLemmas
 pub mod MemoryLemmas
+pub mod SortedLemmas
 mod StartLemmas

@@ -1,4 +1,5 @@
 pub mod Births
 pub mod Loads
 pub mod Memory
+pub mod Sorted
 pub mod Start

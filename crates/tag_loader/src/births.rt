@@ -1,9 +1,11 @@
 ghost use Rattle.std.specs.Prelude.{◌≡◌};
 ghost use Rattle.std.specs.List.{find};
+ghost use Rattle.std.specs.Option.{is_some};
 ghost use Rattle.tag_loader.specs.Births.{birth_of, is_labelled_by, is_owned_by, lies_in, lies_in_heap};
 
-use image_format::{CompartmentRange, Image, Label, WordRange};
-use policy_trait::Birth;
+use crate::sorted::row_at;
+use image_format::{CompartmentRange, Image, Label};
+use policy_trait::{Birth, CompartmentSet};
 
 /// What the image says of the word at `address`: its compartment, whether it is code, its label, and whether it lies in
 /// the heap region.
@@ -11,38 +13,30 @@ use policy_trait::Birth;
 pub fn birth(image: &Image, address: u32) -> Birth
     ensures { result ≡ birth_of image.now address }
 {
-    let code = code_range(image.code(), address).is_some();
-    let label = match label_at(image.labels(), address) {
+    let code = is_code(image, address);
+    let label = match label_at(image, address) {
         None => None,
         Some(label) => Some(label.id),
     };
     let heap = is_heap(image, address);
-    match owner_of(image.compartments(), address) {
+    match owner_of(image, address) {
         None => Birth {
             owner: 0,
-            into: 0,
-            write: 0,
+            into: CompartmentSet::empty(),
+            write: CompartmentSet::empty(),
             code,
             label,
             heap,
         },
         Some(row) => Birth {
             owner: row.owner,
-            into: row.into,
-            write: row.write,
+            into: CompartmentSet::of_bits(row.into),
+            write: CompartmentSet::of_bits(row.write),
             code,
             label,
             heap,
         },
     }
-}
-
-/// Whether the address lies in the range.
-fn is_within(address: u32, range: WordRange) -> bool
-    ensures { result ≡ lies_in address range }
-{
-    range.address <= address
-        && u64::from(address) < u64::from(range.address) + 4 * u64::from(range.words)
 }
 
 /// Whether the address lies in the heap region.
@@ -53,38 +47,23 @@ fn is_heap(image: &Image, address: u32) -> bool
     base <= address && u64::from(address) < u64::from(base) + u64::from(image.heap_bytes())
 }
 
-/// The first code range that holds the address.
-fn code_range(rows: &[WordRange], address: u32) -> Option<WordRange>
-    ensures { result ≡ find (lies_in address) rows.now }
+/// Whether some code range holds the address.
+fn is_code(image: &Image, address: u32) -> bool
+    ensures { result ≡ is_some (find (lies_in address) image.now.code) }
 {
-    for row in rows {
-        if is_within(address, *row) {
-            return Some(*row);
-        }
-    }
-    None
+    row_at(image.code(), address).is_some()
 }
 
 /// The compartment's row that holds the address.
-fn owner_of(rows: &[CompartmentRange], address: u32) -> Option<CompartmentRange>
-    ensures { result ≡ find (is_owned_by address) rows.now }
+fn owner_of(image: &Image, address: u32) -> Option<CompartmentRange>
+    ensures { result ≡ find (is_owned_by address) image.now.compartments }
 {
-    for row in rows {
-        if is_within(address, row.range) {
-            return Some(*row);
-        }
-    }
-    None
+    row_at(image.compartments(), address)
 }
 
 /// The label of the address.
-fn label_at(labels: &[Label], address: u32) -> Option<Label>
-    ensures { result ≡ find (is_labelled_by address) labels.now }
+fn label_at(image: &Image, address: u32) -> Option<Label>
+    ensures { result ≡ find (is_labelled_by address) image.now.labels }
 {
-    for label in labels {
-        if label.address == address {
-            return Some(*label);
-        }
-    }
-    None
+    row_at(image.labels(), address)
 }

@@ -5,6 +5,7 @@ mod births;
 mod law;
 mod load;
 mod parts;
+mod sorted;
 mod start;
 #[cfg(test)]
 mod tests;
