@@ -1,13 +1,13 @@
-//! What a small policy answers, on and off, and the one that is nothing; and the policies that can be chosen.
+//! What a small policy answers, on and off and beside sealing, and the one that is nothing; and the policies that can be chosen.
 
-use crate::{Choice, Maybe, Nothing, choose, read_choice};
+use crate::{Both, Choice, Maybe, Nothing, choose, read_choice};
 use policy_trait::{
     Answer, Args, Birth, CompartmentSet, Ins, Mask, Outs, Part, Plan, PlanEnd, Policy, Refused,
     Rest, Why,
 };
 use pump_words::{Line, write_text};
 use rv_decode::Group;
-use sealing_policy::SealTag;
+use sealing_policy::{SealTag, Sealing};
 use std::alloc::AllocError;
 use std::test::Fail;
 
@@ -322,6 +322,149 @@ fn plan_of_a_service(rt: HostRuntime) -> Result<(), Fail> {
             })
     );
     Ok(())
+}
+
+/// Sealing beside the small policy.
+fn pair() -> Both<Sealing, Noting> {
+    Both::new(Sealing::new(), Noting { noted: 3 })
+}
+
+/// The same in the other order.
+fn turned() -> Both<Noting, Sealing> {
+    Both::new(Noting { noted: 3 }, Sealing::new())
+}
+
+fn refusal(part: Part, group: Group) -> Refused {
+    Refused {
+        part,
+        why: Why::Rule(group),
+    }
+}
+
+/// Plain inputs of the pair but for the first operand.
+fn inputs_of_pair(t1: (SealTag, u32)) -> Ins<(SealTag, u32)> {
+    let plain = (SealTag::Data, 5);
+    Ins {
+        pc: plain,
+        ci: plain,
+        t1,
+        t2: plain,
+        tm: plain,
+    }
+}
+
+#[test]
+fn the_left_part_refuses_first(rt: HostRuntime) {
+    let key = SealTag::Key(0);
+    // the first operand's tags, and the answer to an addition of a constant
+    let rows = [
+        (
+            (SealTag::Data, 7),
+            Ok(Outs {
+                pc: (SealTag::Data, 5),
+                result: (SealTag::Data, 7),
+            }),
+        ),
+        ((key, 7), Err(refusal(Part::Seal, Group::AddImm))),
+        ((SealTag::Data, 9), Err(refusal(Part::Heap, Group::AddImm))),
+        ((key, 9), Err(refusal(Part::Seal, Group::AddImm))),
+    ];
+    for (t1, answer) in rows {
+        assert!(rt; pair().rule(Group::AddImm, inputs_of_pair(t1)) == answer);
+    }
+    let plain = (5, SealTag::Data);
+    let inputs = Ins {
+        pc: plain,
+        ci: plain,
+        t1: (9, key),
+        t2: plain,
+        tm: plain,
+    };
+    assert!(rt; turned().rule(Group::AddImm, inputs) == Err(refusal(Part::Heap, Group::AddImm)));
+}
+
+#[test]
+fn an_input_is_ignored_where_both_ignore_it(rt: HostRuntime) {
+    // Sealing ignores the pc, and the small policy all but the pc and the first operand.
+    let mask = pair().ignores(Group::Const);
+    assert!(rt; !mask.pc && !mask.ci && !mask.t1 && mask.t2 && mask.tm);
+    let mask = pair().ignores(Group::Add);
+    assert!(rt; !mask.t2 && mask.tm);
+}
+
+fn arguments_of_pair(t0: (SealTag, u32), t1: (SealTag, u32)) -> Args<(SealTag, u32)> {
+    Args {
+        a0: 77,
+        a1: 0,
+        a2: 0,
+        t0,
+        t1,
+        t2: (SealTag::Data, 5),
+        ram: 0,
+    }
+}
+
+#[test]
+fn services_are_lent_by_the_other_part(rt: HostRuntime) {
+    let policy = pair();
+    let plain = (SealTag::Data, 5);
+    let lent_by = |part| {
+        Err(PlanEnd::Refused(Refused {
+            part,
+            why: Why::Lend,
+        }))
+    };
+    // the service, the tags of a0 and a1, and the part that does not lend
+    let rows = [
+        (40, (SealTag::Key(0), 5), plain, Part::Seal),
+        (17, (SealTag::Data, 9), (SealTag::Key(0), 5), Part::Heap),
+        (17, (SealTag::Data, 5), (SealTag::Key(0), 9), Part::Heap),
+    ];
+    for (number, t0, t1, part) in rows {
+        let arguments = arguments_of_pair(t0, t1);
+        assert!(rt; policy.knows(number));
+        if policy.knows(number) {
+            assert!(rt; policy.plan(number, &arguments, plain) == lent_by(part));
+        }
+    }
+}
+
+#[test]
+fn answers_have_the_other_component(rt: HostRuntime) {
+    let policy = pair();
+    let plain = (SealTag::Data, 5);
+    // the service, the tags of a0 and a1, and the tag of the answer: the rest is plain at 16, and that of a0 at 17
+    let rows = [
+        (16, (SealTag::Data, 7), plain, (SealTag::Key(0), 5)),
+        (
+            17,
+            (SealTag::Data, 7),
+            (SealTag::Key(4), 5),
+            (SealTag::Sealed(4), 7),
+        ),
+        (40, (SealTag::Data, 7), plain, (SealTag::Data, 7)),
+    ];
+    for (number, t0, t1, tag) in rows {
+        let arguments = arguments_of_pair(t0, t1);
+        assert!(rt; policy.knows(number));
+        if policy.knows(number) {
+            let plan = policy.plan(number, &arguments, plain);
+            assert!(rt; matches!(plan, Ok(Plan { answer: Some(answer), .. }) if answer.tag == tag));
+        }
+    }
+}
+
+#[test]
+fn texts_are_joined(rt: HostRuntime) {
+    let mut line = Line::new();
+    pair().show((SealTag::Key(3), 5), &mut line);
+    assert!(rt; line.as_slice() == b"key(3)|noting".as_slice());
+    let mut other = Line::new();
+    Both::new(Nothing, Sealing::new()).show(((), SealTag::Data), &mut other);
+    assert!(rt; other.as_slice() == b"data".as_slice());
+    assert!(rt; pair().listed(7) == Some((7, 4, 1)));
+    assert!(rt; pair().right().noted == 3);
+    assert!(rt; pair().left().knows(16));
 }
 
 #[test]

@@ -1,0 +1,291 @@
+-- Two policies that keep the laws keep them as one.
+use Rattle.std.proofs.Common.{◌≡◌, ℕ, ◌≤◌, Bool, true, false, ◌&&◌, ◌||◌, List, Option, Some, None, Result, Ok, Err, IsTrue, OnErr, OnOk, max, option_map, refl, sym, ap, ◌∙◌, subst, if◌then◌else◌, arith}
+use Rattle.std.specs.Option.{ForSome}
+use Rattle.std.proofs.Math.Nat.{le-max_left, le-max_right}
+use Rattle.rv_decode.specs.declared.groups.Group.{Group}
+use Rattle.policy_trait.specs.Laws.{IsRange, KeepsLaws, KeepsValue, SameRules}
+use Rattle.policy_trait.specs.LawsLemmas.{rule_by_key}
+use Rattle.policy_trait.specs.Maps.{args_by, ins_by, ok_by, plan_by}
+use Rattle.policy_trait.specs.Model.{CanPlan, IsGiven, PolicyModel, masked}
+use Rattle.policy_trait.specs.Steps.{◌>>=◌}
+use Rattle.policy_trait.specs.declared.rules.Ins.{Ins}
+use Rattle.policy_trait.specs.declared.rules.Outs.{Outs}
+use Rattle.policy_trait.specs.declared.rules.Refused.{Refused}
+use Rattle.policy_trait.specs.declared.services.Answer.{Answer}
+use Rattle.policy_trait.specs.declared.services.Args.{Args}
+use Rattle.policy_trait.specs.declared.services.Plan.{Plan}
+use Rattle.policy_trait.specs.declared.services.PlanEnd.{PlanEnd}
+use Rattle.policy_trait.specs.declared.services.Words.{Words}
+use Rattle.policy_product.specs.Both.{BothHold, answer_before, answer_beside, beside_left, beside_right, both, both_ignore, both_outs, joined, left, lent, plan_of_left, plan_of_right, right}
+
+-- ---- a plan of one part
+
+-- a plan put beside the other part's tags, and read again, is the plan
+answer_left : {T U : Type 0} (plain a0 : U) (x : Option (Answer T)) → option_map (λ (y : Answer (T × U)). record { value = y.value; tag = y.tag.0; rest = y.rest }) (option_map (answer_beside plain a0) x) ≡ x
+answer_left plain a0 None = refl
+answer_left plain a0 (Some x) = refl
+
+answer_right : {T U : Type 0} (plain a0 : T) (x : Option (Answer U)) → option_map (λ (y : Answer (T × U)). record { value = y.value; tag = y.tag.1; rest = y.rest }) (option_map (answer_before plain a0) x) ≡ x
+answer_right plain a0 None = refl
+answer_right plain a0 (Some x) = refl
+
+left_again : {T U : Type 0} (pc plain a0 : U) (p : Plan T) → plan_by left (beside_right pc plain a0 p) ≡ p
+left_again pc plain a0 p = ap (λ x. record p { answer = x }) (answer_left plain a0 p.answer)
+
+right_again : {T U : Type 0} (pc plain a0 : T) (p : Plan U) → plan_by right (beside_left pc plain a0 p) ≡ p
+right_again pc plain a0 p = ap (λ x. record p { answer = x }) (answer_right plain a0 p.answer)
+
+-- a plan that came is one part's plan, put beside the other's tags
+pub record FromPlan {T W : Type 0} (put : Plan T → Plan W) (r : Result (Plan T) PlanEnd) (p : Plan W) : Type 0 where
+  pub plan : Plan T
+  pub given : r ≡ Ok plan
+  pub put_on : put plan ≡ p
+
+planned_by : {T W : Type 0} (put : Plan T → Plan W) (r : Result (Plan T) PlanEnd) (p : Plan W) → ok_by put r ≡ Ok p → FromPlan put r p
+planned_by put (Ok plan) p e = record { plan = plan; given = refl; put_on = cc }
+planned_by put (Err end) p e = absurd (let h : Err end ≡ Ok p = e in cc)
+
+from_plan : {T W : Type 0} (all : Result (Unit {0}) PlanEnd) (put : Plan T → Plan W) (r : Result (Plan T) PlanEnd) (p : Plan W)
+    → (all >>= λ is_lent. ok_by put r) ≡ Ok p → FromPlan put r p
+from_plan (Ok x) put r p e = planned_by put r p e
+from_plan (Err end) put r p e = absurd (let h : Err end ≡ Ok p = e in cc)
+
+-- an answer beside another tag keeps its value
+value_beside : {T W : Type 0} (put : Answer T → Answer W) (a : Args T) (b : Args W) (answer : Option (Answer T)) → a.a0 ≡ b.a0
+    → ((x : Answer T) → (put x).value ≡ x.value) → ((x : Answer T) → (put x).rest ≡ x.rest)
+    → ForSome answer (KeepsValue a) → ForSome (option_map put answer) (KeepsValue b)
+value_beside put a b None same values rests all = λ x e. absurd (let h : None ≡ Some x = e in cc)
+value_beside {T} {W} put a b (Some y) same values rests all = λ x e as_a0.
+    let is : put y ≡ x = some_is (put y) x e in
+    sym (ap (λ (z : Answer W). z.value) is) ∙ values y
+    ∙ all y refl (sym (rests y) ∙ ap (λ (z : Answer W). z.rest) is ∙ as_a0) ∙ same
+  where
+    some_is : (x y : Answer W) → Some x ≡ Some y → x ≡ y
+    some_is x y e = cc
+
+either_known : (a b : Bool) → IsTrue (a || b) → a ≡ false → IsTrue b
+either_known true b known off = absurd (cc off)
+either_known false b known off = known
+
+-- after a commit, or where memory ran out in it, the same services are known
+pub knows_same : {T S E : Type 0} (m : PolicyModel T S) (old new committed : S) (result : Result (Unit {0}) E) → OnOk result (new ≡ committed) → OnErr result (new ≡ old)
+    → ((k : ℕ) → m.knows committed k ≡ m.knows old k) → (k : ℕ) → m.knows new k ≡ m.knows old k
+knows_same m old new committed (Ok x) ok err same k = ap (λ s. m.knows s k) ok ∙ same k
+knows_same m old new committed (Err e) ok err same k = ap (λ s. m.knows s k) err
+
+module _ {T U S R : Type 0} (m : PolicyModel T S) (n : PolicyModel U R) (holds : S → Type 0) (also : R → Type 0)
+    (laws : KeepsLaws m holds) (also_laws : KeepsLaws n also) where
+  -- ---- plans
+
+  abbrev FromLeft : S × R → ℕ → Args (T × U) → T × U → Plan (T × U) → Type 0
+  FromLeft s k a pc p = FromPlan (beside_right pc.1 (n.plain s.1) a.t0.1) (m.plan s.0 k (args_by left a) pc.0) p
+
+  abbrev FromRight : S × R → ℕ → Args (T × U) → T × U → Plan (T × U) → Type 0
+  FromRight s k a pc p = FromPlan (beside_left pc.0 (m.plain s.0) a.t0.0) (n.plan s.1 k (args_by right a) pc.1) p
+
+  -- whose service it is decides whose plan it is
+  of_left : (owns : Bool) (s : S × R) (k : ℕ) (a : Args (T × U)) (pc : T × U) (p : Plan (T × U)) → owns ≡ true
+      → (if owns then plan_of_left m n s k a pc else plan_of_right m n s k a pc) ≡ Ok p → FromLeft s k a pc p
+  of_left true s k a pc p owned e = from_plan (lent (n.lend s.1) (m.uses s.0 k) (args_by right a)) _ _ p e
+  of_left false s k a pc p owned e = absurd (cc owned)
+
+  of_right : (owns : Bool) (s : S × R) (k : ℕ) (a : Args (T × U)) (pc : T × U) (p : Plan (T × U)) → owns ≡ false
+      → (if owns then plan_of_left m n s k a pc else plan_of_right m n s k a pc) ≡ Ok p → FromRight s k a pc p
+  of_right false s k a pc p owned e = from_plan (lent (m.lend s.0) (n.uses s.1 k) (args_by left a)) _ _ p e
+  of_right true s k a pc p owned e = absurd (cc owned)
+
+  left_given : (s : S × R) (p : Plan (T × U)) → IsGiven (both m n) s p → m.knows s.0 p.service ≡ true → IsGiven m s.0 (plan_by left p)
+  left_given s p given owned =
+      let from = of_left (m.knows s.0 p.service) s p.service given.arguments given.pc p owned given.given in
+      let again : plan_by left p ≡ from.plan = ap (plan_by left) (sym from.put_on) ∙ left_again given.pc.1 (n.plain s.1) given.arguments.t0.1 from.plan in
+      let room : m.room s.0 ≤ given.arguments.ram = room_within (le-max_left (m.room s.0) (n.room s.1)) given.can.room in
+      record {
+        arguments = args_by left given.arguments;
+        pc = given.pc.0;
+        can = record { known = owned; room = room };
+        given = from.given ∙ ap given_as (sym again);
+      }
+    where
+      given_as : Plan T → Result (Plan T) PlanEnd
+      given_as q = Ok q
+
+      room_within : {a b c : ℕ} → a ≤ b → b ≤ c → a ≤ c
+      room_within first second = omega (arith, first, second)
+
+  right_given : (s : S × R) (p : Plan (T × U)) → IsGiven (both m n) s p → m.knows s.0 p.service ≡ false → IsGiven n s.1 (plan_by right p)
+  right_given s p given owned =
+      let from = of_right (m.knows s.0 p.service) s p.service given.arguments given.pc p owned given.given in
+      let again : plan_by right p ≡ from.plan = ap (plan_by right) (sym from.put_on) ∙ right_again given.pc.0 (m.plain s.0) given.arguments.t0.0 from.plan in
+      let room : n.room s.1 ≤ given.arguments.ram = room_within (le-max_right (m.room s.0) (n.room s.1)) given.can.room in
+      record {
+        arguments = args_by right given.arguments;
+        pc = given.pc.1;
+        can = record { known = either_known (m.knows s.0 p.service) (n.knows s.1 p.service) given.can.known owned; room = room };
+        given = from.given ∙ ap given_as (sym again);
+      }
+    where
+      given_as : Plan U → Result (Plan U) PlanEnd
+      given_as q = Ok q
+
+      room_within : {a b c : ℕ} → a ≤ b → b ≤ c → a ≤ c
+      room_within first second = omega (arith, first, second)
+
+  -- the same where the two policies are seen apart
+  pub left_part : (s : S × R) (l : S) (r : R) → (l, r) ≡ s → (p : Plan (T × U)) (q : Plan T) → IsGiven (both m n) s p → m.knows l p.service ≡ true
+      → q ≡ plan_by left p → IsGiven m l q
+  left_part s l r view p q given owned is =
+      subst (IsGiven m l) (sym is) (left_given (l, r) p (subst (λ t. IsGiven (both m n) t p) (sym view) given) owned)
+
+  pub right_part : (s : S × R) (l : S) (r : R) → (l, r) ≡ s → (p : Plan (T × U)) (q : Plan U) → IsGiven (both m n) s p → m.knows l p.service ≡ false
+      → q ≡ plan_by right p → IsGiven n r q
+  right_part s l r view p q given owned is =
+      subst (IsGiven n r) (sym is) (right_given (l, r) p (subst (λ t. IsGiven (both m n) t p) (sym view) given) owned)
+
+  -- ---- masked inputs change no answer
+
+  pick_left : (a b : Bool) (plain : T × U) (t : T × U) → (if a then plain.0 else (if a && b then plain else t).0) ≡ (if a then plain.0 else t.0)
+  pick_left true b plain t = refl
+  pick_left false b plain t = refl
+
+  pick_right : (a b : Bool) (plain : T × U) (t : T × U) → (if b then plain.1 else (if a && b then plain else t).1) ≡ (if b then plain.1 else t.1)
+  pick_right a true plain t = refl
+  pick_right true false plain t = refl
+  pick_right false false plain t = refl
+
+  abbrev all_masked : S × R → Group → Ins (T × U) → Ins (T × U)
+  all_masked s g x = masked (both_ignore (m.ignores s.0 g) (n.ignores s.1 g)) (m.plain s.0, n.plain s.1) x
+
+  left_key : (s : S × R) (g : Group) (x : Ins (T × U)) → masked (m.ignores s.0 g) (m.plain s.0) (ins_by left x) ≡ masked (m.ignores s.0 g) (m.plain s.0) (ins_by left (all_masked s g x))
+  left_key s g x =
+      let plain : T × U = (m.plain s.0, n.plain s.1) in
+      let a = m.ignores s.0 g in
+      let b = n.ignores s.1 g in
+      sym (λ j. record {
+        pc = pick_left a.pc b.pc plain x.pc j;
+        ci = pick_left a.ci b.ci plain x.ci j;
+        t1 = pick_left a.t1 b.t1 plain x.t1 j;
+        t2 = pick_left a.t2 b.t2 plain x.t2 j;
+        tm = pick_left a.tm b.tm plain x.tm j;
+      })
+
+  right_key : (s : S × R) (g : Group) (x : Ins (T × U)) → masked (n.ignores s.1 g) (n.plain s.1) (ins_by right x) ≡ masked (n.ignores s.1 g) (n.plain s.1) (ins_by right (all_masked s g x))
+  right_key s g x =
+      let plain : T × U = (m.plain s.0, n.plain s.1) in
+      let a = m.ignores s.0 g in
+      let b = n.ignores s.1 g in
+      sym (λ j. record {
+        pc = pick_right a.pc b.pc plain x.pc j;
+        ci = pick_right a.ci b.ci plain x.ci j;
+        t1 = pick_right a.t1 b.t1 plain x.t1 j;
+        t2 = pick_right a.t2 b.t2 plain x.t2 j;
+        tm = pick_right a.tm b.tm plain x.tm j;
+      })
+
+  -- the rule from the answers of both
+  abbrev ruled : Result (Outs T) Refused → Result (Outs U) Refused → Result (Outs (T × U)) Refused
+  ruled x y = x >>= λ first. y >>= λ second. Ok (both_outs first second)
+
+  rule_masked : (s : S × R) (g : Group) (x : Ins (T × U)) → (both m n).rule s g x ≡ (both m n).rule s g (all_masked s g x)
+  rule_masked s g x =
+      ap (λ first. ruled first (n.rule s.1 g (ins_by right x))) (rule_by_key m holds laws s.0 g (ins_by left x) (ins_by left (all_masked s g x)) (left_key s g x))
+      ∙ ap (ruled (m.rule s.0 g (ins_by left (all_masked s g x)))) (rule_by_key n also also_laws s.1 g (ins_by right x) (ins_by right (all_masked s g x)) (right_key s g x))
+
+  -- ---- a commit changes what services answer, and nothing else
+
+  same_left : (s t : S) (r : R) → SameRules m s t → SameRules (both m n) (s, r) (t, r)
+  same_left s t r same = record {
+    plain = ap (λ (x : T). (x, n.plain r)) same.plain;
+    rule = λ g x. ap (λ first. ruled first (n.rule r g (ins_by right x))) (same.rule g (ins_by left x));
+    ignores = λ g. ap (λ mask. both_ignore mask (n.ignores r g)) (same.ignores g);
+    knows = λ k. ap (λ known. known || n.knows r k) (same.knows k);
+    uses = λ k. ap (λ known. if known then m.uses t k else n.uses r k) (same.knows k) ∙ ap (λ (uses : ℕ). if m.knows s k then uses else n.uses r k) (same.uses k);
+    lend = λ tag. ap (λ first. first >>= λ is_lent. n.lend r tag.1) (same.lend tag.0);
+    room = ap (λ (room : ℕ). max room (n.room r)) same.room;
+    wipe = λ pc old. ap (λ first. first >>= λ x. n.wipe r pc.1 old.1 >>= λ y. Ok (x, y)) (same.wipe pc.0 old.0);
+    start_pc = λ b. ap (λ (x : T). (x, n.start_pc r b)) (same.start_pc b);
+    start_word = λ b. ap (λ (x : T). (x, n.start_word r b)) (same.start_word b);
+    text = λ tag. ap (λ (x : List ℕ). joined x (n.text r tag.1)) (same.text tag.0);
+  }
+
+  same_right : (s : S) (r t : R) → SameRules n r t → SameRules (both m n) (s, r) (s, t)
+  same_right s r t same = record {
+    plain = ap (λ (y : U). (m.plain s, y)) same.plain;
+    rule = λ g x. ap (ruled (m.rule s g (ins_by left x))) (same.rule g (ins_by right x));
+    ignores = λ g. ap (both_ignore (m.ignores s g)) (same.ignores g);
+    knows = λ k. ap (λ known. m.knows s k || known) (same.knows k);
+    uses = λ k. ap (λ (uses : ℕ). if m.knows s k then m.uses s k else uses) (same.uses k);
+    lend = λ tag. ap (λ second. m.lend s tag.0 >>= λ is_lent. second) (same.lend tag.1);
+    room = ap (max (m.room s)) same.room;
+    wipe = λ pc old. ap (λ second. m.wipe s pc.0 old.0 >>= λ x. second >>= λ y. Ok (x, y)) (same.wipe pc.1 old.1);
+    start_pc = λ b. ap (λ (y : U). (m.start_pc s b, y)) (same.start_pc b);
+    start_word = λ b. ap (λ (y : U). (m.start_word s b, y)) (same.start_word b);
+    text = λ tag. ap (joined (m.text s tag.0)) (same.text tag.1);
+  }
+
+  abbrev committed : Bool → S × R → Plan (T × U) → S × R
+  committed owns s p = if owns then (m.commit s.0 (plan_by left p), s.1) else (s.0, n.commit s.1 (plan_by right p))
+
+  keeps : (owns : Bool) (s : S × R) (p : Plan (T × U)) → m.knows s.0 p.service ≡ owns → IsGiven (both m n) s p → SameRules (both m n) s (committed owns s p)
+  keeps true s p owned given = same_left s.0 (m.commit s.0 (plan_by left p)) s.1 (laws.keeps s.0 (plan_by left p) (left_given s p given owned))
+  keeps false s p owned given = same_right s.0 s.1 (n.commit s.1 (plan_by right p)) (also_laws.keeps s.1 (plan_by right p) (right_given s p given owned))
+
+  stays : (owns : Bool) (s : S × R) (p : Plan (T × U)) → m.knows s.0 p.service ≡ owns → IsGiven (both m n) s p → BothHold holds also s → BothHold holds also (committed owns s p)
+  stays true s p owned given held = (laws.stays s.0 (plan_by left p) (left_given s p given owned) held.0, held.1)
+  stays false s p owned given held = (held.0, also_laws.stays s.1 (plan_by right p) (right_given s p given owned) held.1)
+
+  -- ---- what a plan is
+
+  abbrev planned : Bool → S × R → ℕ → Args (T × U) → T × U → Result (Plan (T × U)) PlanEnd
+  planned owns s k a pc = if owns then plan_of_left m n s k a pc else plan_of_right m n s k a pc
+
+  below : {a b c : ℕ} → a ≤ b → b ≤ c → a ≤ c
+  below first second = omega (arith, first, second)
+
+  ranges : (owns : Bool) (s : S × R) (k : ℕ) (a : Args (T × U)) (pc : T × U) (p : Plan (T × U)) → m.knows s.0 k ≡ owns → CanPlan (both m n) s k a → BothHold holds also s
+      → planned owns s k a pc ≡ Ok p → ForSome p.range (IsRange a.ram)
+  ranges true s k a pc p owned can held e =
+      let from = of_left true s k a pc p refl e in
+      subst (λ (range : Option Words). ForSome range (IsRange a.ram)) (ap (λ (q : Plan (T × U)). q.range) from.put_on)
+      (laws.ranges s.0 k (args_by left a) pc.0 from.plan (record { known = owned; room = below (le-max_left (m.room s.0) (n.room s.1)) can.room }) held.0 from.given)
+  ranges false s k a pc p owned can held e =
+      let from = of_right false s k a pc p refl e in
+      subst (λ (range : Option Words). ForSome range (IsRange a.ram)) (ap (λ (q : Plan (T × U)). q.range) from.put_on)
+      (also_laws.ranges s.1 k (args_by right a) pc.1 from.plan
+      (record { known = either_known (m.knows s.0 k) (n.knows s.1 k) can.known owned; room = below (le-max_right (m.room s.0) (n.room s.1)) can.room }) held.1 from.given)
+
+  few : (owns : Bool) (s : S × R) (k : ℕ) → m.knows s.0 k ≡ owns → IsTrue (m.knows s.0 k || n.knows s.1 k) → (if owns then m.uses s.0 k else n.uses s.1 k) ≤ 3
+  few true s k owned known = laws.few s.0 k owned
+  few false s k owned known = also_laws.few s.1 k (either_known (m.knows s.0 k) (n.knows s.1 k) known owned)
+
+  service : (owns : Bool) (s : S × R) (k : ℕ) (a : Args (T × U)) (pc : T × U) (p : Plan (T × U)) → m.knows s.0 k ≡ owns → IsTrue (m.knows s.0 k || n.knows s.1 k)
+      → planned owns s k a pc ≡ Ok p → p.service ≡ k
+  service true s k a pc p owned known e =
+      let from = of_left true s k a pc p refl e in
+      ap (λ (q : Plan (T × U)). q.service) (sym from.put_on) ∙ laws.service s.0 k (args_by left a) pc.0 from.plan owned from.given
+  service false s k a pc p owned known e =
+      let from = of_right false s k a pc p refl e in
+      ap (λ (q : Plan (T × U)). q.service) (sym from.put_on)
+      ∙ also_laws.service s.1 k (args_by right a) pc.1 from.plan (either_known (m.knows s.0 k) (n.knows s.1 k) known owned) from.given
+
+  value : (owns : Bool) (s : S × R) (k : ℕ) (a : Args (T × U)) (pc : T × U) (p : Plan (T × U)) → m.knows s.0 k ≡ owns → IsTrue (m.knows s.0 k || n.knows s.1 k)
+      → planned owns s k a pc ≡ Ok p → ForSome p.answer (KeepsValue a)
+  value true s k a pc p owned known e =
+      let from = of_left true s k a pc p refl e in
+      subst (λ (answer : Option (Answer (T × U))). ForSome answer (KeepsValue a)) (ap (λ (q : Plan (T × U)). q.answer) from.put_on)
+      (value_beside (answer_beside (n.plain s.1) a.t0.1) (args_by left a) a from.plan.answer refl (λ x. refl) (λ x. refl) (laws.value s.0 k (args_by left a) pc.0 from.plan owned from.given))
+  value false s k a pc p owned known e =
+      let from = of_right false s k a pc p refl e in
+      subst (λ (answer : Option (Answer (T × U))). ForSome answer (KeepsValue a)) (ap (λ (q : Plan (T × U)). q.answer) from.put_on)
+      (value_beside (answer_before (m.plain s.0) a.t0.0) (args_by right a) a from.plan.answer refl (λ x. refl) (λ x. refl)
+      (also_laws.value s.1 k (args_by right a) pc.1 from.plan (either_known (m.knows s.0 k) (n.knows s.1 k) known owned) from.given))
+
+  pub both_laws : KeepsLaws (both m n) (BothHold holds also)
+  both_laws = record {
+    masks = rule_masked;
+    keeps = λ s p given. keeps (m.knows s.0 p.service) s p refl given;
+    stays = λ s p given held. stays (m.knows s.0 p.service) s p refl given held;
+    ranges = λ s k a pc p can held e. ranges (m.knows s.0 k) s k a pc p refl can held e;
+    few = λ s k known. few (m.knows s.0 k) s k refl known;
+    service = λ s k a pc p known e. service (m.knows s.0 k) s k a pc p refl known e;
+    value = λ s k a pc p known e. value (m.knows s.0 k) s k a pc p refl known e;
+  }
