@@ -1,6 +1,5 @@
 pub mod Both
 pub mod BothLaws
-pub mod Choice
 pub mod Maybe
 pub mod MaybeLaws
 pub mod Nothing

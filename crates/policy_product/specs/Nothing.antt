@@ -2,7 +2,6 @@
 use Rattle.std.specs.Prelude.{false, [], None, Ok, Err}
 use Rattle.policy_trait.specs.Model.{PolicyModel}
 use Rattle.policy_trait.specs.declared.services.PlanEnd.TheVariants as plan_end
-use Rattle.policy_product.specs.Choice.{AllTag}
 use Rattle.policy_product.specs.Maybe.{all_ignored}
 use Rattle.policy_product.specs.declared.nothing.Nothing.{Nothing}
 
@@ -26,5 +25,5 @@ nothing = record {
 }
 
 -- whatever a tag was, it is the only one
-abbrev pub untagged : AllTag → Unit {0}
+abbrev pub untagged : {T : Type 0} → T → Unit {0}
 untagged tag = tt

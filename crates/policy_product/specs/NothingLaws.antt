@@ -1,11 +1,7 @@
--- The policy that is nothing keeps the laws, and mirrors the chosen policies where none is.
-use Rattle.std.proofs.Common.{◌≡◌, ◌≤◌, Bool, true, false, not, Some, None, refl, if◌then◌else◌, arith}
+-- The policy that is nothing keeps the laws.
+use Rattle.std.proofs.Common.{◌≤◌, refl, arith}
 use Rattle.policy_trait.specs.Laws.{KeepsLaws}
-use Rattle.policy_trait.specs.Mirrors.{Mirrors}
-use Rattle.policy_product.specs.Choice.{all, chosen, is_none}
-use Rattle.policy_product.specs.Nothing.{nothing, untagged}
-use Rattle.policy_product.specs.declared.choice.Choice.{Choice}
-use Rattle.policy_product.specs.declared.nothing.Nothing.{Nothing}
+use Rattle.policy_product.specs.Nothing.{nothing}
 
 pub nothing_laws : KeepsLaws nothing (λ s. Unit {0})
 nothing_laws = record {
@@ -29,17 +25,3 @@ nothing_laws = record {
   service = λ s k a pc p known given. absurd (cc given);
   value = λ s k a pc p known given. absurd (cc given);
 }
-
-mirrors_if : (seal : Bool) (s : Nothing) → not seal ≡ true → Mirrors untagged all (record { part = if seal then Some 0 else None }) nothing s
-mirrors_if false s none = record {
-  plain = refl;
-  rule = λ g x. refl;
-  offers_none = λ k. refl;
-  mirror_offers_none = λ k. refl;
-  start_pc = λ b. refl;
-  start_word = λ b. refl;
-}
-mirrors_if true s none = absurd (cc none)
-
-pub nothing_mirrors : (choice : Choice) (s : Nothing) → is_none choice ≡ true → Mirrors untagged all (chosen choice) nothing s
-nothing_mirrors choice s none = mirrors_if choice.seal s none

@@ -1,6 +1,6 @@
-//! What a small policy answers, on and off and beside sealing, and the one that is nothing; and the policies that can be chosen.
+//! What a small policy answers, on and off and beside sealing, and the one that is nothing.
 
-use crate::{Both, Choice, Maybe, Nothing, choose, read_choice};
+use crate::{Both, Maybe, Nothing};
 use policy_trait::{
     Answer, Args, Birth, CompartmentSet, Ins, Mask, Outs, Part, Plan, PlanEnd, Policy, Refused,
     Rest, Why,
@@ -465,28 +465,6 @@ fn texts_are_joined(rt: HostRuntime) {
     assert!(rt; pair().listed(7) == Some((7, 4, 1)));
     assert!(rt; pair().right().noted == 3);
     assert!(rt; pair().left().knows(16));
-}
-
-#[test]
-fn policies_by_their_names(rt: HostRuntime) {
-    let none = Choice { seal: false };
-    let sealing = Choice { seal: true };
-    // a text, and the choice that it names
-    let rows = [
-        (b"none".as_slice(), Some(none)),
-        (b"seal".as_slice(), Some(sealing)),
-        (b"".as_slice(), None),
-        (b"Seal".as_slice(), None),
-        (b"seal,".as_slice(), None),
-        (b"seal,seal".as_slice(), None),
-    ];
-    for (text, choice) in rows {
-        assert!(rt; read_choice(text) == choice);
-    }
-    assert!(rt; none.is_none());
-    assert!(rt; !sealing.is_none());
-    assert!(rt; choose(none).part.is_none());
-    assert!(rt; choose(sealing).plain() == Some(SealTag::Data));
 }
 
 fn birth() -> Birth {

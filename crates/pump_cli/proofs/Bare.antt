@@ -1,7 +1,8 @@
 -- Where no policy is chosen, a run under the policy that is nothing is the one that is due.
 use Rattle.std.proofs.Common.{◌≡◌, ℕ, Bool, true, List, ◌++◌}
 use Rattle.image_format.specs.Picture.{Picture}
-use Rattle.policy_product.specs.Choice.{all, all_eq, is_none}
+use Rattle.policy_choice.specs.All.{all, all_eq}
+use Rattle.policy_choice.specs.Choice.{is_none}
 use Rattle.policy_product.specs.Nothing.{nothing, untagged}
 use Rattle.rounds.specs.Course.{Course, rounds}
 use Rattle.rounds.specs.Same.{ShowsSame}

@@ -3,7 +3,7 @@ use Rattle.std.specs.Prelude.{ℕ, List, [], ◌∷◌, Option, Some, None, Resu
 use Rattle.image_format.specs.Picture.{Picture}
 use Rattle.host_io.specs.Pieces.{err}
 use Rattle.tag_text.specs.Texts.{line}
-use Rattle.policy_product.specs.Choice.{all, all_eq}
+use Rattle.policy_choice.specs.All.{all, all_eq}
 use Rattle.rounds.specs.Course.{rounds}
 use Rattle.tag_loader.specs.Loads.{start_of}
 use Rattle.pump_line.specs.Task.{RunTask, Task, run, task_of}

@@ -3,6 +3,8 @@
 
 mod cut;
 mod ending;
+#[cfg(test)]
+mod example_tests;
 mod program;
 mod reading;
 mod refusal;

@@ -22,10 +22,10 @@ struct Outside<'a> {
 
 /// The bytes on standard output and standard error, and the status.
 #[derive(Clone, Copy)]
-struct Expected<'a> {
-    out: &'a [u8],
-    err: &'a [u8],
-    status: Status,
+pub(crate) struct Expected<'a> {
+    pub(crate) out: &'a [u8],
+    pub(crate) err: &'a [u8],
+    pub(crate) status: Status,
 }
 
 /// What a call of the program wrote, its status, and the bytes that it left of the input.
@@ -202,12 +202,17 @@ fn the_input_has_a_limit(rt: HostRuntime) -> Result<(), Fail> {
     Ok(())
 }
 
-/// An image of some harts with so much memory, whose one segment has these words at 0.
+/// The lists of code ranges, labels, edges and compartment ranges, without rows.
+pub(crate) const NO_ROWS: &[u32] = &[0, 0, 0, 0];
+
+/// An image of some harts with so much memory, whose one segment has these words at 0, and whose other lists have these
+/// counts and rows.
 #[derive(Clone, Copy)]
-struct Program<'a> {
-    entries: &'a [u32],
-    ram: u32,
-    words: &'a [u32],
+pub(crate) struct Program<'a> {
+    pub(crate) entries: &'a [u32],
+    pub(crate) ram: u32,
+    pub(crate) lists: &'a [u32],
+    pub(crate) words: &'a [u32],
 }
 
 /// The file of a program's image.
@@ -221,7 +226,7 @@ fn image_of(alloc: Global, program: Program<'_>) -> Result<Vec<u8>, AllocError> 
         program.entries,
         &[1, 0, count],
         program.words,
-        &[0, 0, 0, 0],
+        program.lists,
     ];
     for field in fields {
         for word in field {
@@ -233,14 +238,14 @@ fn image_of(alloc: Global, program: Program<'_>) -> Result<Vec<u8>, AllocError> 
 
 /// A run of a program with these options and this input.
 #[derive(Clone, Copy)]
-struct Run<'a> {
-    options: &'a [&'a str],
-    program: Program<'a>,
-    input: &'a [u8],
-    expected: Expected<'a>,
+pub(crate) struct Run<'a> {
+    pub(crate) options: &'a [&'a str],
+    pub(crate) program: Program<'a>,
+    pub(crate) input: &'a [u8],
+    pub(crate) expected: Expected<'a>,
 }
 
-fn check_run<R: Abort + AllocGlobal>(rt: &R, run: Run<'_>) -> Result<(), Fail> {
+pub(crate) fn check_run<R: Abort + AllocGlobal>(rt: &R, run: Run<'_>) -> Result<(), Fail> {
     let image = image_of(rt.alloc(), run.program)?;
     let mut words = vec![in rt.alloc(); "pump", "run", "image"]?;
     words.extend_from_slice(run.options)?;
@@ -267,6 +272,7 @@ fn check_all<R: Abort + AllocGlobal>(
             program: Program {
                 entries: &[0],
                 ram: 256,
+                lists: NO_ROWS,
                 words,
             },
             input: b"",
@@ -422,6 +428,79 @@ const SEALED: [(&[u32], &[u8], Status); 4] = [
 ];
 
 #[test]
+fn compartments_and_control_flow_are_kept(rt: HostRuntime) -> Result<(), Fail> {
+    for run in KEPT {
+        check_run(&rt, run)?;
+    }
+    Ok(())
+}
+
+/// A jump by register to a label, along an edge and without it; a store to another compartment's word, which control flow
+/// refuses too; and a compartment more than there can be.
+const KEPT: [Run<'static>; 4] = [
+    Run {
+        options: &["--policy", "flow"],
+        program: Program {
+            entries: &[0],
+            ram: 256,
+            lists: &[1, 0, 7, 2, 4, 1, 12, 2, 1, 1, 2, 0],
+            words: &[0x00C0_0293, 0x0002_80E7, 0x13, 0x13, 0x513, 0x893, 0x73],
+        },
+        input: b"",
+        expected: Expected {
+            out: b"",
+            err: b"stop 0 exit 0\n",
+            status: Status::Done,
+        },
+    },
+    Run {
+        options: &["--policy", "flow"],
+        program: Program {
+            entries: &[0],
+            ram: 256,
+            lists: &[1, 0, 7, 2, 4, 1, 12, 2, 0, 0],
+            words: &[0x00C0_0293, 0x0002_80E7, 0x13, 0x13, 0x513, 0x893, 0x73],
+        },
+        input: b"",
+        expected: Expected {
+            out: b"",
+            err: b"stop 0 violation flow rule(move) pc 0000000C\n",
+            status: Status::Violated,
+        },
+    },
+    Run {
+        options: &["--policy", "flow,comp"],
+        program: Program {
+            entries: &[0],
+            ram: 256,
+            lists: &[2, 0, 1, 128, 1, 0, 0, 1, 128, 1, 1, 0, 0],
+            words: &[0x0800_2023],
+        },
+        input: b"",
+        expected: Expected {
+            out: b"",
+            err: b"stop 0 violation comp rule(storeword) pc 00000000\n",
+            status: Status::Violated,
+        },
+    },
+    Run {
+        options: &["--policy", "comp"],
+        program: Program {
+            entries: &[0],
+            ram: 256,
+            lists: &[0, 0, 0, 1, 128, 1, 31, 0, 0],
+            words: &[0x513, 0x0010_0593, 0x0200_0893, 0x73],
+        },
+        input: b"",
+        expected: Expected {
+            out: b"",
+            err: b"stop 0 fault spent 32\n",
+            status: Status::Faulted,
+        },
+    },
+];
+
+#[test]
 fn options_memory_and_input_are_taken(rt: HostRuntime) -> Result<(), Fail> {
     for run in RUNS {
         check_run(&rt, run)?;
@@ -437,6 +516,7 @@ const RUNS: [Run<'static>; 4] = [
         program: Program {
             entries: &[0],
             ram: 4,
+            lists: NO_ROWS,
             words: &[0x0000_0013],
         },
         input: b"",
@@ -451,6 +531,7 @@ const RUNS: [Run<'static>; 4] = [
         program: Program {
             entries: &[0],
             ram: 64,
+            lists: NO_ROWS,
             words: &[0x0400_2283],
         },
         input: b"",
@@ -465,6 +546,7 @@ const RUNS: [Run<'static>; 4] = [
         program: Program {
             entries: &[0],
             ram: 256,
+            lists: NO_ROWS,
             words: &[0x0012_8293, 0xFFDF_F06F],
         },
         input: b"",
@@ -479,6 +561,7 @@ const RUNS: [Run<'static>; 4] = [
         program: Program {
             entries: &[0],
             ram: 256,
+            lists: NO_ROWS,
             words: &[
                 0x0020_0893,
                 0x73,
@@ -503,6 +586,7 @@ const RUNS: [Run<'static>; 4] = [
 const PUTS_TWICE: Program<'static> = Program {
     entries: &[0],
     ram: 256,
+    lists: NO_ROWS,
     words: &[0x0410_0513, 0x0010_0893, 0x73, 0x73],
 };
 
@@ -560,191 +644,3 @@ fn a_failing_put_on_err_ends_the_program(rt: HostRuntime) -> Result<(), Fail> {
     let told = refused(b"", Status::PutFailed);
     check(&rt, &["pump"], failing_tell, told, 3)
 }
-
-/// Copies its input: the program of `examples/filter.txt`, as those below are of the examples with their names.
-const FILTER: Program<'static> = Program {
-    entries: &[0],
-    ram: 64,
-    words: &[
-        0x0020_0893,
-        0x73,
-        0x0005_4863,
-        0x0010_0893,
-        0x73,
-        0xFEDF_F06F,
-        0x0513,
-        0x0893,
-        0x73,
-    ],
-};
-
-const UPPER: Program<'static> = Program {
-    entries: &[0],
-    ram: 64,
-    words: &[
-        0x0020_0893,
-        0x73,
-        0x0205_4063,
-        0xF9F5_0293,
-        0x01A2_B293,
-        0x0052_9293,
-        0x4055_0533,
-        0x0010_0893,
-        0x73,
-        0xFDDF_F06F,
-        0x0513,
-        0x0893,
-        0x73,
-    ],
-};
-
-const MAILBOX: Program<'static> = Program {
-    entries: &[0, 0x1C],
-    ram: 128,
-    words: &[
-        0x04D0_0293,
-        0x0450_2023,
-        0x0010_0293,
-        0x0250_2E23,
-        0x0513,
-        0x0893,
-        0x73,
-        0x03C0_2283,
-        0xFE02_8EE3,
-        0x0400_2503,
-        0x0010_0893,
-        0x73,
-        0x0513,
-        0x0893,
-        0x73,
-        0,
-        0,
-    ],
-};
-
-const SEALED_SUM: Program<'static> = Program {
-    entries: &[0],
-    ram: 64,
-    words: &[
-        0x0100_0893,
-        0x73,
-        0x0005_0593,
-        0x0070_0513,
-        0x0110_0893,
-        0x73,
-        0x0015_0513,
-    ],
-};
-
-const UNSEALED_SUM: Program<'static> = Program {
-    entries: &[0],
-    ram: 64,
-    words: &[
-        0x0100_0893,
-        0x73,
-        0x0005_0593,
-        0x0070_0513,
-        0x0110_0893,
-        0x73,
-        0x0120_0893,
-        0x73,
-        0x0015_0513,
-        0x0305_0513,
-        0x0010_0893,
-        0x73,
-        0x0513,
-        0x0893,
-        0x73,
-    ],
-};
-
-#[test]
-fn the_examples_do_what_they_tell(rt: HostRuntime) -> Result<(), Fail> {
-    for run in EXAMPLES {
-        check_run(&rt, run)?;
-    }
-    Ok(())
-}
-
-const EXAMPLES: [Run<'static>; 8] = [
-    Run {
-        options: &[],
-        program: FILTER,
-        input: b"one\ntwo\n",
-        expected: Expected {
-            out: b"one\ntwo\n",
-            err: b"stop 0 exit 0\n",
-            status: Status::Done,
-        },
-    },
-    Run {
-        options: &[],
-        program: FILTER,
-        input: b"\x00\x7F\x80\xFF\x0A",
-        expected: Expected {
-            out: b"\x00\x7F\x80\xFF\x0A",
-            err: b"stop 0 exit 0\n",
-            status: Status::Done,
-        },
-    },
-    Run {
-        options: &[],
-        program: FILTER,
-        input: b"",
-        expected: Expected {
-            out: b"",
-            err: b"stop 0 exit 0\n",
-            status: Status::Done,
-        },
-    },
-    Run {
-        options: &[],
-        program: UPPER,
-        input: b"`az{@AZ[\x00\xE1\xFF",
-        expected: Expected {
-            out: b"`AZ{@AZ[\x00\xE1\xFF",
-            err: b"stop 0 exit 0\n",
-            status: Status::Done,
-        },
-    },
-    Run {
-        options: &[],
-        program: MAILBOX,
-        input: b"",
-        expected: Expected {
-            out: b"M",
-            err: b"stop 0 exit 0\nstop 1 exit 0\n",
-            status: Status::Done,
-        },
-    },
-    Run {
-        options: &["--policy", "seal"],
-        program: SEALED_SUM,
-        input: b"",
-        expected: Expected {
-            out: b"",
-            err: b"stop 0 violation seal rule(addimm) pc 00000018\n",
-            status: Status::Violated,
-        },
-    },
-    Run {
-        options: &[],
-        program: SEALED_SUM,
-        input: b"",
-        expected: Expected {
-            out: b"",
-            err: b"stop 0 fault noservice 16\n",
-            status: Status::Faulted,
-        },
-    },
-    Run {
-        options: &["--policy", "seal"],
-        program: UNSEALED_SUM,
-        input: b"",
-        expected: Expected {
-            out: b"8",
-            err: b"stop 0 exit 0\n",
-            status: Status::Done,
-        },
-    },
-];

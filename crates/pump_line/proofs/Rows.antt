@@ -1,9 +1,11 @@
 -- Command lines, each with what it asks for or with the fault that `clap` names, computed by the definitions alone.
-use Rattle.std.proofs.Common.{◌≡◌, Bool, true, false, List, [], ◌∷◌, ℕ, codes, refl}
+use Rattle.std.proofs.Common.{◌≡◌, true, List, [], ◌∷◌, ℕ, codes, refl}
 use Rattle.std.specs.Prelude.{⊤, Some, None}
 use Rattle.clap.proofs.OnLiterals.{clap_on_literals}
 use Rattle.clap.specs.Words.{Text}
 use Rattle.clap.specs.declared.error.kind.ErrorKind.TheVariants.{ArgumentConflict, InvalidSubcommand, InvalidValue, MissingRequiredArgument, MissingSubcommand, UnknownArgument}
+use Rattle.policy_choice.specs.Choice.{no_policy}
+use Rattle.policy_choice.specs.declared.choice.Choice.{Choice}
 use Rattle.pump_line.specs.Line.{faults_of, match_of, pump_app, run_shape}
 use Rattle.pump_line.specs.Request.{request_by, request_of, run_in}
 use Rattle.pump_line.specs.Task.{Task, run, run_task_in, task_of}
@@ -17,83 +19,96 @@ on_rows = tt
 abbrev line : List Text → List Text
 line words = codes "pump" ∷ words
 
-abbrev run_of : Text → Bool → ℕ → Task
-run_of image seal turns = run (record { image = image; choice = record { seal = seal }; turns = turns })
+abbrev run_of : Text → Choice → ℕ → Task
+run_of image choice turns = run (record { image = image; choice = choice; turns = turns })
+
+abbrev sealing_alone : Choice
+sealing_alone = record no_policy { seal = true }
 
 -- ---- lines that ask for a run
 
 -- the image alone
-plain : task_of (line (codes "run" ∷ codes "a.img" ∷ [])) ≡ Some (run_of (codes "a.img") false 1000000)
+plain : task_of (line (codes "run" ∷ codes "a.img" ∷ [])) ≡ Some (run_of (codes "a.img") no_policy 1000000)
 unfolding on_rows
 plain = refl
 
 -- `none` named
-none_named : task_of (line (codes "run" ∷ codes "a.img" ∷ codes "--policy" ∷ codes "none" ∷ [])) ≡ Some (run_of (codes "a.img") false 1000000)
+none_named : task_of (line (codes "run" ∷ codes "a.img" ∷ codes "--policy" ∷ codes "none" ∷ [])) ≡ Some (run_of (codes "a.img") no_policy 1000000)
 unfolding on_rows
 none_named = refl
 
 -- sealing named
-sealed : task_of (line (codes "run" ∷ codes "a.img" ∷ codes "--policy" ∷ codes "seal" ∷ [])) ≡ Some (run_of (codes "a.img") true 1000000)
+sealed : task_of (line (codes "run" ∷ codes "a.img" ∷ codes "--policy" ∷ codes "seal" ∷ [])) ≡ Some (run_of (codes "a.img") sealing_alone 1000000)
 unfolding on_rows
 sealed = refl
 
+-- another policy named
+compartments_named : task_of (line (codes "run" ∷ codes "a.img" ∷ codes "--policy" ∷ codes "comp" ∷ [])) ≡ Some (run_of (codes "a.img") (record no_policy { comp = true }) 1000000)
+unfolding on_rows
+compartments_named = refl
+
+-- all named, in another order
+all_named : task_of (line (codes "run" ∷ codes "a.img" ∷ codes "--policy" ∷ codes "flow,seal,comp" ∷ [])) ≡ Some (run_of (codes "a.img") (record { seal = true; comp = true; flow = true }) 1000000)
+unfolding on_rows
+all_named = refl
+
 -- the value behind an equals sign
-policy_with_sign : task_of (line (codes "run" ∷ codes "a.img" ∷ codes "--policy=seal" ∷ [])) ≡ Some (run_of (codes "a.img") true 1000000)
+policy_with_sign : task_of (line (codes "run" ∷ codes "a.img" ∷ codes "--policy=seal" ∷ [])) ≡ Some (run_of (codes "a.img") sealing_alone 1000000)
 unfolding on_rows
 policy_with_sign = refl
 
 -- the option before the image
-policy_before : task_of (line (codes "run" ∷ codes "--policy" ∷ codes "seal" ∷ codes "a.img" ∷ [])) ≡ Some (run_of (codes "a.img") true 1000000)
+policy_before : task_of (line (codes "run" ∷ codes "--policy" ∷ codes "seal" ∷ codes "a.img" ∷ [])) ≡ Some (run_of (codes "a.img") sealing_alone 1000000)
 unfolding on_rows
 policy_before = refl
 
 -- one option before and one after the image
-both_around : task_of (line (codes "run" ∷ codes "--turns" ∷ codes "5" ∷ codes "a.img" ∷ codes "--policy" ∷ codes "seal" ∷ [])) ≡ Some (run_of (codes "a.img") true 5)
+both_around : task_of (line (codes "run" ∷ codes "--turns" ∷ codes "5" ∷ codes "a.img" ∷ codes "--policy" ∷ codes "seal" ∷ [])) ≡ Some (run_of (codes "a.img") sealing_alone 5)
 unfolding on_rows
 both_around = refl
 
 -- both options after the image
-both_behind : task_of (line (codes "run" ∷ codes "a.img" ∷ codes "--policy" ∷ codes "seal" ∷ codes "--turns" ∷ codes "5" ∷ [])) ≡ Some (run_of (codes "a.img") true 5)
+both_behind : task_of (line (codes "run" ∷ codes "a.img" ∷ codes "--policy" ∷ codes "seal" ∷ codes "--turns" ∷ codes "5" ∷ [])) ≡ Some (run_of (codes "a.img") sealing_alone 5)
 unfolding on_rows
 both_behind = refl
 
 -- turns behind an equals sign
-turns_with_sign : task_of (line (codes "run" ∷ codes "a.img" ∷ codes "--turns=5" ∷ [])) ≡ Some (run_of (codes "a.img") false 5)
+turns_with_sign : task_of (line (codes "run" ∷ codes "a.img" ∷ codes "--turns=5" ∷ [])) ≡ Some (run_of (codes "a.img") no_policy 5)
 unfolding on_rows
 turns_with_sign = refl
 
 -- the fewest turns
-least_turns : task_of (line (codes "run" ∷ codes "a.img" ∷ codes "--turns" ∷ codes "1" ∷ [])) ≡ Some (run_of (codes "a.img") false 1)
+least_turns : task_of (line (codes "run" ∷ codes "a.img" ∷ codes "--turns" ∷ codes "1" ∷ [])) ≡ Some (run_of (codes "a.img") no_policy 1)
 unfolding on_rows
 least_turns = refl
 
 -- the most turns
-most_turns : task_of (line (codes "run" ∷ codes "a.img" ∷ codes "--turns" ∷ codes "1000000000" ∷ [])) ≡ Some (run_of (codes "a.img") false 1000000000)
+most_turns : task_of (line (codes "run" ∷ codes "a.img" ∷ codes "--turns" ∷ codes "1000000000" ∷ [])) ≡ Some (run_of (codes "a.img") no_policy 1000000000)
 unfolding on_rows
 most_turns = refl
 
 -- ten digits with zeros before
-leading_zeros : task_of (line (codes "run" ∷ codes "a.img" ∷ codes "--turns" ∷ codes "0000000007" ∷ [])) ≡ Some (run_of (codes "a.img") false 7)
+leading_zeros : task_of (line (codes "run" ∷ codes "a.img" ∷ codes "--turns" ∷ codes "0000000007" ∷ [])) ≡ Some (run_of (codes "a.img") no_policy 7)
 unfolding on_rows
 leading_zeros = refl
 
 -- an image of a subcommand's name
-image_run : task_of (line (codes "run" ∷ codes "run" ∷ [])) ≡ Some (run_of (codes "run") false 1000000)
+image_run : task_of (line (codes "run" ∷ codes "run" ∷ [])) ≡ Some (run_of (codes "run") no_policy 1000000)
 unfolding on_rows
 image_run = refl
 
 -- a lone dash is an ordinary word
-dash_image : task_of (line (codes "run" ∷ codes "-" ∷ [])) ≡ Some (run_of (codes "-") false 1000000)
+dash_image : task_of (line (codes "run" ∷ codes "-" ∷ [])) ≡ Some (run_of (codes "-") no_policy 1000000)
 unfolding on_rows
 dash_image = refl
 
 -- no option after two dashes
-behind_dashes : task_of (line (codes "run" ∷ codes "--" ∷ codes "--policy" ∷ [])) ≡ Some (run_of (codes "--policy") false 1000000)
+behind_dashes : task_of (line (codes "run" ∷ codes "--" ∷ codes "--policy" ∷ [])) ≡ Some (run_of (codes "--policy") no_policy 1000000)
 unfolding on_rows
 behind_dashes = refl
 
 -- the empty name
-empty_image : task_of (line (codes "run" ∷ [] ∷ [])) ≡ Some (run_of [] false 1000000)
+empty_image : task_of (line (codes "run" ∷ [] ∷ [])) ≡ Some (run_of [] no_policy 1000000)
 unfolding on_rows
 empty_image = refl
 
@@ -206,10 +221,10 @@ upper_case = refl
 
 -- ---- lines without a fault, of which a value is refused
 
--- a list of two
-list_of_two : (faults_of (line (codes "run" ∷ codes "a.img" ∷ codes "--policy" ∷ codes "seal,seal" ∷ [])) ≡ []) × (task_of (line (codes "run" ∷ codes "a.img" ∷ codes "--policy" ∷ codes "seal,seal" ∷ [])) ≡ None)
+-- a policy named twice
+named_twice : (faults_of (line (codes "run" ∷ codes "a.img" ∷ codes "--policy" ∷ codes "seal,seal" ∷ [])) ≡ []) × (task_of (line (codes "run" ∷ codes "a.img" ∷ codes "--policy" ∷ codes "seal,seal" ∷ [])) ≡ None)
 unfolding on_rows
-list_of_two = (refl, refl)
+named_twice = (refl, refl)
 
 -- a list in upper case
 upper_case_list : (faults_of (line (codes "run" ∷ codes "a.img" ∷ codes "--policy" ∷ codes "Seal" ∷ [])) ≡ []) × (task_of (line (codes "run" ∷ codes "a.img" ∷ codes "--policy" ∷ codes "Seal" ∷ [])) ≡ None)
@@ -221,10 +236,10 @@ empty_list : (faults_of (line (codes "run" ∷ codes "a.img" ∷ codes "--policy
 unfolding on_rows
 empty_list = (refl, refl)
 
--- a list of no meaning
-unknown_list : (faults_of (line (codes "run" ∷ codes "a.img" ∷ codes "--policy" ∷ codes "comp" ∷ [])) ≡ []) × (task_of (line (codes "run" ∷ codes "a.img" ∷ codes "--policy" ∷ codes "comp" ∷ [])) ≡ None)
+-- no policy, and one
+none_and_one : (faults_of (line (codes "run" ∷ codes "a.img" ∷ codes "--policy" ∷ codes "none,comp" ∷ [])) ≡ []) × (task_of (line (codes "run" ∷ codes "a.img" ∷ codes "--policy" ∷ codes "none,comp" ∷ [])) ≡ None)
 unfolding on_rows
-unknown_list = (refl, refl)
+none_and_one = (refl, refl)
 
 -- no turn at all
 no_turns : (faults_of (line (codes "run" ∷ codes "a.img" ∷ codes "--turns" ∷ codes "0" ∷ [])) ≡ []) × (task_of (line (codes "run" ∷ codes "a.img" ∷ codes "--turns" ∷ codes "0" ∷ [])) ≡ None)

@@ -1,11 +1,11 @@
 -- What a line asks for, its values read.
-use Rattle.std.specs.Prelude.{ℕ, Bool, false, ◌&&◌, List, length, nat_le, Option, Some, None, if◌then◌else◌}
+use Rattle.std.specs.Prelude.{ℕ, Bool, ◌&&◌, List, length, nat_le, Option, Some, None, if◌then◌else◌}
 use Rattle.std.specs.Prelude.{option_and_then, option_map}
 use Rattle.std.specs.Str.{all_ascii_digits}
 use Rattle.std.specs.Str.Parse.{digits_value}
 use Rattle.clap.specs.Words.{Text}
-use Rattle.policy_product.specs.Choice.{choice_of}
-use Rattle.policy_product.specs.declared.choice.Choice.{Choice}
+use Rattle.policy_choice.specs.Choice.{choice_of, no_policy}
+use Rattle.policy_choice.specs.declared.choice.Choice.{Choice}
 use Rattle.pump_line.specs.Request.{Request, RunRequest, request_of, run_asked}
 
 -- a `run`: the image's name, the policies that are chosen, and the most turns
@@ -19,9 +19,6 @@ pub data Task : Type 0 where
   run : RunTask → Task
 
 -- no policy where the option is not on the line
-abbrev pub no_policy : Choice
-no_policy = record { seal = false }
-
 abbrev pub choice_in : Option Text → Option Choice
 choice_in None = Some no_policy
 choice_in (Some list) = choice_of list

@@ -1,5 +1,5 @@
 use super::{Task, WordsEnd, match_law, read_task};
-use policy_product::Choice;
+use policy_choice::Choice;
 use std::alloc::{AllocError, Global};
 use std::test::Fail;
 
@@ -12,58 +12,80 @@ fn words_of(alloc: Global, words: &[&str]) -> Result<Vec<String>, AllocError> {
     Ok(line)
 }
 
-fn is_run(read: Result<Task<'_>, WordsEnd>, image: &str, seal: bool, turns: u64) -> bool {
+/// Whether sealing, compartments and control flow are chosen.
+type Named = (bool, bool, bool);
+
+const NONE: Named = (false, false, false);
+
+const SEAL: Named = (true, false, false);
+
+const COMP: Named = (false, true, false);
+
+const ALL: Named = (true, true, true);
+
+fn is_run(read: Result<Task<'_>, WordsEnd>, image: &str, named: Named, turns: u64) -> bool {
+    let (seal, comp, flow) = named;
+    let choice = Choice { seal, comp, flow };
     match read {
         Ok(Task::Run(task)) => {
-            task.image == image && task.choice == Choice { seal } && task.turns == turns
+            task.image == image && task.choice == choice && task.turns == turns
         }
         Err(_) => false,
     }
 }
 
-/// What a line asks for, by the command line as it was asked for: `run IMAGE [--policy LIST] [--turns N]`.
+/// Lines as `run IMAGE [--policy LIST] [--turns N]`, each with the image, the policies and the turns that it asks for.
+const LINES: [(&[&str], (&str, Named, u64)); 14] = [
+    (&["run", "a.img"], ("a.img", NONE, 1_000_000)),
+    (
+        &["run", "a.img", "--policy", "none"],
+        ("a.img", NONE, 1_000_000),
+    ),
+    (
+        &["run", "a.img", "--policy", "seal"],
+        ("a.img", SEAL, 1_000_000),
+    ),
+    (
+        &["run", "a.img", "--policy=seal"],
+        ("a.img", SEAL, 1_000_000),
+    ),
+    (
+        &["run", "--policy", "seal", "a.img"],
+        ("a.img", SEAL, 1_000_000),
+    ),
+    (
+        &["run", "--turns", "5", "a.img", "--policy", "seal"],
+        ("a.img", SEAL, 5),
+    ),
+    (
+        &["run", "a.img", "--policy", "comp"],
+        ("a.img", COMP, 1_000_000),
+    ),
+    (
+        &["run", "a.img", "--policy", "flow,seal,comp"],
+        ("a.img", ALL, 1_000_000),
+    ),
+    (&["run", "a.img", "--turns", "1"], ("a.img", NONE, 1)),
+    (&["run", "a.img", "--turns=5"], ("a.img", NONE, 5)),
+    (
+        &["run", "a.img", "--turns", "1000000000"],
+        ("a.img", NONE, 1_000_000_000),
+    ),
+    (
+        &["run", "a.img", "--turns", "0000000007"],
+        ("a.img", NONE, 7),
+    ),
+    (&["run", "run"], ("run", NONE, 1_000_000)),
+    (&["run", "--", "-a.img"], ("-a.img", NONE, 1_000_000)),
+];
+
 #[test]
 fn each_line_asks_for_its_run(rt: HostRuntime) -> Result<(), Fail> {
-    let lines: [(&[&str], (&str, bool, u64)); 12] = [
-        (&["run", "a.img"], ("a.img", false, 1_000_000)),
-        (
-            &["run", "a.img", "--policy", "none"],
-            ("a.img", false, 1_000_000),
-        ),
-        (
-            &["run", "a.img", "--policy", "seal"],
-            ("a.img", true, 1_000_000),
-        ),
-        (
-            &["run", "a.img", "--policy=seal"],
-            ("a.img", true, 1_000_000),
-        ),
-        (
-            &["run", "--policy", "seal", "a.img"],
-            ("a.img", true, 1_000_000),
-        ),
-        (
-            &["run", "--turns", "5", "a.img", "--policy", "seal"],
-            ("a.img", true, 5),
-        ),
-        (&["run", "a.img", "--turns", "1"], ("a.img", false, 1)),
-        (&["run", "a.img", "--turns=5"], ("a.img", false, 5)),
-        (
-            &["run", "a.img", "--turns", "1000000000"],
-            ("a.img", false, 1_000_000_000),
-        ),
-        (
-            &["run", "a.img", "--turns", "0000000007"],
-            ("a.img", false, 7),
-        ),
-        (&["run", "run"], ("run", false, 1_000_000)),
-        (&["run", "--", "-a.img"], ("-a.img", false, 1_000_000)),
-    ];
-    for (words, want) in lines {
+    for (words, want) in LINES {
         let line = words_of(rt.alloc(), words)?;
-        let (image, seal, turns) = want;
+        let (image, named, turns) = want;
         let read = read_task(rt.alloc(), &line);
-        assert!(rt; is_run(read, image, seal, turns), "{words:?}");
+        assert!(rt; is_run(read, image, named, turns), "{words:?}");
     }
     Ok(())
 }
@@ -72,7 +94,7 @@ fn each_line_asks_for_its_run(rt: HostRuntime) -> Result<(), Fail> {
 #[test]
 fn every_other_line_is_bad(rt: HostRuntime) -> Result<(), Fail> {
     match_law();
-    let lines: [&[&str]; 22] = [
+    let lines: [&[&str]; 23] = [
         &[],
         &["run"],
         &["walk", "a.img"],
@@ -87,6 +109,7 @@ fn every_other_line_is_bad(rt: HostRuntime) -> Result<(), Fail> {
         &["run", "a.img", "--policy"],
         &["run", "a.img", "--policy", "seal", "--policy", "seal"],
         &["run", "a.img", "--policy", "seal,seal"],
+        &["run", "a.img", "--policy", "none,comp"],
         &["run", "a.img", "--policy", "Seal"],
         &["run", "a.img", "--policy", ""],
         &["run", "a.img", "--turns", "0"],

@@ -4,7 +4,7 @@ ghost use Rattle.std.specs.Prelude.{◌≡◌};
 ghost use Rattle.pump_line.specs.Task.{choice_in, number_within, turns_of};
 ghost use Rattle.pump_line.specs.Told.{lent};
 
-use policy_product::{Choice, read_choice};
+use policy_choice::{Choice, read_choice};
 use pump_words::read_number;
 
 /// The most turns of a run whose line says nothing of them.
@@ -30,7 +30,7 @@ pub(crate) fn choice_from(list: Option<&str>) -> Option<Choice>
     ensures { result ≡ choice_in (lent list.entry) }
 {
     match list {
-        None => Some(Choice { seal: false }),
+        None => Some(Choice::none()),
         Some(list) => read_choice(list.as_bytes()),
     }
 }

@@ -1,16 +1,17 @@
 -- The row of a sorted list that an address belongs to, and which lists are sorted.
-use Rattle.std.proofs.Common.{◌≡◌, ℕ, zero, suc, ◌+◌, ◌*◌, ◌<◌, ◌≤◌, Bool, true, false, ◌&&◌, nat_le, nat_lt, List, [], ◌∷◌, length, Option, Some, None, refl, ap, subst, ◌∙◌, slice_index_or, leb, ⊎_elim, if◌then◌else◌, arith}
+use Rattle.std.proofs.Common.{◌≡◌, ℕ, zero, suc, ◌+◌, ◌*◌, ◌<◌, ◌≤◌, Bool, true, false, ◌&&◌, nat_le, nat_lt, List, [], ◌∷◌, length, drop, Option, Some, None, refl, ap, subst, sym, ◌∙◌, slice_index_or, leb, ⊎_elim, if◌then◌else◌, arith}
 use Rattle.std.specs.List.{find}
 use Rattle.std.specs.List.Sorted.{IsNonDecreasingBy, IsPartitionPoint}
 use Rattle.std.proofs.lemmas.Bool.{cases_lt, leb-false, leb-true, ltb-true}
-use Rattle.std.proofs.lemmas.List.{get_or_default}
+use Rattle.std.proofs.Math.Bool.{and-false}
 use Rattle.std.proofs.lemmas.Bool.Decides.{nat_tests}
 use Rattle.image_format.specs.Conditions.{IsList, are_rows, in_order, is_clear_of, is_compartment, is_compartment_after, is_label, is_label_after, is_range, whole}
+use Rattle.image_format.proofs.FieldLaws.{both}
 use Rattle.image_format.specs.declared.rows.CompartmentRange.{CompartmentRange}
 use Rattle.image_format.specs.declared.rows.Label.{Label}
 use Rattle.image_format.specs.declared.rows.WordRange.{WordRange}
 use Rattle.tag_loader.specs.Births.{is_labelled_by}
-use Rattle.tag_loader.specs.Sorted.{Ascends, holds}
+use Rattle.tag_loader.specs.Sorted.{Ascends, BeginsUnended, holds, unended}
 
 -- ---- the first of a list that passes
 
@@ -23,35 +24,25 @@ module _ {R : Type 0} (p : R → Bool) where
   none_found (row ∷ rows) fails =
       find_if false row rows (fails 0 row (omega arith)) ∙ none_found rows (λ k d lt. fails (suc k) d (omega (arith, lt)))
 
-  pub first_found : (rows : List R) (place : ℕ) (d : R) → place < length rows → ((k : ℕ) (e : R) → k < place → p (slice_index_or rows k e) ≡ false)
-      → p (slice_index_or rows place d) ≡ true → find p rows ≡ Some (slice_index_or rows place d)
-  first_found [] place d lt fails passes = absurd (omega (arith, lt))
-  first_found (row ∷ rows) zero d lt fails passes = find_if true row rows passes
-  first_found (row ∷ rows) (suc place) d lt fails passes =
-      find_if false row rows (fails 0 row (omega arith)) ∙ first_found rows place d (omega (arith, lt)) (λ k e below. fails (suc k) e (omega (arith, below))) passes
+  -- rows in front that fail don't count
+  pub find-drop : (rows : List R) (place : ℕ) → ((k : ℕ) (d : R) → k < place → p (slice_index_or rows k d) ≡ false) → find p (drop place rows) ≡ find p rows
+  find-drop rows zero fails = refl
+  find-drop [] (suc place) fails = refl
+  find-drop (row ∷ rows) (suc place) fails =
+      find-drop rows place (λ k d lt. fails (suc k) d (omega (arith, lt))) ∙ sym (find_if false row rows (fails 0 row (omega arith)))
 
 -- ---- the row of an address
-
-never_both : (test : Bool) → (test && false) ≡ false
-never_both true = refl
-never_both false = refl
 
 module _ {R : Type 0} (first past : R → ℕ) where
   ended : (address : ℕ) (row : R) → past row ≤ address → holds first past address row ≡ false
   ended address row le =
       let over : nat_lt address (past row) ≡ false = grind (arith, nat_tests) in
-      ap (λ test. nat_le (first row) address && test) over ∙ never_both (nat_le (first row) address)
+      ap (λ test. nat_le (first row) address && test) over ∙ and-false (nat_le (first row) address)
 
   later : (address : ℕ) (row : R) → address < first row → holds first past address row ≡ false
   later address row lt =
       let not_begun : nat_le (first row) address ≡ false = grind (arith, nat_tests) in
       ap (λ test. test && nat_lt address (past row)) not_begun
-
-  begun : (address : ℕ) (row : R) → first row ≤ address → address < past row → holds first past address row ≡ true
-  begun address row le lt =
-      let has_begun : nat_le (first row) address ≡ true = grind (arith, nat_tests) in
-      let goes_on : nat_lt address (past row) ≡ true = grind (arith, nat_tests) in
-      ap (λ test. test && nat_lt address (past row)) has_begun ∙ goes_on
 
   module _ (rows : List R) (ascends : Ascends first past rows) where
     pub ends_rise : IsNonDecreasingBy past rows
@@ -63,48 +54,74 @@ module _ {R : Type 0} (first past : R → ℕ) where
         subst (λ (n : ℕ). past (slice_index_or rows k d) ≤ past (slice_index_or rows n d)) same (omega arith))
         (cases_lt k other)
 
-    module _ (address place : ℕ) (point : IsPartitionPoint (λ row. leb (past row) address ≡ true) (λ row. leb (past row) address ≡ false) rows place) where
-      gone : (k : ℕ) (d : R) → k < place → holds first past address (slice_index_or rows k d) ≡ false
-      gone k d lt = ended address (slice_index_or rows k d) (leb-true _ _ (point.0 k d (omega arith) lt))
+  ascends_rest : (row : R) (rows : List R) → Ascends first past (row ∷ rows) → Ascends first past rows
+  ascends_rest row rows ascends = record {
+    some = λ k d lt. ascends.some (suc k) d (omega (arith, lt));
+    rising = λ k later d lt below. ascends.rising (suc k) (suc later) d (omega (arith, lt)) (omega (arith, below));
+  }
 
-      -- the row at the point has begun: it is the one
-      pub row_found : (d : R) → place < length rows → first (slice_index_or rows place d) ≤ address → find (holds first past address) rows ≡ Some (slice_index_or rows place d)
-      row_found d lt has_begun =
-          let goes_on : address < past (slice_index_or rows place d) = leb-false _ _ (point.1 place d (omega arith) lt) in
-          first_found (holds first past address) rows place d lt gone (begun address (slice_index_or rows place d) has_begun goes_on)
+  module _ (address : ℕ) where
+    begins_later : (row : R) (rows : List R) → Ascends first past (row ∷ rows) → address < first row → (k : ℕ) (d : R) → k < length (row ∷ rows)
+        → address < first (slice_index_or (row ∷ rows) k d)
+    begins_later row rows ascends not_begun zero d lt = not_begun
+    begins_later row rows ascends not_begun (suc k) d lt =
+        let rises = ascends.rising 0 (suc k) d (omega arith) (omega (arith, lt)) in
+        let some = ascends.some 0 d (omega arith) in
+        omega (arith, rises, some, not_begun)
 
-      begins_later : (d : R) (k : ℕ) (e : R) → place < length rows → k < length rows → place ≤ k → address < first (slice_index_or rows place d)
-          → address < first (slice_index_or rows k e)
-      begins_later d k e lt below behind not_begun =
-          let here : address < first (slice_index_or rows place e) = subst (λ (row : R). address < first row) (get_or_default rows place d e lt) not_begun in
-          ⊎_elim
-          (λ further. let rises = ascends.rising place k e further below in let some = ascends.some place e lt in omega (arith, rises, some, here))
-          (λ above.
-          let same : place ≡ k = omega (arith, behind, above) in
-          subst (λ (n : ℕ). address < first (slice_index_or rows n e)) same here)
-          (cases_lt place k)
+    -- it has not begun, and those behind it begin later
+    pub none_begun : (rows : List R) (row : R) → Ascends first past rows → 0 < length rows → row ≡ slice_index_or rows 0 row → address < first row
+        → find (holds first past address) rows ≡ None
+    none_begun [] row ascends lt is not_begun = refl
+    none_begun (other ∷ rows) row ascends lt is not_begun =
+        let not_yet : address < first other = subst (λ (r : R). address < first r) is not_begun in
+        none_found (holds first past address) (other ∷ rows) λ k e below. later address (slice_index_or (other ∷ rows) k e) (begins_later other rows ascends not_yet k e below)
 
-      -- it has not begun, and those behind it begin later
-      pub row_later : (d : R) → place < length rows → address < first (slice_index_or rows place d) → find (holds first past address) rows ≡ None
-      row_later d lt not_begun =
-          none_found (holds first past address) rows λ k e below.
-          ⊎_elim
-          (λ before. gone k e before)
-          (λ behind. later address (slice_index_or rows k e) (begins_later d k e lt below behind not_begun))
-          (cases_lt k place)
+    -- ---- the rows behind a partition point
 
-      pub row_gone : length rows ≤ place → find (holds first past address) rows ≡ None
-      row_gone all = none_found (holds first past address) rows λ k e below. gone k e (omega (arith, below, all))
+    module _ (rows : List R) (place : ℕ) (point : IsPartitionPoint (λ row. leb (past row) address ≡ true) (λ row. leb (past row) address ≡ false) rows place) where
+      pub find_behind : find (holds first past address) (drop place rows) ≡ find (holds first past address) rows
+      find_behind = find-drop (holds first past address) rows place λ k d lt. ended address (slice_index_or rows k d) (leb-true _ _ (point.0 k d (omega arith) lt))
+
+    -- ---- the rows without those that have ended
+
+    ascends_if : (row : R) (rows : List R) (has_ended : Bool) → Ascends first past (unended past address rows) → Ascends first past (row ∷ rows)
+        → Ascends first past (if has_ended then unended past address rows else row ∷ rows)
+    ascends_if row rows true others all = others
+    ascends_if row rows false others all = all
+
+    pub unended-ascends : (rows : List R) → Ascends first past rows → Ascends first past (unended past address rows)
+    unended-ascends [] ascends = ascends
+    unended-ascends (row ∷ rows) ascends =
+        ascends_if row rows (nat_le (past row) address) (unended-ascends rows (ascends_rest row rows ascends)) ascends
+
+    begins_if : (row : R) (rows : List R) (has_ended : Bool) → nat_le (past row) address ≡ has_ended → BeginsUnended past address (unended past address rows)
+        → BeginsUnended past address (if has_ended then unended past address rows else row ∷ rows)
+    begins_if row rows true is others = others
+    begins_if row rows false is others = λ d lt. leb-false _ _ is
+
+    pub unended-begins : (rows : List R) → BeginsUnended past address (unended past address rows)
+    unended-begins [] = λ d lt. absurd (omega (arith, lt))
+    unended-begins (row ∷ rows) = begins_if row rows (nat_le (past row) address) refl (unended-begins rows)
+
+    module _ (at : ℕ) (from : address ≤ at) where
+      finds_if : (row : R) (rows : List R) (has_ended : Bool) → nat_le (past row) address ≡ has_ended
+          → find (holds first past at) (unended past address rows) ≡ find (holds first past at) rows
+          → find (holds first past at) (if has_ended then unended past address rows else row ∷ rows) ≡ find (holds first past at) (row ∷ rows)
+      finds_if row rows true is others =
+          let before : past row ≤ address = leb-true _ _ is in
+          others ∙ sym (find_if (holds first past at) false row rows (ended at row (omega (arith, before, from))))
+      finds_if row rows false is others = refl
+
+      pub unended-finds : (rows : List R) → find (holds first past at) (unended past address rows) ≡ find (holds first past at) rows
+      unended-finds [] = refl
+      unended-finds (row ∷ rows) = finds_if row rows (nat_le (past row) address) refl (unended-finds rows)
 
 -- ---- lists of an image
 
 abbrev IsAbove : {R : Type 0} → (R → ℕ) → (R → ℕ) → Option R → List R → Type 0
 IsAbove first past None rows = Unit {0}
 IsAbove first past (Some before) rows = (k : ℕ) (d : _) → k < length rows → past before ≤ first (slice_index_or rows k d)
-
-both : (x y : Bool) → (x && y) ≡ true → (x ≡ true) × (y ≡ true)
-both true y is = (refl, is)
-both false y is = absurd (cc is)
 
 module _ {R : Type 0} (first past : R → ℕ) (fits : R → Bool) (follows : R → R → Bool)
     (some : (row : R) → fits row ≡ true → first row < past row) (behind : (before row : R) → follows before row ≡ true → past before ≤ first row) where

@@ -3,3 +3,4 @@ pub mod Loads
 pub mod Memory
 pub mod Sorted
 pub mod Start
+pub mod Walks

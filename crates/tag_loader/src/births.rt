@@ -1,11 +1,16 @@
-ghost use Rattle.std.specs.Prelude.{◌≡◌};
+//! What an image says of its words.
+
+ghost use Rattle.std.specs.Prelude.{◌≡◌, ℕ, ◌<◌, ◌≤◌};
 ghost use Rattle.std.specs.List.{find};
 ghost use Rattle.std.specs.Option.{is_some};
-ghost use Rattle.tag_loader.specs.Births.{birth_of, is_labelled_by, is_owned_by, lies_in, lies_in_heap};
+ghost use Rattle.tag_loader.specs.Births.{birth_by, birth_of, id_of, is_labelled_by, is_owned_by, lies_in, lies_in_heap};
+ghost use Rattle.tag_loader.specs.Walks.{birth_end, from_on, heap_end};
 
-use crate::sorted::row_at;
-use image_format::{CompartmentRange, Image, Label};
+use crate::sorted::{NO_END, Run, row_at};
+use crate::walks::Walk;
+use image_format::{CompartmentRange, Image, Label, WordRange};
 use policy_trait::{Birth, CompartmentSet};
+use std::marker::Model;
 
 /// What the image says of the word at `address`: its compartment, whether it is code, its label, and whether it lies in
 /// the heap region.
@@ -14,12 +19,25 @@ pub fn birth(image: &Image, address: u32) -> Birth
     ensures { result ≡ birth_of image.now address }
 {
     let code = is_code(image, address);
-    let label = match label_at(image, address) {
+    let label = label_at(image, address);
+    let heap = heap_run(image, address).value;
+    birth_from(owner_of(image, address), code, label, heap)
+}
+
+/// The birth of a word of which the lists say this. Outside the compartments' rows, owner and masks are 0.
+fn birth_from(
+    owner: Option<CompartmentRange>,
+    code: bool,
+    label: Option<Label>,
+    heap: bool,
+) -> Birth
+    ensures { result ≡ birth_by owner code (id_of label) heap }
+{
+    let label = match label {
         None => None,
         Some(label) => Some(label.id),
     };
-    let heap = is_heap(image, address);
-    match owner_of(image, address) {
+    match owner {
         None => Birth {
             owner: 0,
             into: CompartmentSet::empty(),
@@ -39,12 +57,32 @@ pub fn birth(image: &Image, address: u32) -> Birth
     }
 }
 
-/// Whether the address lies in the heap region.
-fn is_heap(image: &Image, address: u32) -> bool
-    ensures { result ≡ lies_in_heap image.now address }
+/// Whether the address lies in the heap region, and up to where this is so.
+fn heap_run(image: &Image, address: u32) -> Run<bool>
+    ensures told { (at : ℕ) → address ≤ at → at < result.end →
+        lies_in_heap image.now at ≡ result.value }
+    ensures some { address < result.end }
+    ensures end { result.end ≡ heap_end image.now address }
 {
-    let base = image.heap_base();
-    base <= address && u64::from(address) < u64::from(base) + u64::from(image.heap_bytes())
+    let base = u64::from(image.heap_base());
+    let past = base + u64::from(image.heap_bytes());
+    let place = u64::from(address);
+    if place < base {
+        Run {
+            value: false,
+            end: base,
+        }
+    } else if place < past {
+        Run {
+            value: true,
+            end: past,
+        }
+    } else {
+        Run {
+            value: false,
+            end: NO_END,
+        }
+    }
 }
 
 /// Whether some code range holds the address.
@@ -66,4 +104,60 @@ fn label_at(image: &Image, address: u32) -> Option<Label>
     ensures { result ≡ find (is_labelled_by address) image.now.labels }
 {
     row_at(image.labels(), address)
+}
+
+/// An image that is asked for the births at one address after another, each no lower than the one before: it goes through
+/// each list once. Contracts see it as the image with the rows that its lists still have.
+#[derive(Drop)]
+pub(crate) struct BirthWalk<'a> {
+    image: &'a Image,
+    compartments: Walk<'a, CompartmentRange>,
+    code: Walk<'a, WordRange>,
+    labels: Walk<'a, Label>,
+}
+
+impl<'a> Model for BirthWalk<'a> {
+    ghost use Rattle.image_format.specs.Picture.{Picture};
+
+    ghost Value = { Picture };
+
+    ghost view = { λ walk. record walk.image.now {
+      code = walk.code;
+      labels = walk.labels;
+      compartments = walk.compartments;
+    } };
+}
+
+impl<'a> BirthWalk<'a> {
+    /// A walk through the whole image.
+    pub(crate) fn new(image: &'a Image) -> BirthWalk<'a>
+        ensures { result ≡ image.now }
+    {
+        BirthWalk {
+            image,
+            compartments: Walk::new(image.compartments()),
+            code: Walk::new(image.code()),
+            labels: Walk::new(image.labels()),
+        }
+    }
+
+    /// What the image says of the word at `address`, and up to where it says so. What is left says the same as before of each
+    /// address from this one on.
+    pub(crate) fn run_at(&mut self, address: u32) -> Run<Birth>
+        ensures told { (at : ℕ) → address ≤ at → at < result.end →
+            birth_of self.old at ≡ result.value }
+        ensures some { address < result.end }
+        ensures end { result.end ≡ birth_end (from_on self.old address) address }
+        ensures left { self.new ≡ from_on self.old address }
+        ensures later { (at : ℕ) → address ≤ at → birth_of self.new at ≡ birth_of self.old at }
+    {
+        let owner = self.compartments.run_at(address);
+        let code = self.code.run_at(address);
+        let label = self.labels.run_at(address);
+        let heap = heap_run(self.image, address);
+        Run {
+            value: birth_from(owner.value, code.value.is_some(), label.value, heap.value),
+            end: owner.end.min(code.end).min(label.end).min(heap.end),
+        }
+    }
 }

@@ -3,9 +3,10 @@
 ghost use Rattle.std.specs.Prelude.{◌≡◌, ℕ, ◌/◌, ◌<◌, length, true, All};
 ghost use Rattle.image_format.specs.Picture.{Picture};
 ghost use Rattle.image_format.specs.Conditions.{IsImage};
-ghost use Rattle.policy_product.specs.Choice.{all, is_none};
+ghost use Rattle.policy_choice.specs.All.{all};
+ghost use Rattle.policy_choice.specs.Choice.{is_none};
 ghost use Rattle.policy_product.specs.Nothing.{nothing, untagged};
-ghost use Rattle.policy_product.specs.declared.choice.Choice.{Choice};
+ghost use Rattle.policy_choice.specs.declared.choice.Choice.{Choice};
 ghost use Rattle.engine_trait.specs.Mirrored.{IsMirrored};
 ghost use Rattle.tag_loader.specs.Loads.{bare_start_of, start_of};
 ghost use Rattle.tag_loader.specs.Start.{memory_of};

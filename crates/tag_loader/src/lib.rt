@@ -9,6 +9,7 @@ mod sorted;
 mod start;
 #[cfg(test)]
 mod tests;
+mod walks;
 
 pub use births::birth;
 pub use law::{bare_law, memory_law};

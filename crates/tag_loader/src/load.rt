@@ -1,12 +1,16 @@
+//! Starts of an image that can be made again and again.
+
 ghost use Rattle.std.specs.Prelude.{◌≡◌, ◌≢◌, Err, IfOk, false, true};
 ghost use Rattle.engine_trait.specs.Accounts.{is_over};
+ghost use Rattle.tag_loader.specs.Loads.{start_of};
 
 use crate::start::start_under;
 use engine_trait::{LoadEnd, Loader};
 use image_format::Image;
 use plain_engine::Plain;
-use policy_product::{All, Choice, Nothing, choose};
-use std::alloc::Global;
+use policy_choice::{All, Choice, choose};
+use policy_product::Nothing;
+use std::alloc::{AllocError, Global};
 use std::marker::Model;
 
 /// The start of an image under the chosen policies, on the engine that asks them at every turn. It can be made again and
@@ -39,6 +43,14 @@ impl<'a> PlainLoad<'a> {
     }
 }
 
+/// The engine at the start of the image under the chosen policies. The only error is want of memory.
+fn start_chosen(alloc: Global, choice: Choice, image: &Image) -> Result<Plain<All>, AllocError>
+    ensures { IfOk result (λ engine. engine ≡ start_of choice image.now) }
+{
+    let policy = choose(alloc, choice, image)?;
+    start_under(alloc, policy, image)
+}
+
 impl<'a> Loader for PlainLoad<'a> {
     ghost use Rattle.tag_loader.specs.Loads.{start_of_load};
 
@@ -54,7 +66,7 @@ impl<'a> Loader for PlainLoad<'a> {
         // An engine without tag words does not run out of them.
         ensures memory { result ≢ Err LoadEnd.TagsOut }
     {
-        match start_under(self.alloc, choose(self.choice), self.image) {
+        match start_chosen(self.alloc, self.choice, self.image) {
             Ok(engine) => Ok(engine),
             Err(_) => Err(LoadEnd::Memory),
         }

@@ -1,9 +1,11 @@
+//! The words, the tags and the harts at the start.
+
 ghost use Rattle.std.specs.Prelude.{◌≡◌, ◌*◌, ◌≤◌, IfOk, length};
 ghost use Rattle.std.specs.List.{All};
 ghost use Rattle.tag_memory.specs.Hart.{IsHartOf};
 ghost use Rattle.tag_loader.specs.Start.{memory_of, start_harts, start_tags};
 
-use crate::births::birth;
+use crate::births::{BirthWalk, birth};
 use image_format::Image;
 use policy_trait::Policy;
 use std::alloc::{AllocError, Global};
@@ -24,7 +26,7 @@ pub(crate) fn words_of(alloc: Global, image: &Image) -> Result<Vec<u32>, AllocEr
     Ok(words)
 }
 
-/// The tags of all words at the start.
+/// The tags of all words at the start. Words of which the image says the same, one behind another, are asked for once.
 #[tactic(auto, unfolding(crate::specs::Start::start_tags))]
 pub(crate) fn tags_of<P: Policy>(
     alloc: Global,
@@ -35,9 +37,14 @@ pub(crate) fn tags_of<P: Policy>(
     ensures size { IfOk result (λ tags. 4 * length tags.items ≡ image.now.ram) }
 {
     let count = image.ram() / 4;
+    let mut births = BirthWalk::new(image);
     let mut tags = Vec::with_capacity(alloc, count as usize)?;
-    for n in 0..count {
-        tags.push(policy.start_word(&birth(image, 4 * n)))?;
+    let mut n = 0;
+    while n < count {
+        let run = births.run_at(4 * n);
+        let end = run.end.min(u64::from(image.ram())).div_ceil(4);
+        tags.resize(end as usize, policy.start_word(&run.value))?;
+        n = end as u32;
     }
     Ok(tags)
 }

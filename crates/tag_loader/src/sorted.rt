@@ -1,9 +1,9 @@
 //! The row of a sorted list that an address belongs to.
 
-ghost use Rattle.std.specs.Prelude.{◌≡◌, ℕ, ◌+◌, ◌*◌, nat_le, true, false};
+ghost use Rattle.std.specs.Prelude.{◌≡◌, ℕ, ◌<◌, ◌≤◌, length, nat_le, true, false};
 ghost use Rattle.std.specs.List.{find};
 ghost use Rattle.std.specs.List.Sorted.{IsPartitionPoint};
-ghost use Rattle.tag_loader.specs.Sorted.{Ascends, holds};
+ghost use Rattle.tag_loader.specs.Sorted.{Ascends, BeginsUnended, first_end, holds, label_first, label_past, owned_first, owned_past, range_first, range_past};
 
 use image_format::{CompartmentRange, Label, WordRange};
 
@@ -23,9 +23,9 @@ pub(crate) trait Placed: Copy {
 }
 
 impl Placed for WordRange {
-    ghost first = { λ range. range.address };
+    ghost first = { range_first };
 
-    ghost past = { λ range. range.address + 4 * range.words };
+    ghost past = { range_past };
 
     fn start(&self) -> u32 {
         self.address
@@ -37,9 +37,9 @@ impl Placed for WordRange {
 }
 
 impl Placed for CompartmentRange {
-    ghost first = { λ row. row.range.address };
+    ghost first = { owned_first };
 
-    ghost past = { λ row. row.range.address + 4 * row.range.words };
+    ghost past = { owned_past };
 
     fn start(&self) -> u32 {
         self.range.start()
@@ -51,9 +51,9 @@ impl Placed for CompartmentRange {
 }
 
 impl Placed for Label {
-    ghost first = { λ label. label.address };
+    ghost first = { label_first };
 
-    ghost past = { λ label. label.address + 1 };
+    ghost past = { label_past };
 
     fn start(&self) -> u32 {
         self.address
@@ -67,8 +67,9 @@ impl Placed for Label {
 /// How many rows end before the address or at it: the first ones. They are counted in a logarithm of all rows' number.
 fn ended<R: Placed>(rows: &[R], address: u32) -> usize
     requires { Ascends R.first R.past rows.now }
-    ensures { IsPartitionPoint (λ row. nat_le (R.past row) address ≡ true)
+    ensures point { IsPartitionPoint (λ row. nat_le (R.past row) address ≡ true)
         (λ row. nat_le (R.past row) address ≡ false) rows.now result }
+    ensures most { result ≤ length rows.now }
 {
     rows.partition_point(|row| row.end() <= u64::from(address))
 }
@@ -78,10 +79,44 @@ pub(crate) fn row_at<R: Placed>(rows: &[R], address: u32) -> Option<R>
     requires { Ascends R.first R.past rows.now }
     ensures { result ≡ find (holds R.first R.past address) rows.now }
 {
-    let row = *rows.get(ended(rows, address))?;
+    first_run(&rows[ended(rows, address)..], address).value
+}
+
+/// What is so from an address on, up to `end`.
+#[derive(Clone, Copy)]
+pub(crate) struct Run<T> {
+    pub(crate) value: T,
+    pub(crate) end: u64,
+}
+
+/// The `end` of what is so of all addresses.
+pub(crate) const NO_END: u64 = 1 << 32;
+
+/// The row that the address belongs to, if it is the first of the rows, or none: those behind it begin later. This is so up
+/// to where that row begins or ends.
+pub(crate) fn first_run<R: Placed>(rows: &[R], address: u32) -> Run<Option<R>>
+    requires ascends { Ascends R.first R.past rows.now }
+    requires unended { BeginsUnended R.past address rows.now }
+    ensures told { (at : ℕ) → address ≤ at → at < result.end →
+        find (holds R.first R.past at) rows.now ≡ result.value }
+    ensures some { address < result.end }
+    ensures end { result.end ≡ first_end R.first R.past address rows.now }
+{
+    let Some(row) = rows.first() else {
+        return Run {
+            value: None,
+            end: NO_END,
+        };
+    };
     if row.start() <= address {
-        Some(row)
+        Run {
+            value: Some(*row),
+            end: row.end(),
+        }
     } else {
-        None
+        Run {
+            value: None,
+            end: u64::from(row.start()),
+        }
     }
 }

@@ -1,3 +1,5 @@
+//! The engine at the start.
+
 ghost use Rattle.std.specs.Prelude.{◌≡◌, ◌≤◌, IfOk};
 ghost use Rattle.tag_loader.specs.Start.{start_standing};
 

@@ -1,11 +1,11 @@
-use crate::{BareLoad, PlainLoad, birth};
+use crate::births::BirthWalk;
+use crate::{BareLoad, birth};
 use engine_trait::{Engine, Feed, Loader, Stop, TurnEnd};
 use image_format::read_image;
 use plain_engine::Plain;
-use policy_product::{All, Choice, choose};
+use policy_product::Nothing;
 use policy_trait::{Birth, CompartmentSet};
 use rv_step::Fault;
-use sealing_policy::SealTag;
 use std::alloc::{AllocError, Global};
 use std::test::Fail;
 use tag_memory::{Hart, Ram};
@@ -24,11 +24,11 @@ fn file_of(alloc: Global, ram: u32, words: &[u32]) -> Result<Vec<u8>, AllocError
     Ok(bytes)
 }
 
-/// The engine at the start of such an image.
-fn engine_of(alloc: Global, ram: u32, words: &[u32], seal: bool) -> Result<Plain<All>, Fail> {
+/// The engine without a policy at the start of such an image.
+fn engine_of(alloc: Global, ram: u32, words: &[u32]) -> Result<Plain<Nothing>, Fail> {
     let bytes = file_of(alloc, ram, words)?;
     let image = read_image(alloc, &bytes).ok().ok_or("no image")?;
-    let engine = PlainLoad::new(alloc, &image, Choice { seal }).load().ok();
+    let engine = BareLoad::new(alloc, &image).load().ok();
     Ok(engine.ok_or("no engine")?)
 }
 
@@ -65,10 +65,10 @@ fn register_of<E: Engine>(engine: &E, h: u32, r: u32) -> Option<u32> {
 #[test]
 fn jumps_go_where_they_are_to(rt: HostRuntime) -> Result<(), Fail> {
     let mut feed = Feed::new(rt.alloc());
-    let mut branch = engine_of(rt.alloc(), 256, &[0x0010_0293, 0x0050_0163], false)?;
+    let mut branch = engine_of(rt.alloc(), 256, &[0x0010_0293, 0x0050_0163])?;
     make_turns(&mut branch, &mut feed, &[0, 0]);
     assert_eq!(rt; pc_of(&branch, 0), Some(8));
-    let mut jump = engine_of(rt.alloc(), 256, &[0x0110_0293, 0x0002_82E7], false)?;
+    let mut jump = engine_of(rt.alloc(), 256, &[0x0110_0293, 0x0002_82E7])?;
     make_turns(&mut jump, &mut feed, &[0, 0]);
     assert_eq!(rt; pc_of(&jump, 0), Some(0x10));
     assert_eq!(rt; register_of(&jump, 0, 5), Some(8));
@@ -79,7 +79,7 @@ fn jumps_go_where_they_are_to(rt: HostRuntime) -> Result<(), Fail> {
 #[test]
 fn a_break_goes_on(rt: HostRuntime) -> Result<(), Fail> {
     let mut feed = Feed::new(rt.alloc());
-    let mut engine = engine_of(rt.alloc(), 256, &[0x0010_0073], false)?;
+    let mut engine = engine_of(rt.alloc(), 256, &[0x0010_0073])?;
     assert!(rt; make_turns(&mut engine, &mut feed, &[0]) == TurnEnd::Break);
     assert_eq!(rt; pc_of(&engine, 0), Some(4));
     Ok(())
@@ -89,11 +89,11 @@ fn a_break_goes_on(rt: HostRuntime) -> Result<(), Fail> {
 #[test]
 fn memory_ends_where_it_is_to(rt: HostRuntime) -> Result<(), Fail> {
     let mut feed = Feed::new(rt.alloc());
-    let mut past = engine_of(rt.alloc(), 4, &[0x0000_0013], false)?;
+    let mut past = engine_of(rt.alloc(), 4, &[0x0000_0013])?;
     let ended = make_turns(&mut past, &mut feed, &[0, 0]);
     assert!(rt; ended == TurnEnd::Stopped(Stop::Fault(Fault::Fetch(4))));
     assert_eq!(rt; past.counts().turns, 2);
-    let mut load = engine_of(rt.alloc(), 64, &[0x0400_2283], false)?;
+    let mut load = engine_of(rt.alloc(), 64, &[0x0400_2283])?;
     let ended = make_turns(&mut load, &mut feed, &[0]);
     assert!(rt; ended == TurnEnd::Stopped(Stop::Fault(Fault::LoadRange(0x40))));
     // Its next turn is idle, and isn't counted.
@@ -107,7 +107,7 @@ fn memory_ends_where_it_is_to(rt: HostRuntime) -> Result<(), Fail> {
 fn get_reads_the_feed(rt: HostRuntime) -> Result<(), Fail> {
     let mut feed = Feed::new(rt.alloc());
     feed.append(&[0x2A])?;
-    let mut engine = engine_of(rt.alloc(), 256, &[0x0020_0893, 0x73, 0x73], false)?;
+    let mut engine = engine_of(rt.alloc(), 256, &[0x0020_0893, 0x73, 0x73])?;
     make_turns(&mut engine, &mut feed, &[0, 0]);
     assert_eq!(rt; register_of(&engine, 0, 10), Some(0x2A));
     make_turns(&mut engine, &mut feed, &[0]);
@@ -115,37 +115,10 @@ fn get_reads_the_feed(rt: HostRuntime) -> Result<(), Fail> {
     Ok(())
 }
 
-// A key, a value sealed by it, and the sealed value moved.
+// A load of the second instruction's own word.
 #[test]
-fn a_sealed_value_can_be_moved(rt: HostRuntime) -> Result<(), Fail> {
-    let words = [
-        0x0100_0893,
-        0x73,
-        0x0005_0593,
-        0x0070_0513,
-        0x0110_0893,
-        0x73,
-        0x0005_0513,
-    ];
-    let mut feed = Feed::new(rt.alloc());
-    let mut engine = engine_of(rt.alloc(), 256, &words, true)?;
-    let ended = make_turns(&mut engine, &mut feed, &[0; 7]);
-    assert!(rt; ended == TurnEnd::Ran(None));
-    assert_eq!(rt; register_of(&engine, 0, 10), Some(7));
-    assert_eq!(rt; engine.harts(), 1);
-    assert!(rt; engine.reg_tag(0, 10) == Some(SealTag::Sealed(0)));
-    Ok(())
-}
-
-// A load of the second instruction's own word, on an engine whose tags have no size.
-#[test]
-fn a_bare_start_has_the_words_of_the_image(rt: HostRuntime) -> Result<(), Fail> {
-    let bytes = file_of(rt.alloc(), 256, &[0x0010_0293, 0x0040_2303])?;
-    let image = read_image(rt.alloc(), &bytes).ok().ok_or("no image")?;
-    let mut engine = BareLoad::new(rt.alloc(), &image)
-        .load()
-        .ok()
-        .ok_or("no engine")?;
+fn a_start_has_the_words_of_the_image(rt: HostRuntime) -> Result<(), Fail> {
+    let mut engine = engine_of(rt.alloc(), 256, &[0x0010_0293, 0x0040_2303])?;
     let mut feed = Feed::new(rt.alloc());
     let ended = make_turns(&mut engine, &mut feed, &[0, 0]);
     assert!(rt; ended == TurnEnd::Ran(None));
@@ -226,16 +199,13 @@ fn births_are_what_the_lists_say(rt: HostRuntime) -> Result<(), Fail> {
 }
 
 /// Two harts over one memory: hart 0 at 0 adds 1 to x5 and stores it at 64, hart 1 at 32 loads from there into x6.
-fn two_harts(alloc: Global) -> Result<Plain<All>, AllocError> {
-    let mut ram = Ram::new(alloc, 256, None)?;
+fn two_harts(alloc: Global) -> Result<Plain<Nothing>, AllocError> {
+    let mut ram = Ram::new(alloc, 256, ())?;
     ram.set_word(0, 0x0012_8293);
     ram.set_word(4, 0x0450_2023);
     ram.set_word(32, 0x0400_2303);
-    let harts = vec![in alloc;
-        Hart::new(alloc, 0, None, None)?,
-        Hart::new(alloc, 32, None, None)?,
-    ]?;
-    Ok(Plain::new(alloc, choose(Choice { seal: false }), ram, harts))
+    let harts = vec![in alloc; Hart::new(alloc, 0, (), ())?, Hart::new(alloc, 32, (), ())?]?;
+    Ok(Plain::new(alloc, Nothing, ram, harts))
 }
 
 // One image in two orders of turns: what hart 1 loads depends on whether hart 0 has stored by then.
@@ -253,6 +223,24 @@ fn the_order_of_turns_decides(rt: HostRuntime) -> Result<(), Fail> {
         assert_eq!(rt; register_of(&engine, 0, 5), Some(1));
         assert_eq!(rt; pc_of(&engine, 0), Some(8));
         assert_eq!(rt; pc_of(&engine, 1), Some(36));
+    }
+    Ok(())
+}
+
+// A walk through the same file, which passes over some words.
+#[test]
+fn a_walk_tells_of_each_address_what_a_search_tells(rt: HostRuntime) -> Result<(), Fail> {
+    let mut bytes = Vec::new(rt.alloc());
+    for word in &LISTED {
+        bytes.extend_from_slice(&word.to_le_bytes())?;
+    }
+    let image = read_image(rt.alloc(), &bytes).ok().ok_or("no image")?;
+    let mut births = BirthWalk::new(&image);
+    for (address, ..) in BIRTHS {
+        assert!(rt;
+            births.run_at(address).value == birth(&image, address),
+            "at {address}"
+        );
     }
     Ok(())
 }

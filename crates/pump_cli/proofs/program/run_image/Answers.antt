@@ -1,6 +1,7 @@
 use Rattle.std.proofs.Common.{◌≡◌, true, ap, subst, sym, ◌∙◌}
 use Rattle.image_format.specs.Picture.{Picture}
-use Rattle.policy_product.specs.Choice.{AllState, AllTag, all, all_eq, is_none}
+use Rattle.policy_choice.specs.All.{AllState, AllTag, all, all_eq}
+use Rattle.policy_choice.specs.Choice.{is_none}
 use Rattle.policy_product.specs.Nothing.{nothing}
 use Rattle.engine_trait.specs.Standing.{Standing}
 use Rattle.rounds.specs.Course.{rounds}

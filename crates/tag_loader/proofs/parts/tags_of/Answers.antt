@@ -1,17 +1,14 @@
-use Rattle.std.proofs.Common.{arith, ap, sym, ◌∙◌, ◌∷◌, ◌++◌, [], List, ℕ}
-use Rattle.std.proofs.lemmas.Grind.{common_steps}
-use Rattle.std.proofs.lemmas.List.FromFn.{map-range_with_len_more}
-use Rattle.tag_loader.specs.Start.{start_tag}
+use Rattle.std.proofs.Common.{◌≡◌, ◌/◌, arith, length}
+use Rattle.std.proofs.lemmas.List.FromFn.{fill_by_all}
+use Rattle.tag_loader.specs.Start.{start_tag, start_tags}
 use Rattle.tag_loader.proofs.parts.tags_of.Goals as goal
 
-pub loop-n-preserved : goal.loop-n-preserved
-loop-n-preserved g c =
-    let tag_at : ℕ → g.row.P-Tag.Denot = start_tag g.P.Policy.model c.args.policy.now c.args.image.now in
-    record {
-      made =
-          c.in_ok-push.ensures.items
-          ∙ ap (λ (v : g.row.P-Tag.Denot). c.loop-n.tags.items ++ v ∷ []) (c.start_word.ensures ∙ ap (g.P.Policy.model.start_word c.args.policy.now) c.birth.ensures)
-          ∙ ap (λ (l : List g.row.P-Tag.Denot). l ++ tag_at c.loop-n.n ∷ []) c.loop-n.invariant.made
-          ∙ sym (map-range_with_len_more tag_at 0 c.loop-n.n c.loop-n.n (omega arith));
-      size = grind (arith, common_steps);
-    }
+pub returns-clause-tags : goal.returns-clause-tags
+unfolding start_tags
+returns-clause-tags g c =
+    let model = g.P.Policy.model in
+    let plain = model.plain c.args.policy.now in
+    let all : c.loop-n.n ≡ c.args.image.now.ram / 4 = omega (arith, c.ram-count.ensures.value, c.loop-n.invariant.most, c.loop-n-test.false) in
+    let long : length c.loop-n.tags.items ≡ c.args.image.now.ram / 4 = omega (arith, c.loop-n.invariant.size, all) in
+    fill_by_all (start_tag model c.args.policy.now c.args.image.now) c.loop-n.tags.items (c.args.image.now.ram / 4) plain long
+    (λ k lt. c.loop-n.invariant.made k plain (omega (arith, lt, all)))

@@ -1,10 +1,15 @@
-use Rattle.std.proofs.Common.{◌≡◌, length, map}
-use Rattle.std.specs.List.{range_with_len}
+use Rattle.std.proofs.Common.{◌≡◌, ℕ, ◌-◌, ◌*◌, ◌<◌, ◌≤◌, length, slice_index_or}
+use Rattle.tag_loader.specs.Births.{birth_of}
 use Rattle.tag_loader.specs.Start.{start_tag}
 use Rattle.tag_loader.proofs.parts.tags_of.Given as goal
 
 abbrev pub invariant-loop-n : goal.invariant-loop-n
 invariant-loop-n g l = record {
-  made : l.tags.items ≡ map (start_tag g.P.Policy.model l.policy l.image) (range_with_len 0 l.n);
+  made : (k : ℕ) (d : _) → k < l.n → slice_index_or l.tags.items k d ≡ start_tag g.P.Policy.model l.policy l.image k;
   size : length l.tags.items ≡ l.n;
+  most : l.n ≤ l.count;
+  rest : (at : ℕ) → 4 * l.n ≤ at → birth_of l.births at ≡ birth_of l.image at;
 }
+
+abbrev pub decreases-loop-n : goal.decreases-loop-n
+decreases-loop-n g l = l.count - l.n

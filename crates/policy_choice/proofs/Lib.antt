@@ -1,0 +1,4 @@
+mod AllLemmas
+mod FlatLemmas
+pub mod NothingLemmas
+mod OwnerLemmas

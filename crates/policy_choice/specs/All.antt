@@ -1,0 +1,70 @@
+-- All policies together: their tags, their value and their meaning as one policy; and the chosen ones at an image's start.
+use Rattle.std.specs.Prelude.{ℕ, ◌+◌, max, Bool, true, ◌&&◌, List, Option, Some, None, map, if◌then◌else◌}
+use Rattle.std.specs.List.{fold}
+use Rattle.std.specs.Option.{option_eq}
+use Rattle.image_format.specs.Picture.{Picture}
+use Rattle.image_format.specs.declared.rows.CompartmentRange.{CompartmentRange}
+use Rattle.image_format.specs.declared.rows.Edge.{Edge}
+use Rattle.policy_trait.specs.Model.{PolicyModel}
+use Rattle.sealing_policy.specs.Sealing.{sealing}
+use Rattle.sealing_policy.specs.contracts.tag.SealTagPartialEq.TheImpl as seal_tag
+use Rattle.sealing_policy.specs.declared.tag.SealTag.{SealTag}
+use Rattle.compartment_policy.specs.Compartments.{compartments}
+use Rattle.compartment_policy.specs.contracts.tag.CompartmentTagPartialEq.TheImpl as compartment_tag
+use Rattle.compartment_policy.specs.declared.tag.CompartmentTag.{CompartmentTag}
+use Rattle.flow_policy.specs.Flow.{flow}
+use Rattle.flow_policy.specs.contracts.tag.FlowTagPartialEq.TheImpl as flow_tag
+use Rattle.flow_policy.specs.declared.tag.FlowTag.{FlowTag}
+use Rattle.policy_product.specs.Both.{both}
+use Rattle.policy_product.specs.Maybe.{maybe}
+use Rattle.policy_product.specs.Nothing.{nothing}
+use Rattle.policy_product.specs.declared.maybe.Maybe.{Maybe}
+use Rattle.policy_product.specs.declared.nothing.Nothing.{Nothing}
+use Rattle.policy_choice.specs.declared.choice.Choice.{Choice}
+use Rattle.policy_choice.specs.Flat.{Four, flat}
+
+abbrev pub AllTag : Type 0
+AllTag = Option SealTag × (Option CompartmentTag × (Option FlowTag × Option (Unit {0})))
+
+abbrev pub AllState : Type 0
+AllState = Maybe ℕ × (Maybe ℕ × (Maybe (List (ℕ × ℕ)) × Maybe Nothing))
+
+-- sealing, compartments, control flow, and a place that is off
+abbrev pub all : PolicyModel AllTag AllState
+all = both (maybe sealing) (both (maybe compartments) (both (maybe flow) (maybe nothing)))
+
+abbrev pub same_unit : Unit {0} → Unit {0} → Bool
+same_unit x y = true
+
+-- whether two tags are the same
+abbrev pub all_eq : AllTag → AllTag → Bool
+all_eq x y =
+    option_eq seal_tag.eq-value.it x.0 y.0 && (option_eq compartment_tag.eq-value.it x.1.0 y.1.0
+    && (option_eq flow_tag.eq-value.it x.1.1.0 y.1.1.0 && option_eq same_unit x.1.1.1 y.1.1.1))
+
+-- ---- the start
+
+-- one more than the greatest owner, or 1
+abbrev pub compartment_count : List CompartmentRange → ℕ
+compartment_count rows = fold (λ (count : ℕ) (row : CompartmentRange). max count (row.owner + 1)) 1 rows
+
+abbrev pub pair_of : Edge → ℕ × ℕ
+pair_of edge = (edge.source, edge.target)
+
+abbrev pub part_if : {S : Type 0} → Bool → S → Maybe S
+part_if chosen s = record { part = if chosen then Some s else None }
+
+-- the chosen policies at the start of an image, before anything was asked of them
+abbrev pub chosen : Choice → Picture → AllState
+chosen choice g = (
+  part_if choice.seal 0,
+  (
+    part_if choice.comp (compartment_count g.compartments),
+    (part_if choice.flow (map pair_of g.edges), record { part = None }),
+  ),
+)
+
+-- ---- the same, told flat
+
+abbrev pub flat_all : PolicyModel (Four (Option SealTag) (Option CompartmentTag) (Option FlowTag) (Option (Unit {0}))) (Four (Maybe ℕ) (Maybe ℕ) (Maybe (List (ℕ × ℕ))) (Maybe Nothing))
+flat_all = flat (maybe sealing) (maybe compartments) (maybe flow) (maybe nothing)

@@ -1,0 +1,4 @@
+pub mod All
+pub mod Choice
+pub mod Flat
+pub mod Told

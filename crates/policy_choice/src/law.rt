@@ -1,0 +1,25 @@
+//! What holds of all policies together, for callers that reason about them.
+
+ghost use Rattle.std.specs.Prelude.{◌≡◌, true};
+ghost use Rattle.policy_trait.specs.Mirrors.{Mirrors};
+ghost use Rattle.image_format.specs.Picture.{Picture};
+ghost use Rattle.policy_product.specs.Nothing.{nothing, untagged};
+ghost use Rattle.policy_product.specs.declared.nothing.Nothing.{Nothing};
+ghost use Rattle.policy_choice.specs.All.{all, chosen, flat_all};
+ghost use Rattle.policy_choice.specs.Choice.{is_none};
+ghost use Rattle.policy_choice.specs.Flat.{parts_of};
+ghost use Rattle.policy_choice.specs.Told.{IsToldAs};
+ghost use Rattle.policy_choice.specs.declared.choice.Choice.{Choice};
+
+/// All policies together, nested as they are, are the four told flat: each question goes to sealing, compartments, control
+/// flow and the last place in this order, and the first of them that refuses is named. The function does nothing.
+pub fn flat_law()
+    ensures { IsToldAs parts_of parts_of all flat_all }
+{}
+
+/// Where no policy is chosen, the policy that is nothing has the rules of all policies together, but that its tags have no
+/// content. The function does nothing.
+pub fn nothing_law()
+    ensures { (choice : Choice) (g : Picture) (s : Nothing) → is_none choice ≡ true
+        → Mirrors untagged all (chosen choice g) nothing s }
+{}
