@@ -1,0 +1,4 @@
+pub mod Fit
+pub mod Run
+pub mod Space
+pub mod SpaceEdits
