@@ -1,55 +1,71 @@
 -- All policies together: no service is known to two of them, and only sealing ever declines to lend.
-use Rattle.std.proofs.Common.{◌≡◌, ℕ, true, false, ◌||◌, List, Option, Some, None, Ok, refl, ap, ◌∙◌, arith}
+use Rattle.std.proofs.Common.{◌≡◌, ℕ, ◌≤◌, Bool, true, false, ◌||◌, List, Option, Some, None, Ok, if◌then◌else◌, map, refl, ap, ◌∙◌, arith}
 use Rattle.std.proofs.lemmas.Bool.Decides.{nat_tests}
+use Rattle.image_format.specs.Picture.{Picture}
 use Rattle.sealing_policy.specs.Sealing.{sealing, sealing_knows}
 use Rattle.compartment_policy.specs.Compartments.{compartment_knows, compartments}
 use Rattle.flow_policy.specs.Flow.{flow}
+use Rattle.heap_policy.specs.Heap.{HeapState, heap, heap_knows}
 use Rattle.policy_product.specs.Both.{IsApart, both}
-use Rattle.policy_product.specs.Maybe.{knows_in, lend_in, maybe}
-use Rattle.policy_product.specs.Nothing.{nothing}
+use Rattle.policy_product.specs.Maybe.{knows_in, lend_in, maybe, room_in}
 use Rattle.policy_product.specs.declared.maybe.Maybe.{Maybe}
-use Rattle.policy_product.specs.declared.nothing.Nothing.{Nothing}
-use Rattle.policy_choice.specs.All.{all, flat_all}
+use Rattle.policy_choice.specs.All.{all, chosen, compartment_count, flat_all, heap_of, pair_of}
+use Rattle.policy_choice.specs.declared.choice.Choice.{Choice}
 use Rattle.policy_choice.specs.Flat.{parts_of}
 use Rattle.policy_choice.specs.Told.{IsToldAs}
 use Rattle.policy_choice.proofs.FlatLemmas.{told_flat}
 
-not_both : (k : ℕ) → sealing_knows k ≡ true → compartment_knows k ≡ false
-not_both k known = grind (arith, nat_tests)
+-- ---- who offers which service
 
--- control flow and the last place offer no service
+not_comp : (k : ℕ) → sealing_knows k ≡ true → compartment_knows k ≡ false
+not_comp k known = grind (arith, nat_tests)
+
+not_heap : (k : ℕ) → sealing_knows k ≡ true → heap_knows k ≡ false
+not_heap k known = grind (arith, nat_tests)
+
+neither : (k : ℕ) → compartment_knows k ≡ true → heap_knows k ≡ false
+neither k known = grind (arith, nat_tests)
+
+-- what a policy that may be off offers, at most
+comp_offers : (part : Option ℕ) (k : ℕ) → compartment_knows k ≡ false → knows_in compartments part k ≡ false
+comp_offers None k not = refl
+comp_offers (Some count) k not = not
+
+heap_offers : (part : Option HeapState) (k : ℕ) → heap_knows k ≡ false → knows_in heap part k ≡ false
+heap_offers None k not = refl
+heap_offers (Some state) k not = not
+
+-- control flow offers none
 flow_offers_none : (part : Option (List (ℕ × ℕ))) (k : ℕ) → knows_in flow part k ≡ false
 flow_offers_none None k = refl
 flow_offers_none (Some edges) k = refl
 
-last_offers_none : (part : Option Nothing) (k : ℕ) → knows_in nothing part k ≡ false
-last_offers_none None k = refl
-last_offers_none (Some s) k = refl
-
 abbrev Others : Type 0
-Others = Maybe (List (ℕ × ℕ)) × Maybe Nothing
+Others = Maybe (List (ℕ × ℕ)) × Maybe HeapState
 
-others_offer_none : (r : Others) (k : ℕ) → (both (maybe flow) (maybe nothing)).knows r k ≡ false
-others_offer_none r k = ap (λ first. first || knows_in nothing r.1.part k) (flow_offers_none r.0.part k) ∙ last_offers_none r.1.part k
-
-not_comp : (part : Option ℕ) (k : ℕ) → compartment_knows k ≡ false → knows_in compartments part k ≡ false
-not_comp None k not = refl
-not_comp (Some count) k not = not
+others_offer : (r : Others) (k : ℕ) → heap_knows k ≡ false → (both (maybe flow) (maybe heap)).knows r k ≡ false
+others_offer r k not = ap (λ first. first || knows_in heap r.1.part k) (flow_offers_none r.0.part k) ∙ heap_offers r.1.part k not
 
 sealing_apart : (part : Option ℕ) (r : Maybe ℕ × Others) (k : ℕ) → knows_in sealing part k ≡ true
-    → (both (maybe compartments) (both (maybe flow) (maybe nothing))).knows r k ≡ false
+    → (both (maybe compartments) (both (maybe flow) (maybe heap))).knows r k ≡ false
 sealing_apart None r k known = absurd (cc known)
 sealing_apart (Some keys) r k known =
-    ap (λ first. first || (both (maybe flow) (maybe nothing)).knows r.1 k) (not_comp r.0.part k (not_both k known)) ∙ others_offer_none r.1 k
+    ap (λ first. first || (both (maybe flow) (maybe heap)).knows r.1 k) (comp_offers r.0.part k (not_comp k known)) ∙ others_offer r.1 k (not_heap k known)
 
-pub seal_apart : (s : Maybe ℕ) (r : Maybe ℕ × Others) → IsApart (maybe sealing) (both (maybe compartments) (both (maybe flow) (maybe nothing))) s r
+comp_apart_in : (part : Option ℕ) (r : Others) (k : ℕ) → knows_in compartments part k ≡ true → (both (maybe flow) (maybe heap)).knows r k ≡ false
+comp_apart_in None r k known = absurd (cc known)
+comp_apart_in (Some count) r k known = others_offer r k (neither k known)
+
+seal_apart : (s : Maybe ℕ) (r : Maybe ℕ × Others) → IsApart (maybe sealing) (both (maybe compartments) (both (maybe flow) (maybe heap))) s r
 seal_apart s r k known = sealing_apart s.part r k known
 
-pub comp_apart : (s : Maybe ℕ) (r : Others) → IsApart (maybe compartments) (both (maybe flow) (maybe nothing)) s r
-comp_apart s r k known = others_offer_none r k
+comp_apart : (s : Maybe ℕ) (r : Others) → IsApart (maybe compartments) (both (maybe flow) (maybe heap)) s r
+comp_apart s r k known = comp_apart_in s.part r k known
 
-pub flow_apart : (s : Maybe (List (ℕ × ℕ))) (r : Maybe Nothing) → IsApart (maybe flow) (maybe nothing) s r
-flow_apart s r k known = last_offers_none r.part k
+flow_apart : (s : Maybe (List (ℕ × ℕ))) (r : Maybe HeapState) → IsApart (maybe flow) (maybe heap) s r
+flow_apart s r k known = let none = flow_offers_none s.part k in absurd (cc (none, known))
+
+-- ---- who lends
 
 comp_lends : (part : Option ℕ) (tag : _) → lend_in compartments part tag ≡ Ok tt
 comp_lends None tag = refl
@@ -59,11 +75,37 @@ flow_lends : (part : Option (List (ℕ × ℕ))) (tag : _) → lend_in flow part
 flow_lends None tag = refl
 flow_lends (Some edges) tag = refl
 
-last_lends : (part : Option Nothing) (tag : _) → lend_in nothing part tag ≡ Ok tt
-last_lends None tag = refl
-last_lends (Some s) tag = refl
+heap_lends : (part : Option HeapState) (tag : _) → lend_in heap part tag ≡ Ok tt
+heap_lends None tag = refl
+heap_lends (Some state) tag = refl
 
 pub all_told_flat : IsToldAs parts_of parts_of all flat_all
 all_told_flat =
-    told_flat (maybe sealing) (maybe compartments) (maybe flow) (maybe nothing) seal_apart comp_apart flow_apart
-    (λ s. comp_lends s.part) (λ s. flow_lends s.part) (λ s. last_lends s.part)
+    told_flat (maybe sealing) (maybe compartments) (maybe flow) (maybe heap) seal_apart comp_apart flow_apart
+    (λ s. comp_lends s.part) (λ s. flow_lends s.part) (λ s. heap_lends s.part)
+
+-- ---- the bytes that the policies count on
+
+seal_room : (on : Bool) → room_in sealing (if on then Some 0 else None) ≡ 0
+seal_room true = refl
+seal_room false = refl
+
+comp_room : (on : Bool) (count : ℕ) → room_in compartments (if on then Some count else None) ≡ 0
+comp_room true count = refl
+comp_room false count = refl
+
+flow_room : (on : Bool) (edges : List (ℕ × ℕ)) → room_in flow (if on then Some edges else None) ≡ 0
+flow_room true edges = refl
+flow_room false edges = refl
+
+heap_room : (on : Bool) (state : HeapState) (ram : ℕ) → heap.room state ≤ ram → room_in heap (if on then Some state else None) ≤ ram
+heap_room true state ram fits = fits
+heap_room false state ram fits = omega arith
+
+pub room_of_chosen : (choice : Choice) (g : Picture) → heap.room (heap_of g) ≤ g.ram → all.room (chosen choice g) ≤ g.ram
+room_of_chosen choice g fits =
+    let seal = seal_room choice.seal in
+    let comp = comp_room choice.comp (compartment_count g.compartments) in
+    let flow_is = flow_room choice.flow (map pair_of g.edges) in
+    let last = heap_room choice.heap (heap_of g) g.ram fits in
+    grind (arith, seal, comp, flow_is, last)

@@ -1,6 +1,7 @@
 -- The policy that is nothing mirrors all policies together where none is chosen.
 use Rattle.std.proofs.Common.{◌≡◌, ℕ, Bool, true, false, not, ◌&&◌, List, None, refl}
 use Rattle.image_format.specs.Picture.{Picture}
+use Rattle.heap_policy.specs.Heap.{HeapState}
 use Rattle.policy_trait.specs.Mirrors.{Mirrors}
 use Rattle.policy_product.specs.Nothing.{nothing, untagged}
 use Rattle.policy_product.specs.declared.nothing.Nothing.{Nothing}
@@ -8,9 +9,9 @@ use Rattle.policy_choice.specs.All.{all, chosen, part_if}
 use Rattle.policy_choice.specs.Choice.{is_none}
 use Rattle.policy_choice.specs.declared.choice.Choice.{Choice}
 
-mirrors_if : (seal comp flow : Bool) (count : ℕ) (edges : List (ℕ × ℕ)) (s : Nothing) → (not seal && not comp && not flow) ≡ true
-    → Mirrors untagged all (part_if seal 0, (part_if comp count, (part_if flow edges, record { part = None }))) nothing s
-mirrors_if false false false count edges s none = record {
+mirrors_if : (seal comp flow on_heap : Bool) (count : ℕ) (edges : List (ℕ × ℕ)) (region : HeapState) (s : Nothing) → (not seal && not comp && not flow && not on_heap) ≡ true
+    → Mirrors untagged all (part_if seal 0, (part_if comp count, (part_if flow edges, part_if on_heap region))) nothing s
+mirrors_if false false false false count edges region s none = record {
   plain = refl;
   rule = λ g x. refl;
   offers_none = λ k. refl;
@@ -18,9 +19,10 @@ mirrors_if false false false count edges s none = record {
   start_pc = λ b. refl;
   start_word = λ b. refl;
 }
-mirrors_if true comp flow count edges s none = absurd (cc none)
-mirrors_if false true flow count edges s none = absurd (cc none)
-mirrors_if false false true count edges s none = absurd (cc none)
+mirrors_if true comp flow on_heap count edges region s none = absurd (cc none)
+mirrors_if false true flow on_heap count edges region s none = absurd (cc none)
+mirrors_if false false true on_heap count edges region s none = absurd (cc none)
+mirrors_if false false false true count edges region s none = absurd (cc none)
 
 pub nothing_mirrors : (choice : Choice) (g : Picture) (s : Nothing) → is_none choice ≡ true → Mirrors untagged all (chosen choice g) nothing s
-nothing_mirrors choice g s none = mirrors_if choice.seal choice.comp choice.flow _ _ s none
+nothing_mirrors choice g s none = mirrors_if choice.seal choice.comp choice.flow choice.heap _ _ _ s none

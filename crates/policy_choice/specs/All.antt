@@ -1,5 +1,5 @@
 -- All policies together: their tags, their value and their meaning as one policy; and the chosen ones at an image's start.
-use Rattle.std.specs.Prelude.{ℕ, ◌+◌, max, Bool, true, ◌&&◌, List, Option, Some, None, map, if◌then◌else◌}
+use Rattle.std.specs.Prelude.{ℕ, ◌+◌, max, Bool, ◌&&◌, List, Option, Some, None, map, if◌then◌else◌}
 use Rattle.std.specs.List.{fold}
 use Rattle.std.specs.Option.{option_eq}
 use Rattle.image_format.specs.Picture.{Picture}
@@ -15,32 +15,30 @@ use Rattle.compartment_policy.specs.declared.tag.CompartmentTag.{CompartmentTag}
 use Rattle.flow_policy.specs.Flow.{flow}
 use Rattle.flow_policy.specs.contracts.tag.FlowTagPartialEq.TheImpl as flow_tag
 use Rattle.flow_policy.specs.declared.tag.FlowTag.{FlowTag}
+use Rattle.heap_policy.specs.Heap.{HeapState, empty_heap, heap}
+use Rattle.heap_policy.specs.contracts.tag.HeapTagPartialEq.TheImpl as heap_tag
+use Rattle.heap_policy.specs.declared.tag.HeapTag.{HeapTag}
 use Rattle.policy_product.specs.Both.{both}
 use Rattle.policy_product.specs.Maybe.{maybe}
-use Rattle.policy_product.specs.Nothing.{nothing}
 use Rattle.policy_product.specs.declared.maybe.Maybe.{Maybe}
-use Rattle.policy_product.specs.declared.nothing.Nothing.{Nothing}
 use Rattle.policy_choice.specs.declared.choice.Choice.{Choice}
 use Rattle.policy_choice.specs.Flat.{Four, flat}
 
 abbrev pub AllTag : Type 0
-AllTag = Option SealTag × (Option CompartmentTag × (Option FlowTag × Option (Unit {0})))
+AllTag = Option SealTag × (Option CompartmentTag × (Option FlowTag × Option HeapTag))
 
 abbrev pub AllState : Type 0
-AllState = Maybe ℕ × (Maybe ℕ × (Maybe (List (ℕ × ℕ)) × Maybe Nothing))
+AllState = Maybe ℕ × (Maybe ℕ × (Maybe (List (ℕ × ℕ)) × Maybe HeapState))
 
--- sealing, compartments, control flow, and a place that is off
+-- sealing, compartments, control flow and heap safety
 abbrev pub all : PolicyModel AllTag AllState
-all = both (maybe sealing) (both (maybe compartments) (both (maybe flow) (maybe nothing)))
-
-abbrev pub same_unit : Unit {0} → Unit {0} → Bool
-same_unit x y = true
+all = both (maybe sealing) (both (maybe compartments) (both (maybe flow) (maybe heap)))
 
 -- whether two tags are the same
 abbrev pub all_eq : AllTag → AllTag → Bool
 all_eq x y =
     option_eq seal_tag.eq-value.it x.0 y.0 && (option_eq compartment_tag.eq-value.it x.1.0 y.1.0
-    && (option_eq flow_tag.eq-value.it x.1.1.0 y.1.1.0 && option_eq same_unit x.1.1.1 y.1.1.1))
+    && (option_eq flow_tag.eq-value.it x.1.1.0 y.1.1.0 && option_eq heap_tag.eq-value.it x.1.1.1 y.1.1.1))
 
 -- ---- the start
 
@@ -51,6 +49,10 @@ compartment_count rows = fold (λ (count : ℕ) (row : CompartmentRange). max co
 abbrev pub pair_of : Edge → ℕ × ℕ
 pair_of edge = (edge.source, edge.target)
 
+-- the heap region, before a block was handed out
+abbrev pub heap_of : Picture → HeapState
+heap_of g = empty_heap g.heap_base g.heap_bytes
+
 abbrev pub part_if : {S : Type 0} → Bool → S → Maybe S
 part_if chosen s = record { part = if chosen then Some s else None }
 
@@ -60,11 +62,11 @@ chosen choice g = (
   part_if choice.seal 0,
   (
     part_if choice.comp (compartment_count g.compartments),
-    (part_if choice.flow (map pair_of g.edges), record { part = None }),
+    (part_if choice.flow (map pair_of g.edges), part_if choice.heap (heap_of g)),
   ),
 )
 
 -- ---- the same, told flat
 
-abbrev pub flat_all : PolicyModel (Four (Option SealTag) (Option CompartmentTag) (Option FlowTag) (Option (Unit {0}))) (Four (Maybe ℕ) (Maybe ℕ) (Maybe (List (ℕ × ℕ))) (Maybe Nothing))
-flat_all = flat (maybe sealing) (maybe compartments) (maybe flow) (maybe nothing)
+abbrev pub flat_all : PolicyModel (Four (Option SealTag) (Option CompartmentTag) (Option FlowTag) (Option HeapTag)) (Four (Maybe ℕ) (Maybe ℕ) (Maybe (List (ℕ × ℕ))) (Maybe HeapState))
+flat_all = flat (maybe sealing) (maybe compartments) (maybe flow) (maybe heap)

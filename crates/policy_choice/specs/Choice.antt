@@ -5,11 +5,11 @@ use Rattle.std.specs.Str.{bytes_eq}
 use Rattle.policy_choice.specs.declared.choice.Choice.{Choice}
 
 abbrev pub no_policy : Choice
-no_policy = record { seal = false; comp = false; flow = false }
+no_policy = record { seal = false; comp = false; flow = false; heap = false }
 
 -- no policy is chosen
 abbrev pub is_none : Choice → Bool
-is_none choice = not choice.seal && not choice.comp && not choice.flow
+is_none choice = not choice.seal && not choice.comp && not choice.flow && not choice.heap
 
 -- the parts of a text between its commas
 abbrev pub names_in : List ℕ → List (List ℕ)
@@ -17,7 +17,7 @@ names_in text = slice_split (λ byte. byte == 44) text
 
 -- the names of policies
 abbrev pub is_name : List ℕ → Bool
-is_name name = bytes_eq name (codes "seal") || bytes_eq name (codes "comp") || bytes_eq name (codes "flow")
+is_name name = bytes_eq name (codes "seal") || bytes_eq name (codes "comp") || bytes_eq name (codes "flow") || bytes_eq name (codes "heap")
 
 abbrev pub times_named : List (List ℕ) → List ℕ → ℕ
 times_named names name = count_by (λ part. bytes_eq part name) names
@@ -26,7 +26,7 @@ times_named names name = count_by (λ part. bytes_eq part name) names
 abbrev pub is_list : List (List ℕ) → Bool
 is_list names =
     list_all is_name names && nat_le (times_named names (codes "seal")) 1 && nat_le (times_named names (codes "comp")) 1
-    && nat_le (times_named names (codes "flow")) 1
+    && nat_le (times_named names (codes "flow")) 1 && nat_le (times_named names (codes "heap")) 1
 
 abbrev pub is_named : List (List ℕ) → List ℕ → Bool
 is_named names name = times_named names name == 1
@@ -36,6 +36,7 @@ choice_in names = if is_list names then Some (record {
   seal = is_named names (codes "seal");
   comp = is_named names (codes "comp");
   flow = is_named names (codes "flow");
+  heap = is_named names (codes "heap");
 }) else None
 
 -- the policies that a text names: none, or a list

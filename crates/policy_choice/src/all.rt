@@ -1,25 +1,27 @@
 //! All policies as one.
 
 ghost use Rattle.std.specs.Prelude.{◌≡◌, ◌≤◌, IfOk, map};
-ghost use Rattle.policy_choice.specs.All.{all, chosen, compartment_count, pair_of, part_if};
+ghost use Rattle.heap_policy.specs.Heap.{heap};
+ghost use Rattle.policy_choice.specs.All.{all, chosen, compartment_count, heap_of, pair_of, part_if};
 
 use crate::choice::Choice;
 use compartment_policy::{CompartmentTag, Compartments};
 use flow_policy::{Flow, FlowTag};
-use image_format::{CompartmentRange, Edge, Image};
-use policy_product::{Both, Maybe, Nothing};
+use heap_policy::{Heap, HeapTag};
+use image_format::{Edge, Image};
+use policy_product::{Both, Maybe};
 use policy_trait::Policy;
 use sealing_policy::{SealTag, Sealing};
 use std::alloc::{AllocError, Global};
 
 /// All policies together, each of them on or off, in the order in which they are asked: sealing, compartments, control flow,
-/// and a last place that is always off.
-pub type All = Both<Maybe<Sealing>, Both<Maybe<Compartments>, Both<Maybe<Flow>, Maybe<Nothing>>>>;
+/// heap safety.
+pub type All = Both<Maybe<Sealing>, Both<Maybe<Compartments>, Both<Maybe<Flow>, Maybe<Heap>>>>;
 
 /// A tag of all policies together.
 pub type AllTag = (
     Option<SealTag>,
-    (Option<CompartmentTag>, (Option<FlowTag>, Option<()>)),
+    (Option<CompartmentTag>, (Option<FlowTag>, Option<HeapTag>)),
 );
 
 /// How many compartments an image starts with: one more than the greatest owner, or 1.
@@ -68,8 +70,18 @@ fn part_if<P: Policy>(chosen: bool, policy: P) -> Maybe<P>
     }
 }
 
+/// Heap safety over the image's heap region, which lies in its memory, before a block was handed out.
+fn heap_of(alloc: Global, image: &Image) -> Heap
+    ensures value { result ≡ heap_of image.now }
+    ensures room { heap.room result ≤ image.now.ram }
+{
+    // Serves the proof alone: memory has at most 16 MiB, so that no sum of its sizes wraps.
+    let _ram = image.ram();
+    Heap::new(alloc, image.heap_base(), image.heap_bytes())
+}
+
 /// The chosen policies at the start of the image, before anything was asked of them; the others are off. The image says how
-/// many compartments there are, and the edges; its memory has the bytes that they count on. The only error is want of memory.
+/// many compartments there are, the edges, and where the heap region is; its memory has the bytes that they count on. The only error is want of memory.
 pub fn choose(alloc: Global, choice: Choice, image: &Image) -> Result<All, AllocError>
     ensures value { IfOk result (λ policy. policy ≡ chosen choice image.now) }
     ensures room { IfOk result (λ policy. all.room policy ≤ image.now.ram) }
@@ -77,6 +89,6 @@ pub fn choose(alloc: Global, choice: Choice, image: &Image) -> Result<All, Alloc
     let seal = part_if(choice.seal, Sealing::new());
     let comp = part_if(choice.comp, Compartments::new(compartment_count(image)));
     let flow = flow_of(alloc, choice.flow, image)?;
-    let off = Maybe { part: None };
-    Ok(Both::new(seal, Both::new(comp, Both::new(flow, off))))
+    let heap = part_if(choice.heap, heap_of(alloc, image));
+    Ok(Both::new(seal, Both::new(comp, Both::new(flow, heap))))
 }

@@ -13,6 +13,8 @@ pub struct Choice {
     pub comp: bool,
     /// Whether control-flow integrity is.
     pub flow: bool,
+    /// Whether heap safety is.
+    pub heap: bool,
 }
 
 impl Choice {
@@ -24,6 +26,7 @@ impl Choice {
             seal: false,
             comp: false,
             flow: false,
+            heap: false,
         }
     }
 
@@ -31,7 +34,7 @@ impl Choice {
     pub fn is_none(self) -> bool
         ensures { result ≡ is_none self }
     {
-        !self.seal && !self.comp && !self.flow
+        !self.seal && !self.comp && !self.flow && !self.heap
     }
 }
 
@@ -48,7 +51,7 @@ fn times_named(list: &[u8], name: &[u8]) -> usize
 fn is_name(name: &[u8]) -> bool
     ensures { result ≡ is_name name.now }
 {
-    matches!(name, b"seal" | b"comp" | b"flow")
+    matches!(name, b"seal" | b"comp" | b"flow" | b"heap")
 }
 
 /// Whether each part of the text between commas is the name of a policy.
@@ -58,8 +61,8 @@ fn are_names(list: &[u8]) -> bool
     list.split(|byte| *byte == b',').all(|part| is_name(part))
 }
 
-/// The choice that a text names: `none` is no policy. Any other is a list of the names `seal`, `comp` and `flow` with commas
-/// between, in any order, none twice. `None` for any other text.
+/// The choice that a text names: `none` is no policy. Any other is a list of the names `seal`, `comp`, `flow` and `heap` with
+/// commas between, in any order, none twice. `None` for any other text.
 pub fn read_choice(text: &[u8]) -> Option<Choice>
     ensures { result ≡ choice_of text.now }
 {
@@ -69,12 +72,14 @@ pub fn read_choice(text: &[u8]) -> Option<Choice>
     let seal = times_named(text, b"seal");
     let comp = times_named(text, b"comp");
     let flow = times_named(text, b"flow");
-    if !are_names(text) || seal > 1 || comp > 1 || flow > 1 {
+    let heap = times_named(text, b"heap");
+    if !are_names(text) || seal > 1 || comp > 1 || flow > 1 || heap > 1 {
         return None;
     }
     Some(Choice {
         seal: seal == 1,
         comp: comp == 1,
         flow: flow == 1,
+        heap: heap == 1,
     })
 }

@@ -12,7 +12,7 @@ ghost use Rattle.policy_choice.specs.Told.{IsToldAs};
 ghost use Rattle.policy_choice.specs.declared.choice.Choice.{Choice};
 
 /// All policies together, nested as they are, are the four told flat: each question goes to sealing, compartments, control
-/// flow and the last place in this order, and the first of them that refuses is named. The function does nothing.
+/// flow and heap safety in this order, and the first of them that refuses is named. The function does nothing.
 pub fn flat_law()
     ensures { IsToldAs parts_of parts_of all flat_all }
 {}

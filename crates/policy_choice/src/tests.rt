@@ -11,16 +11,19 @@ use sealing_policy::{SealTag, Sealing};
 use std::alloc::{AllocError, Global};
 use std::test::Fail;
 
-/// A text, and whether it chooses sealing, compartments and control flow, where it is one.
-const TEXTS: [(&[u8], Option<(bool, bool, bool)>); 18] = [
-    (b"none", Some((false, false, false))),
-    (b"seal", Some((true, false, false))),
-    (b"comp", Some((false, true, false))),
-    (b"flow", Some((false, false, true))),
-    (b"seal,comp", Some((true, true, false))),
-    (b"comp,seal", Some((true, true, false))),
-    (b"flow,comp", Some((false, true, true))),
-    (b"flow,seal,comp", Some((true, true, true))),
+/// A text, and whether it chooses sealing, compartments, control flow and heap safety, where it is a list.
+const TEXTS: [(&[u8], Option<(bool, bool, bool, bool)>); 21] = [
+    (b"none", Some((false, false, false, false))),
+    (b"seal", Some((true, false, false, false))),
+    (b"comp", Some((false, true, false, false))),
+    (b"flow", Some((false, false, true, false))),
+    (b"seal,comp", Some((true, true, false, false))),
+    (b"comp,seal", Some((true, true, false, false))),
+    (b"flow,comp", Some((false, true, true, false))),
+    (b"flow,seal,comp", Some((true, true, true, false))),
+    (b"heap", Some((false, false, false, true))),
+    (b"heap,flow,comp,seal", Some((true, true, true, true))),
+    (b"heap,seal,heap", None),
     (b"", None),
     (b"Seal", None),
     (b"seal,", None),
@@ -36,11 +39,16 @@ const TEXTS: [(&[u8], Option<(bool, bool, bool)>); 18] = [
 #[test]
 fn policies_by_their_names(rt: HostRuntime) {
     for (text, chosen) in TEXTS {
-        let choice = chosen.map(|(seal, comp, flow)| Choice { seal, comp, flow });
+        let choice = chosen.map(|(seal, comp, flow, heap)| Choice {
+            seal,
+            comp,
+            flow,
+            heap,
+        });
         assert!(rt; read_choice(text) == choice, "{text:?}");
     }
     assert!(rt; Choice::none().is_none());
-    for text in [b"seal", b"comp", b"flow"] {
+    for text in [b"seal", b"comp", b"flow", b"heap"] {
         assert!(rt; read_choice(text).is_some_and(|choice| !choice.is_none()));
     }
 }
@@ -105,6 +113,7 @@ fn the_image_says_how_many_compartments_there_are(rt: HostRuntime) -> Result<(),
         seal: false,
         comp: true,
         flow: false,
+        heap: false,
     };
     let policy = choose(rt.alloc(), choice, &image)?;
     let plain = policy.plain();
@@ -126,6 +135,7 @@ fn the_image_says_which_edges_there_are(rt: HostRuntime) -> Result<(), Fail> {
         seal: true,
         comp: false,
         flow: true,
+        heap: false,
     };
     let policy = choose(rt.alloc(), choice, &image)?;
     let plain = policy.plain();

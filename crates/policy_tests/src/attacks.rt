@@ -1,7 +1,7 @@
 //! Programs that do harm, and the stop that ends each.
 
-use crate::rows::{NO_ROWS, OWNED, Row, ran};
-use engine_trait::{Engine, Stop, TurnEnd};
+use crate::rows::{NO_ROWS, OWNED, Row, SMALL, a0_after, end_of};
+use engine_trait::{Stop, TurnEnd};
 use policy_trait::{Part, Why};
 use rv_decode::Group;
 use std::test::Fail;
@@ -14,6 +14,7 @@ use std::test::Fail;
 const ATTACKS: [(Row, (Part, Why, u32)); 11] = [
     (
         Row {
+            sizes: SMALL,
             entries: &[0],
             words: &[0x0000_2023],
             lists: &[1, 0, 1, 0, 0, 0],
@@ -24,6 +25,7 @@ const ATTACKS: [(Row, (Part, Why, u32)); 11] = [
     ),
     (
         Row {
+            sizes: SMALL,
             entries: &[0],
             words: &[0x0100_006F, 0, 0, 0, 0x13],
             lists: &[1, 0, 1, 0, 0, 0],
@@ -34,6 +36,7 @@ const ATTACKS: [(Row, (Part, Why, u32)); 11] = [
     ),
     (
         Row {
+            sizes: SMALL,
             entries: &[0],
             words: &[0x0080_0293, 0x0002_8067],
             lists: &[1, 0, 2, 0, 0, 0],
@@ -44,6 +47,7 @@ const ATTACKS: [(Row, (Part, Why, u32)); 11] = [
     ),
     (
         Row {
+            sizes: SMALL,
             entries: &[0],
             words: &[0x00C0_0293, 0x0002_80E7, 0x13, 0x13],
             lists: &[1, 0, 4, 2, 4, 1, 12, 2, 0, 0],
@@ -54,6 +58,7 @@ const ATTACKS: [(Row, (Part, Why, u32)); 11] = [
     ),
     (
         Row {
+            sizes: SMALL,
             entries: &[0],
             words: &[0x0800_2023],
             lists: OWNED,
@@ -64,6 +69,7 @@ const ATTACKS: [(Row, (Part, Why, u32)); 11] = [
     ),
     (
         Row {
+            sizes: SMALL,
             entries: &[0],
             words: &[0x13, 0x13],
             lists: &[0, 0, 0, 1, 4, 1, 1, 1, 0],
@@ -74,6 +80,7 @@ const ATTACKS: [(Row, (Part, Why, u32)); 11] = [
     ),
     (
         Row {
+            sizes: SMALL,
             entries: &[0],
             words: &[0x0000_0513, 0x0000_0593, 0x0200_0893, 0x73],
             lists: NO_ROWS,
@@ -84,6 +91,7 @@ const ATTACKS: [(Row, (Part, Why, u32)); 11] = [
     ),
     (
         Row {
+            sizes: SMALL,
             entries: &[0],
             words: &[0xFFC0_0513, 0x0020_0593, 0x0200_0893, 0x73],
             lists: NO_ROWS,
@@ -94,6 +102,7 @@ const ATTACKS: [(Row, (Part, Why, u32)); 11] = [
     ),
     (
         Row {
+            sizes: SMALL,
             entries: &[0],
             words: &[0x0800_0513, 0x0010_0593, 0x0220_0893, 0x73],
             lists: OWNED,
@@ -104,6 +113,7 @@ const ATTACKS: [(Row, (Part, Why, u32)); 11] = [
     ),
     (
         Row {
+            sizes: SMALL,
             entries: &[0],
             words: &[0x0800_2023],
             lists: &[2, 0, 1, 128, 1, 0, 0, 1, 128, 1, 1, 0, 0],
@@ -114,6 +124,7 @@ const ATTACKS: [(Row, (Part, Why, u32)); 11] = [
     ),
     (
         Row {
+            sizes: SMALL,
             entries: &[0],
             words: &[0x0100_0893, 0x73, 0x0010_0593, 0x0220_0893, 0x73],
             lists: NO_ROWS,
@@ -126,10 +137,13 @@ const ATTACKS: [(Row, (Part, Why, u32)); 11] = [
 
 #[test]
 fn attacks_are_stopped(rt: HostRuntime) -> Result<(), Fail> {
-    for (row, (part, why, pc)) in ATTACKS {
-        let (_engine, last) = ran(rt.alloc(), row)?;
-        let stop = Stop::Violation { part, why, pc };
-        assert!(rt; last == TurnEnd::Stopped(stop));
+    for (row, (part, why, pc)) in &ATTACKS {
+        let stop = Stop::Violation {
+            part: *part,
+            why: *why,
+            pc: *pc,
+        };
+        assert!(rt; end_of(rt.alloc(), row)? == TurnEnd::Stopped(stop));
     }
     Ok(())
 }
@@ -144,6 +158,7 @@ const SPLIT_BETWEEN: [(&[u32], Group, u32); 2] = [
 fn a_hart_whose_words_are_split_off_is_stopped(rt: HostRuntime) -> Result<(), Fail> {
     for (order, group, pc) in SPLIT_BETWEEN {
         let row = Row {
+            sizes: SMALL,
             entries: &[0, 32],
             words: &[
                 0x0012_8293,
@@ -163,17 +178,13 @@ fn a_hart_whose_words_are_split_off_is_stopped(rt: HostRuntime) -> Result<(), Fa
             policies: b"comp",
             order,
         };
-        let (engine, last) = ran(rt.alloc(), row)?;
         let stop = Stop::Violation {
             part: Part::Comp,
             why: Why::Rule(group),
             pc,
         };
-        assert!(rt; last == TurnEnd::Stopped(stop));
-        assert!(rt; engine.harts() == 2);
-        if engine.harts() == 2 {
-            assert!(rt; engine.reg(1, 10) == 1);
-        }
+        assert!(rt; end_of(rt.alloc(), &row)? == TurnEnd::Stopped(stop));
+        assert!(rt; a0_after(rt.alloc(), &row, 1)?.0 == 1);
     }
     Ok(())
 }

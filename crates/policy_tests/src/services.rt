@@ -1,8 +1,8 @@
 //! What the policies allow, and services at their limits.
 
-use crate::rows::{NO_ROWS, OWNED, Row, ran};
+use crate::rows::{NO_ROWS, OWNED, Row, SMALL, a0_after, end_of, word_tag_after};
 use compartment_policy::CompartmentTag;
-use engine_trait::{Engine, Stop, TurnEnd};
+use engine_trait::{Stop, TurnEnd};
 use policy_trait::{CompartmentSet, Part, Why};
 use rv_step::Fault;
 use sealing_policy::SealTag;
@@ -13,6 +13,7 @@ use std::test::Fail;
 const ENDS: [(Row, TurnEnd); 3] = [
     (
         Row {
+            sizes: SMALL,
             entries: &[0],
             words: &[0x0800_2023],
             lists: &[0, 0, 0, 1, 128, 1, 1, 0, 1],
@@ -23,6 +24,7 @@ const ENDS: [(Row, TurnEnd); 3] = [
     ),
     (
         Row {
+            sizes: SMALL,
             entries: &[0],
             words: &[
                 0x00C0_0293,
@@ -41,6 +43,7 @@ const ENDS: [(Row, TurnEnd); 3] = [
     ),
     (
         Row {
+            sizes: SMALL,
             entries: &[0],
             words: &[0x0000_0513, 0x0010_0593, 0x0200_0893, 0x73],
             lists: &[0, 0, 0, 1, 128, 1, 31, 0, 0],
@@ -53,9 +56,8 @@ const ENDS: [(Row, TurnEnd); 3] = [
 
 #[test]
 fn turns_end_as_they_are_to(rt: HostRuntime) -> Result<(), Fail> {
-    for (row, end) in ENDS {
-        let (_engine, last) = ran(rt.alloc(), row)?;
-        assert!(rt; last == end);
+    for (row, end) in &ENDS {
+        assert!(rt; end_of(rt.alloc(), row)? == *end);
     }
     Ok(())
 }
@@ -73,24 +75,21 @@ fn closed(owner: u32) -> CompartmentTag {
 #[test]
 fn a_refused_service_retags_no_word(rt: HostRuntime) -> Result<(), Fail> {
     let row = Row {
+        sizes: SMALL,
         entries: &[0],
         words: &[0x07C0_0513, 0x0020_0593, 0x0200_0893, 0x73],
         lists: OWNED,
         policies: b"comp",
         order: &[0, 0, 0, 0],
     };
-    let (engine, last) = ran(rt.alloc(), row)?;
     let stop = Stop::Violation {
         part: Part::Comp,
         why: Why::NotOwner,
         pc: 12,
     };
-    assert!(rt; last == TurnEnd::Stopped(stop));
-    assert!(rt; engine.ram() == 256);
-    if engine.ram() == 256 {
-        assert!(rt; engine.word_tag(124).1.0 == Some(closed(0)));
-        assert!(rt; engine.word_tag(128).1.0 == Some(closed(1)));
-    }
+    assert!(rt; end_of(rt.alloc(), &row)? == TurnEnd::Stopped(stop));
+    assert!(rt; word_tag_after(rt.alloc(), &row, 31)?.1.0 == Some(closed(0)));
+    assert!(rt; word_tag_after(rt.alloc(), &row, 32)?.1.0 == Some(closed(1)));
     Ok(())
 }
 
@@ -98,20 +97,18 @@ fn a_refused_service_retags_no_word(rt: HostRuntime) -> Result<(), Fail> {
 #[test]
 fn a_split_word_is_a_new_compartments(rt: HostRuntime) -> Result<(), Fail> {
     let row = Row {
+        sizes: SMALL,
         entries: &[0],
         words: &[0x07C0_0513, 0x0010_0593, 0x0200_0893, 0x73],
         lists: NO_ROWS,
         policies: b"seal,comp",
         order: &[0, 0, 0, 0],
     };
-    let (engine, last) = ran(rt.alloc(), row)?;
-    assert!(rt; last == TurnEnd::Ran(None));
-    assert!(rt; engine.ram() == 256 && engine.harts() == 1);
-    if engine.ram() == 256 && engine.harts() == 1 {
-        assert!(rt; engine.word_tag(124).1.0 == Some(closed(1)));
-        assert!(rt; engine.word_tag(128).1.0 == Some(closed(0)));
-        assert!(rt; engine.reg(0, 10) == 1);
-        assert!(rt; engine.reg_tag(0, 10).0 == Some(SealTag::Data));
-    }
+    assert!(rt; end_of(rt.alloc(), &row)? == TurnEnd::Ran(None));
+    assert!(rt; word_tag_after(rt.alloc(), &row, 31)?.1.0 == Some(closed(1)));
+    assert!(rt; word_tag_after(rt.alloc(), &row, 32)?.1.0 == Some(closed(0)));
+    let (number, tag) = a0_after(rt.alloc(), &row, 0)?;
+    assert!(rt; number == 1);
+    assert!(rt; tag.0 == Some(SealTag::Data));
     Ok(())
 }

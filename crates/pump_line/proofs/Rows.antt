@@ -48,7 +48,7 @@ unfolding on_rows
 compartments_named = refl
 
 -- all named, in another order
-all_named : task_of (line (codes "run" ∷ codes "a.img" ∷ codes "--policy" ∷ codes "flow,seal,comp" ∷ [])) ≡ Some (run_of (codes "a.img") (record { seal = true; comp = true; flow = true }) 1000000)
+all_named : task_of (line (codes "run" ∷ codes "a.img" ∷ codes "--policy" ∷ codes "heap,flow,seal,comp" ∷ [])) ≡ Some (run_of (codes "a.img") (record { seal = true; comp = true; flow = true; heap = true }) 1000000)
 unfolding on_rows
 all_named = refl
 

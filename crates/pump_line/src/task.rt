@@ -106,9 +106,9 @@ fn end_of(error: &Error) -> WordsEnd
 }
 
 /// What the words ask for, the first being the program's name: `run IMAGE [--policy LIST] [--turns N]`, the options before or
-/// after the image, each at most once, LIST `none`, or names among `seal`, `comp` and `flow` with commas between, none twice, N 1 to 10
-/// decimal digits that write 1 to 1,000,000,000. This is the project's own command line; `clap` judges its form. Any other
-/// words are `Bad`. A line in want of memory may end as `Memory`.
+/// after the image, each at most once, LIST `none`, or names among `seal`, `comp`, `flow` and `heap` with commas between,
+/// none twice, N 1 to 10 decimal digits that write 1 to 1,000,000,000. This is the project's own command line; `clap` judges
+/// its form. Any other words are `Bad`. A line in want of memory may end as `Memory`.
 pub fn read_task<'a>(alloc: Global, words: &'a Vec<String>) -> Result<Task<'a>, WordsEnd>
     ensures task { IfOk result (λ t. task_of (texts_of words.now.items) ≡ Some (told t)) }
     ensures bad { IfErr result (λ e. e ≡ WordsEnd.Bad → task_of (texts_of words.now.items) ≡ None) }

@@ -12,20 +12,25 @@ fn words_of(alloc: Global, words: &[&str]) -> Result<Vec<String>, AllocError> {
     Ok(line)
 }
 
-/// Whether sealing, compartments and control flow are chosen.
-type Named = (bool, bool, bool);
+/// Whether sealing, compartments, control flow and heap safety are chosen.
+type Named = (bool, bool, bool, bool);
 
-const NONE: Named = (false, false, false);
+const NONE: Named = (false, false, false, false);
 
-const SEAL: Named = (true, false, false);
+const SEAL: Named = (true, false, false, false);
 
-const COMP: Named = (false, true, false);
+const COMP: Named = (false, true, false, false);
 
-const ALL: Named = (true, true, true);
+const ALL: Named = (true, true, true, true);
 
 fn is_run(read: Result<Task<'_>, WordsEnd>, image: &str, named: Named, turns: u64) -> bool {
-    let (seal, comp, flow) = named;
-    let choice = Choice { seal, comp, flow };
+    let (seal, comp, flow, heap) = named;
+    let choice = Choice {
+        seal,
+        comp,
+        flow,
+        heap,
+    };
     match read {
         Ok(Task::Run(task)) => {
             task.image == image && task.choice == choice && task.turns == turns
@@ -62,7 +67,7 @@ const LINES: [(&[&str], (&str, Named, u64)); 14] = [
         ("a.img", COMP, 1_000_000),
     ),
     (
-        &["run", "a.img", "--policy", "flow,seal,comp"],
+        &["run", "a.img", "--policy", "heap,flow,seal,comp"],
         ("a.img", ALL, 1_000_000),
     ),
     (&["run", "a.img", "--turns", "1"], ("a.img", NONE, 1)),
