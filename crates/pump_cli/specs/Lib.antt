@@ -6,5 +6,6 @@ pub mod Facts
 pub mod Outsides
 pub mod Program
 pub mod Reading
+pub mod Runs
 pub mod Texts
 pub mod Theorem

@@ -3,8 +3,8 @@ use Rattle.std.specs.Prelude.{ℕ, List, [], ◌∷◌, Option, Some, None, Resu
 use Rattle.image_format.specs.Picture.{Picture}
 use Rattle.host_io.specs.Pieces.{err}
 use Rattle.tag_text.specs.Texts.{line}
-use Rattle.policy_choice.specs.All.{all, all_eq}
-use Rattle.rounds.specs.Course.{rounds}
+use Rattle.policy_choice.specs.All.{AllState, AllTag, all, all_eq}
+use Rattle.rounds.specs.Course.{Course, rounds}
 use Rattle.tag_loader.specs.Loads.{start_of}
 use Rattle.pump_line.specs.Task.{RunTask, Task, run, task_of}
 use Rattle.pump_cli.specs.Endings.{Outcome, outcome_of_course}
@@ -21,8 +21,11 @@ refused refusal = record { pieces = err (line (refusal_text refusal)) ∷ []; st
 -- ---- `run`
 
 -- one round robin from the image's start under the chosen policies, on a feed of these bytes
+abbrev pub course_of_run : RunTask → Picture → List ℕ → Course AllState AllTag
+course_of_run task picture fed = rounds all_eq all task.turns 0 (start_of task.choice picture) fed
+
 unfoldable pub outcome_of_run : RunTask → Picture → List ℕ → Outcome
-outcome_of_run task picture fed = outcome_of_course (rounds all_eq all task.turns 0 (start_of task.choice picture) fed)
+outcome_of_run task picture fed = outcome_of_course (course_of_run task picture fed)
 
 -- the input is fed as a whole
 abbrev pub outcome_of_fed : RunTask → Picture → Result (List ℕ) Refusal → Outcome

@@ -1,6 +1,6 @@
 //! The program, from the words, the files, the input and the two sinks to its status.
 
-ghost use Rattle.std.specs.Prelude.{IfOk, Some};
+ghost use Rattle.std.specs.Prelude.{IfOk, IfSome, Some};
 ghost use Rattle.rounds.specs.Course.{rounds};
 ghost use Rattle.pump_line.specs.Task.{run, task_of};
 ghost use Rattle.pump_line.specs.Told.{run_told, texts_of, told};
@@ -9,6 +9,7 @@ ghost use Rattle.pump_cli.specs.Endings.{outcome_of_course};
 ghost use Rattle.pump_cli.specs.Facts.{Does, PutsFaultBy, status_in};
 ghost use Rattle.pump_cli.specs.Outsides.{outside};
 ghost use Rattle.pump_cli.specs.Program.{outcome_of_file, outcome_of_run, outcome_of_task, program};
+ghost use Rattle.pump_cli.specs.Runs.{IsSafeRun, TellBytes, run_in};
 ghost use Rattle.pump_cli.specs.Theorem.{Answers};
 
 use crate::cut::Cut;
@@ -156,6 +157,9 @@ fn run_words<F: Files, S: Source, K: Sink, L: Sink>(
 ///
 /// Without fault and want of memory the bytes and the status are those of the machine that asks the chosen policies at
 /// every turn of every hart, on the whole input. `Answers` (specs/Theorem.antt) has the whole promise, fact by fact.
+///
+/// In that run the sentence of each chosen policy holds (`safe`): every unsealing used its key, every indirect jump is a listed
+/// edge, every store lies in its compartment's permitted words, every heap access in its pointer's live block.
 pub fn pump<F: Files, S: Source, K: Sink, L: Sink>(
     alloc: Global,
     words: &Vec<String>,
@@ -164,13 +168,16 @@ pub fn pump<F: Files, S: Source, K: Sink, L: Sink>(
     out: &mut K,
     err: &mut L,
 ) -> Status
-    ensures { Answers
+    ensures answers { Answers
         (program (texts_of words.now.items) (F.held files.old) (S.left input.old))
         (task_of (texts_of words.now.items)) result
         (outside F.held F.read_faults F.calls S.left S.closed S.faults K.taken K.faults
         L.taken L.faults files.old input.old out.old err.old)
         (outside F.held F.read_faults F.calls S.left S.closed S.faults K.taken K.faults
         L.taken L.faults files.new input.new out.new err.new) }
+    ensures safe { TellBytes (F.held files.old)
+        → IfSome (run_in (texts_of words.now.items) (F.held files.old) (S.left input.old))
+        IsSafeRun }
 {
     match run_words(alloc, words, files, input, out, err) {
         Ok(status) => status,

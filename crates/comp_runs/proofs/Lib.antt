@@ -1,0 +1,12 @@
+pub mod AccessLemmas
+pub mod AllowedLemmas
+pub mod GoLemmas
+pub mod LineLemmas
+pub mod RuleLemmas
+pub mod SafeLemmas
+pub mod ServeLemmas
+pub mod ServiceLemmas
+pub mod Standings
+pub mod StartLemmas
+pub mod StopLemmas
+pub mod TurnLemmas

@@ -1,0 +1,5 @@
+use Rattle.comp_runs.proofs.StartLemmas.{starts}
+use Rattle.comp_runs.proofs.law.start_law.Goals as goal
+
+pub returns : goal.returns
+returns c = starts

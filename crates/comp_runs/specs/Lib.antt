@@ -1,0 +1,4 @@
+pub mod CompLine
+pub mod CompSafe
+pub mod CompTurn
+pub mod OwnerBook

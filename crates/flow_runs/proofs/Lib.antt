@@ -1,0 +1,8 @@
+pub mod ImageLemmas
+pub mod KeepsLemmas
+pub mod LineLemmas
+pub mod RuleLemmas
+pub mod SafeLemmas
+pub mod StartLemmas
+pub mod TurnLemmas
+pub mod WalkLemmas

@@ -1,0 +1,4 @@
+pub mod EdgeWalk
+pub mod FlowLine
+pub mod FlowSafe
+pub mod FlowTurn

@@ -1,0 +1,5 @@
+use Rattle.heap_runs.proofs.Turning.{keeps}
+use Rattle.heap_runs.proofs.law.block_law.Goals as goal
+
+pub returns : goal.returns
+returns c = keeps

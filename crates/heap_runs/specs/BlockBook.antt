@@ -1,0 +1,61 @@
+-- The block book of a run: the blocks that were handed out, and which of them are live.
+use Rattle.std.specs.Prelude.{ℕ, ◌==◌, Bool, true, false, List, [], ◌∷◌, ◌++◌, map, Option, Some, None, if◌then◌else◌}
+use Rattle.std.specs.List.{filter, fold}
+use Rattle.policy_trait.specs.declared.services.Answer.{Answer}
+use Rattle.engine_trait.specs.Events.{Event}
+use Rattle.live_blocks.specs.declared.block.Block.{Block}
+use Rattle.heap_policy.specs.Heap.{words_of}
+use Rattle.heap_policy.specs.declared.tag.HeapTag.{HeapTag}
+use Rattle.heap_policy.specs.declared.tag.HeapTag.TheVariants.{Val, Ptr, Static, Cell, Free}
+use Rattle.part_turns.specs.Moments.{Service, service_of}
+
+-- a block that was handed out, and whether it has not been freed since
+pub record Handed : Type 0 where
+  pub block : Block
+  pub is_live : Bool
+
+-- in the order in which they were handed out
+abbrev pub BlockBook : Type 0
+BlockBook = List Handed
+
+-- the block of the number that the answer's tag has, at the answer's value, of so many bytes in whole words
+abbrev pub handed : ℕ → ℕ → HeapTag → BlockBook → BlockBook
+handed bytes value (Ptr number) book =
+    book ++ record { block = record { number = number; base = value; words = words_of bytes }; is_live = true } ∷ []
+handed bytes value Val book = book
+handed bytes value (Static content) book = book
+handed bytes value (Cell number content) book = book
+handed bytes value Free book = book
+
+abbrev pub handed_by : ℕ → Option (Answer HeapTag) → BlockBook → BlockBook
+handed_by bytes None book = book
+handed_by bytes (Some answer) book = handed bytes answer.value answer.tag book
+
+abbrev pub freed_where : ℕ → Handed → Handed
+freed_where number x = if x.block.number == number then record x { is_live = false } else x
+
+-- the block that the pointer has the number of is no more live
+abbrev pub freed : HeapTag → BlockBook → BlockBook
+freed (Ptr number) book = map (freed_where number) book
+freed Val book = book
+freed (Static content) book = book
+freed (Cell number content) book = book
+freed Free book = book
+
+-- 48 hands out a block of a0 bytes, 49 takes that of the pointer in a0 back
+abbrev pub blocks_by : BlockBook → Option (Service HeapTag) → BlockBook
+blocks_by book None = book
+blocks_by book (Some x) =
+    if x.number == 48 then handed_by x.arguments.a0 x.answer book else
+    if x.number == 49 then freed x.arguments.t0 book else
+    book
+
+abbrev pub blocks_after : BlockBook → Event HeapTag → BlockBook
+blocks_after book event = blocks_by book (service_of event)
+
+unfoldable pub block_book : List (Event HeapTag) → BlockBook
+block_book events = fold blocks_after [] events
+
+-- the live ones
+abbrev pub live_in : BlockBook → List Block
+live_in book = map (λ x. x.block) (filter (λ x. x.is_live) book)

@@ -1,0 +1,3 @@
+pub mod BlockBook
+pub mod HeapLine
+pub mod HeapSafe

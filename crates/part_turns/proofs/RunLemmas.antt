@@ -1,0 +1,88 @@
+-- What the turns of a part keep and promise, each run under the whole policy keeps and promises, from any sound machine on
+-- in which the part is on and its line holds.
+use Rattle.std.proofs.Common.{◌≡◌, ℕ, true, List, [], ◌∷◌, ◌++◌, map, ap, sym, subst, ◌∙◌, append_assoc, append-nil}
+use Rattle.policy_trait.specs.Laws.{KeepsLaws}
+use Rattle.policy_trait.specs.Model.{PolicyModel}
+use Rattle.engine_trait.specs.Events.{Event, event_of}
+use Rattle.engine_trait.specs.Machine.{IsMachine, Machine}
+use Rattle.engine_trait.specs.Runs.{Item, Trace, fed, run_along, turn}
+use Rattle.engine_trait.specs.Turn.{turn_of}
+use Rattle.engine_trait.proofs.MachineLemmas.{turn_keeps}
+use Rattle.policy_parts.specs.Part.{IsPart}
+use Rattle.policy_parts.specs.View.{View}
+use Rattle.part_turns.specs.Keeps.{Keeps, RunKeeps}
+use Rattle.part_turns.specs.Maps.{event_with, seen_by}
+use Rattle.part_turns.specs.Moments.{Moment}
+use Rattle.part_turns.proofs.MachineFacts.{seen_sound}
+use Rattle.part_turns.proofs.TurnFacts.{turn_shown}
+
+-- ---- the moments of a run
+
+module _ {U : Type 0} (promise : List (Event U) → Event U → Type 0) where
+  -- each of these turns is as promised, with those before it
+  abbrev Promised : List (Event U) → List (Event U) → Type 0
+  Promised before events = (x : Moment events) → promise (before ++ x.before) x.event
+
+  none_promised : (before : List (Event U)) → Promised before []
+  none_promised before x = by_parts x.before x.event x.later x.parts
+    where
+      by_parts : (front : List (Event U)) (event : Event U) (later : List (Event U)) → front ++ event ∷ later ≡ [] → promise (before ++ front) event
+      by_parts [] event later parts = absurd cc
+      by_parts (first ∷ front) event later parts = absurd cc
+
+  more_promised : (before : List (Event U)) (e : Event U) (events : List (Event U)) → promise before e → Promised (before ++ e ∷ []) events
+      → Promised before (e ∷ events)
+  more_promised before e events here after x = by_parts x.before x.event x.later x.parts
+    where
+      by_parts : (front : List (Event U)) (event : Event U) (later : List (Event U)) → front ++ event ∷ later ≡ e ∷ events
+          → promise (before ++ front) event
+      by_parts [] event later parts =
+          let same : event ≡ e = cc in
+          subst (λ (turns : List (Event U)). promise turns event) (sym (append-nil before)) (subst (promise before) (sym same) here)
+      by_parts (first ∷ front) event later parts =
+          let same : e ≡ first = cc in
+          let rest : front ++ event ∷ later ≡ events = cc in
+          let place : (before ++ e ∷ []) ++ front ≡ before ++ first ∷ front =
+          append_assoc before (e ∷ []) front ∙ ap (λ (turn : Event U). before ++ turn ∷ front) same in
+          subst (λ (turns : List (Event U)). promise turns event) place
+          (after (record { before = front; event = event; later = later; parts = rest }))
+
+-- ---- a run
+
+module _ {T S U V : Type 0} (w : PolicyModel T S) (m : PolicyModel U V) (l : View T S U V) (holds : S → Type 0) (laws : KeepsLaws w holds)
+    (part : IsPart w m l) (line : List (Event U) → Machine V U → Type 0) (promise : List (Event U) → Event U → Type 0)
+    (keeps : Keeps m line promise) where
+  abbrev seen : List (Event T) → List (Event U)
+  seen events = map (event_with l.tag) events
+
+  -- what a run keeps that goes on after some turns
+  record KeepsOn (before : List (Event U)) (trace : Trace S T) : Type 0 where
+    promises : Promised promise before (seen trace.events)
+    kept : line (before ++ seen trace.events) (seen_by l trace.machine)
+
+  keeps_on : (before : List (Event U)) (s : Machine S T) (feed : List ℕ) (items : List Item) → l.is_on s.policy ≡ true → IsMachine w s
+      → holds s.policy → line before (seen_by l s) → KeepsOn before (run_along w s feed items)
+  keeps_on before s feed [] on is valid held = record {
+    promises = none_promised promise before;
+    kept = subst (λ (turns : List (Event U)). line turns (seen_by l s)) (sym (append-nil before)) held;
+  }
+  keeps_on before s feed (fed byte ∷ items) on is valid held = keeps_on before s (feed ++ byte ∷ []) items on is valid held
+  keeps_on before s feed (turn h ∷ items) on is valid held =
+      let e = event_with l.tag (event_of w s feed h) in
+      let next = turn_of w s feed h in
+      let shown = turn_shown w m l holds laws part s on feed h in
+      let whole = turn_keeps w holds laws s valid is feed h in
+      let now = keeps.turn before (seen_by l s) h e (seen_by l next.machine) (seen_sound w m l part s on is) held (shown.turns is valid) in
+      let trace = run_along w next.machine next.feed items in
+      let rest : KeepsOn (before ++ e ∷ []) trace =
+      keeps_on (before ++ e ∷ []) next.machine next.feed items shown.stays_on whole.stays.machine whole.valid now.1 in
+      record {
+        promises = more_promised promise before e (seen trace.events) now.0 rest.promises;
+        kept = subst (λ (turns : List (Event U)). line turns (seen_by l trace.machine)) (append_assoc before (e ∷ []) (seen trace.events)) rest.kept;
+      }
+
+  pub runs_keep : (s : Machine S T) (feed : List ℕ) (items : List Item) → l.is_on s.policy ≡ true → IsMachine w s → holds s.policy
+      → line [] (seen_by l s) → RunKeeps l line promise (run_along w s feed items)
+  runs_keep s feed items on is valid held =
+      let run = keeps_on [] s feed items on is valid held in
+      record { promises = run.promises; kept = run.kept }

@@ -1,0 +1,14 @@
+use Rattle.part_turns.proofs.MachineFacts.{seen_sound}
+use Rattle.part_turns.proofs.TurnFacts.{turn_shown}
+use Rattle.part_turns.proofs.law.turn_law.Goals as goal
+
+pub returns-clause-turn : goal.returns-clause-turn
+returns-clause-turn g c l s feed h part on is valid =
+    (turn_shown g.P.Policy.model g.Q.Policy.model l g.P.Policy.holds g.met.P.Policy.lawful part s on feed h).turns is valid
+
+pub returns-clause-on : goal.returns-clause-on
+returns-clause-on g c l s feed h part on =
+    (turn_shown g.P.Policy.model g.Q.Policy.model l g.P.Policy.holds g.met.P.Policy.lawful part s on feed h).stays_on
+
+pub returns-clause-sound : goal.returns-clause-sound
+returns-clause-sound g c l s part on is = seen_sound g.P.Policy.model g.Q.Policy.model l part s on is

@@ -1,0 +1,5 @@
+pub mod Keeps
+pub mod Maps
+pub mod Moments
+pub mod Start
+pub mod Turns

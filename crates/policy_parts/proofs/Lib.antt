@@ -1,0 +1,4 @@
+mod MapLemmas
+pub mod OnLemmas
+pub mod PairLemmas
+mod WithinLemmas

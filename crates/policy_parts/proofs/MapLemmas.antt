@@ -1,0 +1,24 @@
+-- What may be absent, and is changed where it is there.
+use Rattle.std.proofs.Common.{◌≡◌, Option, Some, None, option_map, refl, subst}
+use Rattle.std.specs.Option.{ForSome}
+use Rattle.policy_trait.specs.Laws.{KeepsValue}
+use Rattle.policy_trait.specs.Maps.{answer_by, args_by}
+use Rattle.policy_trait.specs.declared.services.Answer.{Answer}
+use Rattle.policy_trait.specs.declared.services.Args.{Args}
+
+pub mapped_twice : {A B C : Type 0} (f : B → C) (g : A → B) (x : Option A) → option_map f (option_map g x) ≡ option_map (λ y. f (g y)) x
+mapped_twice f g None = refl
+mapped_twice f g (Some x) = refl
+
+-- what holds of each changed value
+pub for_some_mapped : {A B : Type 0} (f : A → B) (P : B → Type 0) (x : Option A) → ForSome x (λ y. P (f y)) → ForSome (option_map f x) P
+for_some_mapped f P None all = λ y e. absurd (let h : None ≡ Some y = e in cc)
+for_some_mapped {A} {B} f P (Some x) all = λ y e. subst P (some_is (f x) y e) (all x refl)
+  where
+    some_is : (y z : B) → Some y ≡ Some z → y ≡ z
+    some_is y z e = cc
+
+-- an answer with another tag keeps its value
+pub value_mapped : {T U : Type 0} (f : T → U) (a : Args T) (x : Option (Answer T)) → ForSome x (KeepsValue a)
+    → ForSome (option_map (answer_by f) x) (KeepsValue (args_by f a))
+value_mapped f a x all = for_some_mapped (answer_by f) (KeepsValue (args_by f a)) x all

@@ -1,0 +1,135 @@
+-- Attacks end in a stop: a turn that retired would have been as its policy promises.
+use Rattle.std.proofs.Common.{◌≡◌, inl, inr, ℕ, Bool, true, false, List, Option, Some, None, option_map, refl, sym, ap, ◌∙◌}
+use Rattle.policy_trait.specs.Model.{PolicyModel}
+use Rattle.policy_trait.specs.declared.birth.Birth.{Birth}
+use Rattle.sealing_policy.specs.Sealing.{sealing}
+use Rattle.sealing_policy.specs.declared.tag.SealTag.{SealTag}
+use Rattle.compartment_policy.specs.Compartments.{compartments}
+use Rattle.compartment_policy.specs.declared.tag.CompartmentTag.{CompartmentTag}
+use Rattle.flow_policy.specs.Flow.{flow}
+use Rattle.flow_policy.specs.declared.tag.FlowTag.{FlowTag}
+use Rattle.heap_policy.specs.Heap.{heap}
+use Rattle.heap_policy.specs.declared.tag.HeapTag.{HeapTag}
+use Rattle.policy_choice.specs.All.{AllState, AllTag, all}
+use Rattle.engine_trait.specs.Events.{Call, Event, Work, event_of, retired}
+use Rattle.engine_trait.specs.Machine.{Machine, is_ready_in}
+use Rattle.engine_trait.specs.Turn.{turn_of}
+use Rattle.policy_parts.specs.Part.{IsPart}
+use Rattle.policy_parts.specs.View.{View}
+use Rattle.part_turns.proofs.MachineFacts.{seen_sound}
+use Rattle.part_turns.proofs.TurnFacts.{turn_shown}
+use Rattle.part_turns.specs.Keeps.{Keeps}
+use Rattle.part_turns.specs.Maps.{call_by, event_with, seen_by, work_by}
+use Rattle.part_turns.specs.Moments.{Service, service_by}
+use Rattle.seal_runs.proofs.TurnLemmas.{keeps_line}
+use Rattle.seal_runs.specs.KeyBook.{key_book}
+use Rattle.seal_runs.specs.SealLine.{SealLine}
+use Rattle.seal_runs.specs.SealSafe.{SealTurn}
+use Rattle.comp_runs.proofs.TurnLemmas.{comp_keeps}
+use Rattle.comp_runs.specs.CompLine.{CompLine}
+use Rattle.comp_runs.specs.CompTurn.{CompTurn}
+use Rattle.flow_runs.proofs.KeepsLemmas.{turns_keep}
+use Rattle.flow_runs.specs.FlowLine.{FlowLine}
+use Rattle.flow_runs.specs.FlowTurn.{FlowTurn}
+use Rattle.heap_runs.proofs.Turning.{keeps as heap_keeps}
+use Rattle.heap_runs.specs.BlockBook.{block_book}
+use Rattle.heap_runs.specs.HeapLine.{HeapLine}
+use Rattle.heap_runs.specs.HeapSafe.{HeapTurn, is_in_heap}
+use Rattle.run_props.proofs.EndLemmas.{ready_ends, retired_call}
+use Rattle.run_props.proofs.PartLemmas.{all_laws, comp_is_part, flow_is_part, heap_is_part, seal_is_part}
+use Rattle.run_props.specs.Attacks.{GoesAstray, MissesBlock, Trespasses, UnsealsWithoutKey, enters, forged, outside, stores, unlisted}
+use Rattle.run_props.specs.Ends.{IsStopped}
+use Rattle.run_props.specs.Holds.{AllHold}
+use Rattle.run_props.specs.Line.{InLine}
+use Rattle.run_props.specs.Views.{comp_view, flow_view, heap_view, seal_view}
+
+module _ (s : Machine AllState AllTag) (feed : List ℕ) (h : ℕ) where
+  abbrev turn : Event AllTag
+  turn = event_of all s feed h
+
+  module _ {U V : Type 0} (m : PolicyModel U V) (l : View AllTag AllState U V) (line : List (Event U) → Machine V U → Type 0)
+      (promise : List (Event U) → Event U → Type 0) (part : IsPart all m l) (keeps : Keeps m line promise) (events : List (Event U))
+      (stands : InLine l line events s) (ready : is_ready_in s.core h ≡ true) where
+    -- the turn is as the policy promises
+    promised : promise events (event_with l.tag turn)
+    promised =
+        (keeps.turn events (seen_by l s) h (event_with l.tag turn) (seen_by l (turn_of all s feed h).machine)
+        (seen_sound all m l part s stands.on stands.sound) stands.held
+        ((turn_shown all m l AllHold all_laws part s stands.on feed h).turns stands.sound stands.valid)).0
+
+    -- one that cannot have retired ended in a stop
+    stopped_unless : (promise events (event_with l.tag turn) → retired turn ≡ true → ⊥) → IsStopped turn
+    stopped_unless never = elim (ready_ends all s feed h ready) [
+      | inl done ↦ absurd (never promised done)
+      | inr stop ↦ stop
+    ]
+
+  -- ---- sealing
+
+  module _ (events : List (Event SealTag)) (stands : InLine seal_view SealLine events s) (ready : is_ready_in s.core h ≡ true)
+      (attack : UnsealsWithoutKey (event_with seal_view.tag turn)) where
+    abbrev seen_service : Option (Call AllTag) → Option (Work AllTag) → Option (Service SealTag)
+    seen_service call work = service_by (option_map (call_by seal_view.tag) call) (option_map (work_by seal_view.tag) work)
+
+    by_call : SealTurn (key_book events) (event_with seal_view.tag turn) → retired turn ≡ true
+        → (call : Option (Call AllTag)) → turn.call ≡ call → option_map (call_by seal_view.tag) call ≡ Some attack.call → ⊥
+    by_call kept done None is same = absurd cc
+    by_call kept done (Some call) is same =
+        let served = retired_call all s feed h ready call is done in
+        let seen : call_by seal_view.tag call ≡ attack.call = cc in
+        let service = ap (λ c. seen_service c turn.work) is ∙ ap (λ w. seen_service (Some call) w) served.1 in
+        let uses = kept.unseals _ service (ap (λ (c : Call SealTag). c.number) seen ∙ attack.unseals) in
+        attack.without uses.key (sym (ap (λ (c : Call SealTag). c.arguments.t0) seen) ∙ uses.sealed) (sym (ap (λ (c : Call SealTag). c.arguments.t1) seen) ∙ uses.held)
+
+    pub seal_stops : IsStopped turn
+    seal_stops =
+        stopped_unless sealing seal_view SealLine (λ before event. SealTurn (key_book before) event) seal_is_part keeps_line events stands ready
+        (λ kept done. by_call kept done turn.call refl attack.called)
+
+  -- ---- compartments
+
+  module _ (birth : ℕ → Birth) (entries : List ℕ) (events : List (Event CompartmentTag))
+      (stands : InLine comp_view (CompLine birth entries) events s) (ready : is_ready_in s.core h ≡ true) where
+    trespass_fails : Trespasses birth entries events (event_with comp_view.tag turn) → CompTurn birth entries events (event_with comp_view.tag turn)
+        → retired turn ≡ true → ⊥
+    trespass_fails (stores touch accessed is_store foreign) kept done =
+        let permitted = (kept.writes done).stores touch accessed is_store in absurd (cc (permitted, foreign))
+    trespass_fails (enters without) kept done = without (kept.follows done)
+
+    pub comp_stops : Trespasses birth entries events (event_with comp_view.tag turn) → IsStopped turn
+    comp_stops attack =
+        stopped_unless compartments comp_view (CompLine birth entries) (CompTurn birth entries) comp_is_part (comp_keeps birth entries) events stands ready
+        (trespass_fails attack)
+
+  -- ---- control flow
+
+  module _ (birth : ℕ → Birth) (words : List ℕ) (edges : List (ℕ × ℕ)) (events : List (Event FlowTag))
+      (stands : InLine flow_view (FlowLine birth words edges) events s) (ready : is_ready_in s.core h ≡ true) where
+    stray_fails : GoesAstray birth words edges events (event_with flow_view.tag turn) → FlowTurn birth words edges events (event_with flow_view.tag turn)
+        → retired turn ≡ true → ⊥
+    stray_fails (outside no_code) kept done = let code = (kept.code done).code in absurd (cc (code, no_code))
+    stray_fails (unlisted x last jumps without) kept done = without (kept.listed done x last jumps)
+
+    pub flow_stops : GoesAstray birth words edges events (event_with flow_view.tag turn) → IsStopped turn
+    flow_stops attack =
+        stopped_unless flow flow_view (FlowLine birth words edges) (FlowTurn birth words edges) flow_is_part (turns_keep birth words edges) events stands ready
+        (stray_fails attack)
+
+  -- ---- heap safety
+
+  module _ (base top : ℕ) (events : List (Event HeapTag))
+      (stands : InLine heap_view (HeapLine base top) events s) (ready : is_ready_in s.core h ≡ true) where
+    miss_fails : MissesBlock base top (block_book events) (event_with heap_view.tag turn) → HeapTurn base top (block_book events) (event_with heap_view.tag turn)
+        → retired turn ≡ true → ⊥
+    miss_fails (outside touch asked number accessed asks pointer without) kept done = by_place (is_in_heap base top touch.address) refl
+      where
+        by_place : (inside : Bool) → is_in_heap base top touch.address ≡ inside → ⊥
+        by_place true is = without (kept.inside touch asked done accessed asks is)
+        by_place false is = let plain = kept.outside touch asked done accessed asks is in absurd (cc (plain, pointer))
+    miss_fails (forged touch asked accessed asks inside without) kept done =
+        let reaches = kept.inside touch asked done accessed asks inside in without reaches.block.number reaches.pointer
+
+    pub heap_stops : MissesBlock base top (block_book events) (event_with heap_view.tag turn) → IsStopped turn
+    heap_stops attack =
+        stopped_unless heap heap_view (HeapLine base top) (λ before event. HeapTurn base top (block_book before) event) heap_is_part (heap_keeps base top) events stands ready
+        (miss_fails attack)

@@ -1,0 +1,125 @@
+-- What an image says in numbers: how many compartments there are, and where the heap region lies; and that the birth of each
+-- word agrees.
+use Rattle.std.proofs.Common.{◌≡◌, ℕ, ◌+◌, ◌*◌, ◌/◌, ◌%◌, ◌^◌, ◌<◌, ◌≤◌, Bool, true, false, ◌&&◌, max, nat_le, nat_lt, List, [], ◌∷◌, Option, Some, None, ap, refl, ◌∙◌, if◌then◌else◌, arith}
+use Rattle.std.specs.List.{find, fold}
+use Rattle.std.specs.Option.{is_some}
+use Rattle.std.proofs.lemmas.Bool.{eqb-true, leb-true}
+use Rattle.std.proofs.lemmas.List.Elements.{All-nil}
+use Rattle.std.proofs.Math.Nat.{le-max_left, le-max_right, max-le}
+use Rattle.image_format.specs.Conditions.{IsImage, are_rows, in_order, is_aligned, is_compartment, is_compartment_after, is_owner, is_range, is_u32, whole}
+use Rattle.image_format.specs.Picture.{Picture}
+use Rattle.image_format.specs.declared.rows.CompartmentRange.{CompartmentRange}
+use Rattle.image_format.proofs.FieldLaws.{both}
+use Rattle.compartment_policy.specs.Compartments.{IsCount}
+use Rattle.heap_policy.specs.Heap.{IsHeap}
+use Rattle.policy_choice.specs.All.{compartment_count, heap_of}
+use Rattle.tag_loader.specs.Births.{birth_by, birth_of, id_of, is_labelled_by, is_owned_by, lies_in, lies_in_heap}
+
+-- ---- the count of compartments
+
+abbrev counted : ℕ → List CompartmentRange → ℕ
+counted count rows = fold (λ (most : ℕ) (row : CompartmentRange). max most (row.owner + 1)) count rows
+
+-- it is at least what was counted before
+count_least : (count : ℕ) (rows : List CompartmentRange) → count ≤ counted count rows
+count_least count [] = omega arith
+count_least count (row ∷ rows) =
+    let here = le-max_left count (row.owner + 1) in
+    let rest = count_least (max count (row.owner + 1)) rows in
+    omega (arith, here, rest)
+
+owner_fits : (ram : ℕ) (row : CompartmentRange) → is_compartment ram row ≡ true → row.owner ≤ 31
+owner_fits ram row fits =
+    let masks = both (is_range ram row.range && is_owner row.owner && is_u32 row.into) (is_u32 row.write) fits in
+    let into = both (is_range ram row.range && is_owner row.owner) (is_u32 row.into) masks.0 in
+    leb-true row.owner 31 (both (is_range ram row.range) (is_owner row.owner) into.0).1
+
+-- it is never more than 32
+count_most : (ram : ℕ) (before : Option CompartmentRange) (count : ℕ) (rows : List CompartmentRange) → count ≤ 32
+    → are_rows whole (is_compartment ram) is_compartment_after before rows ≡ true → counted count rows ≤ 32
+count_most ram before count [] few are = few
+count_most ram before count (row ∷ rows) few are =
+    let parts = both (is_compartment ram row && in_order is_compartment_after before row) _ are in
+    let owner : row.owner ≤ 31 = owner_fits ram row (both (is_compartment ram row) _ parts.0).0 in
+    let next : row.owner + 1 ≤ 32 = omega arith in
+    count_most ram (Some row) (max count (row.owner + 1)) rows (max-le few next) parts.1
+
+pub count_is : (g : Picture) → IsImage g → IsCount (compartment_count g.compartments)
+count_is g is = (count_least 1 g.compartments, count_most g.ram None 1 g.compartments (omega arith) is.compartments.rows)
+
+-- ---- the owners of words
+
+-- a word outside all rows is owned by 0
+abbrev owner_in : Option CompartmentRange → ℕ
+owner_in None = 0
+owner_in (Some row) = row.owner
+
+below_either : (test : Bool) (count : ℕ) (row : CompartmentRange) (rows : List CompartmentRange) (found : Option CompartmentRange)
+    → owner_in found < counted (max count (row.owner + 1)) rows → owner_in (if test then Some row else found) < counted count (row ∷ rows)
+below_either true count row rows found rest =
+    let here = le-max_right count (row.owner + 1) in
+    let most = count_least (max count (row.owner + 1)) rows in
+    omega (arith, here, most)
+below_either false count row rows found rest = rest
+
+found_below : (test : CompartmentRange → Bool) (count : ℕ) (rows : List CompartmentRange) → 1 ≤ count
+    → owner_in (find test rows) < counted count rows
+found_below test count [] some = some
+found_below test count (row ∷ rows) some =
+    let more : 1 ≤ max count (row.owner + 1) = omega (arith, le-max_left count (row.owner + 1)) in
+    below_either (test row) count row rows (find test rows) (found_below test (max count (row.owner + 1)) rows more)
+
+owner_by : (row : Option CompartmentRange) (code : Bool) (label : Option ℕ) (heap : Bool) → (birth_by row code label heap).owner ≡ owner_in row
+owner_by None code label heap = refl
+owner_by (Some row) code label heap = refl
+
+pub owner_below : (g : Picture) (address : ℕ) → (birth_of g address).owner < compartment_count g.compartments
+unfolding birth_of
+owner_below g address =
+    let row = find (is_owned_by address) g.compartments in
+    let owner = owner_by row (is_some (find (lies_in address) g.code)) (id_of (find (is_labelled_by address) g.labels)) (lies_in_heap g address) in
+    let below = found_below (is_owned_by address) 1 g.compartments (omega arith) in
+    omega (arith, owner, below)
+
+-- ---- the heap region
+
+pub record IsRegion (base bytes : ℕ) : Type 0 where
+  pub aligned : base % 4 ≡ 0
+  pub small : base + bytes < 2 ^ 32
+
+pub ends_inside : (g : Picture) → IsImage g → g.heap_base + g.heap_bytes ≤ g.ram
+ends_inside g is = leb-true (g.heap_base + g.heap_bytes) g.ram (both (is_aligned g.heap_bytes) _ is.heap_bytes).1
+
+pub region_is : (g : Picture) → IsImage g → IsRegion g.heap_base g.heap_bytes
+region_is g is =
+    let inside = ends_inside g is in
+    let few : g.ram ≤ 16777216 = leb-true g.ram 16777216 (both (is_aligned g.ram && nat_le 4 g.ram) (nat_le g.ram 16777216) is.ram).1 in
+    record { aligned = eqb-true (g.heap_base % 4) 0 (both (is_aligned g.heap_base) _ is.heap_base).0; small = omega arith }
+
+pub heap_is : (g : Picture) → IsImage g → IsHeap (heap_of g)
+heap_is g is =
+    let region = region_is g is in
+    record {
+      space = record {
+        aligned = region.aligned;
+        rising = omega arith;
+        small = region.small;
+        within = All-nil _;
+        numbered = λ i j d later below. absurd (omega arith);
+        disjoint = λ i j d later below. absurd (omega arith);
+      };
+      below = All-nil _;
+      few = omega arith;
+    }
+
+heap_by : (row : Option CompartmentRange) (code : Bool) (label : Option ℕ) (heap : Bool) → (birth_by row code label heap).heap ≡ heap
+heap_by None code label heap = refl
+heap_by (Some row) code label heap = refl
+
+-- the birth of a word says whether it lies in the region
+pub heap_told : (g : Picture) (n : ℕ)
+    → (birth_of g (4 * n)).heap ≡ (nat_le g.heap_base (4 * (4 * n / 4)) && nat_lt (4 * (4 * n / 4)) (g.heap_base + g.heap_bytes))
+unfolding birth_of
+heap_told g n =
+    let address : 4 * n ≡ 4 * (4 * n / 4) = omega arith in
+    heap_by (find (is_owned_by (4 * n)) g.compartments) _ _ _ ∙ ap (lies_in_heap g) address

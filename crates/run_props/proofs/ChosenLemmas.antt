@@ -1,0 +1,84 @@
+-- The chosen policies at the start of an image: what each keeps of its value, their sound machine, and each one's value.
+use Rattle.std.proofs.Common.{◌≡◌, ℕ, ◌≤◌, Bool, true, false, [], map, ap, arith}
+use Rattle.std.specs.Option.{is_some, unwrap_or}
+use Rattle.std.proofs.Math.Nat.{max-le}
+use Rattle.image_format.specs.Conditions.{IsImage}
+use Rattle.image_format.specs.Picture.{Picture}
+use Rattle.policy_trait.specs.Model.{PolicyModel}
+use Rattle.sealing_policy.specs.Sealing.{HasFewKeys, sealing}
+use Rattle.compartment_policy.specs.Compartments.{IsCount, compartments}
+use Rattle.flow_policy.specs.Flow.{HoldsAlways, flow}
+use Rattle.heap_policy.specs.Heap.{IsHeap, empty_heap, heap}
+use Rattle.policy_product.specs.Maybe.{MaybeHolds, room_in}
+use Rattle.policy_choice.specs.All.{all, chosen, compartment_count, heap_of, pair_of, part_if}
+use Rattle.policy_choice.specs.declared.choice.Choice.{Choice}
+use Rattle.engine_trait.specs.Machine.{IsMachine}
+use Rattle.tag_loader.specs.Start.{start_machine}
+use Rattle.run_props.specs.Views.{comp_view, flow_view, heap_view, seal_view}
+use Rattle.run_props.proofs.BirthLemmas.{count_is, ends_inside, heap_is}
+use Rattle.run_props.specs.Holds.{AllHold}
+use Rattle.run_props.proofs.StartLemmas.{sound_start}
+
+-- ---- a policy that may be chosen
+
+module _ {S : Type 0} (s : S) where
+  holds_if : (holds : S → Type 0) (on : Bool) → holds s → MaybeHolds holds (part_if on s)
+  holds_if holds true held = held
+  holds_if holds false held = tt
+
+  on_if : (on : Bool) → on ≡ true → is_some (part_if on s).part ≡ true
+  on_if on is = ap (λ (b : Bool). is_some (part_if b s).part) is
+
+  value_if : (on : Bool) (absent : S) → on ≡ true → unwrap_or (part_if on s).part absent ≡ s
+  value_if on absent is = ap (λ (b : Bool). unwrap_or (part_if b s).part absent) is
+
+  room_if : {T : Type 0} (m : PolicyModel T S) (on : Bool) (ram : ℕ) → m.room s ≤ ram → room_in m (part_if on s).part ≤ ram
+  room_if m true ram fits = fits
+  room_if m false ram fits = omega arith
+
+-- ---- all of them
+
+module _ (choice : Choice) (g : Picture) where
+  pub start_holds : IsImage g → AllHold (chosen choice g)
+  start_holds is = (
+    holds_if 0 HasFewKeys choice.seal (omega arith),
+    (
+      holds_if (compartment_count g.compartments) IsCount choice.comp (count_is g is),
+      (holds_if (map pair_of g.edges) HoldsAlways choice.flow tt, holds_if (heap_of g) IsHeap choice.heap (heap_is g is)),
+    ),
+  )
+
+  room_fits : IsImage g → all.room (chosen choice g) ≤ g.ram
+  room_fits is =
+      max-le (room_if 0 sealing choice.seal g.ram (omega arith))
+      (max-le (room_if (compartment_count g.compartments) compartments choice.comp g.ram (omega arith))
+      (max-le (room_if (map pair_of g.edges) flow choice.flow g.ram (omega arith)) (room_if (heap_of g) heap choice.heap g.ram (ends_inside g is))))
+
+  pub start_sound : IsImage g → IsMachine all (start_machine all (chosen choice g) g)
+  start_sound is = sound_start all (chosen choice g) g is (room_fits is)
+
+  -- ---- each of them, where it is chosen
+
+  pub seal_on : choice.seal ≡ true → seal_view.is_on (chosen choice g) ≡ true
+  seal_on on = on_if 0 choice.seal on
+
+  pub seal_value : choice.seal ≡ true → seal_view.value (chosen choice g) ≡ 0
+  seal_value on = value_if 0 choice.seal 0 on
+
+  pub comp_on : choice.comp ≡ true → comp_view.is_on (chosen choice g) ≡ true
+  comp_on on = on_if (compartment_count g.compartments) choice.comp on
+
+  pub comp_value : choice.comp ≡ true → comp_view.value (chosen choice g) ≡ compartment_count g.compartments
+  comp_value on = value_if (compartment_count g.compartments) choice.comp 0 on
+
+  pub flow_on : choice.flow ≡ true → flow_view.is_on (chosen choice g) ≡ true
+  flow_on on = on_if (map pair_of g.edges) choice.flow on
+
+  pub flow_value : choice.flow ≡ true → flow_view.value (chosen choice g) ≡ map pair_of g.edges
+  flow_value on = value_if (map pair_of g.edges) choice.flow [] on
+
+  pub heap_on : choice.heap ≡ true → heap_view.is_on (chosen choice g) ≡ true
+  heap_on on = on_if (heap_of g) choice.heap on
+
+  pub heap_value : choice.heap ≡ true → heap_view.value (chosen choice g) ≡ heap_of g
+  heap_value on = value_if (heap_of g) choice.heap (empty_heap 0 0) on

@@ -1,0 +1,133 @@
+-- What each run of an image keeps of each chosen policy, and that it is safe.
+use Rattle.std.proofs.Common.{◌≡◌, ℕ, ◌*◌, true, List, map}
+use Rattle.image_format.specs.Conditions.{IsImage}
+use Rattle.image_format.specs.Picture.{Picture}
+use Rattle.sealing_policy.specs.Sealing.{sealing}
+use Rattle.sealing_policy.specs.declared.tag.SealTag.{SealTag}
+use Rattle.compartment_policy.specs.Compartments.{compartments}
+use Rattle.compartment_policy.specs.declared.tag.CompartmentTag.{CompartmentTag}
+use Rattle.flow_policy.specs.Flow.{flow}
+use Rattle.flow_policy.specs.declared.tag.FlowTag.{FlowTag}
+use Rattle.heap_policy.specs.Heap.{HeapState, heap}
+use Rattle.heap_policy.specs.declared.tag.HeapTag.{HeapTag}
+use Rattle.policy_trait.specs.Model.{PolicyModel}
+use Rattle.policy_choice.specs.All.{AllState, AllTag, all, chosen, compartment_count, heap_of, pair_of}
+use Rattle.policy_parts.specs.Part.{IsPart}
+use Rattle.policy_parts.specs.View.{View}
+use Rattle.policy_choice.specs.declared.choice.Choice.{Choice}
+use Rattle.engine_trait.specs.Events.{Event}
+use Rattle.engine_trait.specs.Machine.{Machine}
+use Rattle.engine_trait.specs.Runs.{Item, Trace}
+use Rattle.part_turns.specs.Keeps.{RunKeeps}
+use Rattle.tag_loader.specs.Births.{birth_of}
+use Rattle.tag_loader.specs.Start.{memory_of, start_machine}
+use Rattle.seal_runs.specs.KeyBook.{key_book}
+use Rattle.seal_runs.specs.SealLine.{SealLine}
+use Rattle.seal_runs.specs.SealSafe.{SealTurn}
+use Rattle.seal_runs.proofs.StartLemmas.{first_line as seal_starts}
+use Rattle.seal_runs.proofs.TurnLemmas.{keeps_line as seal_keeps}
+use Rattle.comp_runs.specs.CompLine.{CompLine}
+use Rattle.comp_runs.specs.CompTurn.{CompTurn}
+use Rattle.flow_runs.specs.FlowLine.{FlowLine}
+use Rattle.flow_runs.specs.FlowTurn.{FlowTurn}
+use Rattle.comp_runs.proofs.SafeLemmas.{comp_safe}
+use Rattle.comp_runs.proofs.StartLemmas.{starts as comp_starts}
+use Rattle.comp_runs.proofs.TurnLemmas.{comp_keeps}
+use Rattle.flow_runs.proofs.KeepsLemmas.{turns_keep as flow_keeps}
+use Rattle.flow_runs.proofs.SafeLemmas.{run_is_safe as flow_safe}
+use Rattle.flow_runs.proofs.StartLemmas.{holds_at_the_start as flow_starts}
+use Rattle.heap_runs.specs.BlockBook.{block_book}
+use Rattle.heap_runs.specs.HeapLine.{HeapLine}
+use Rattle.heap_runs.specs.HeapSafe.{HeapTurn}
+use Rattle.heap_runs.proofs.Starts.{starts as heap_starts}
+use Rattle.heap_runs.proofs.Turning.{keeps as heap_keeps}
+use Rattle.run_props.specs.Line.{InLine}
+use Rattle.run_props.specs.Safe.{IsInLine, IsSafe, heap_top}
+use Rattle.run_props.specs.Views.{comp_view, events_by, flow_view, heap_view, seal_view}
+use Rattle.run_props.proofs.BirthLemmas.{heap_told, owner_below, region_is}
+use Rattle.run_props.proofs.ChosenLemmas.{comp_on, comp_value, flow_on, flow_value, heap_on, heap_value, seal_on, seal_value, start_holds, start_sound}
+use Rattle.run_props.proofs.PartLemmas.{comp_is_part, flow_is_part, heap_is_part, seal_is_part}
+use Rattle.run_props.proofs.PartRuns.{fed_run, part_keeps}
+use Rattle.run_props.proofs.StayLemmas.{run_stays}
+
+module _ (choice : Choice) (g : Picture) (feed : List ℕ) (items : List Item) (is : IsImage g) where
+  abbrev run : Trace AllState AllTag
+  run = fed_run choice g feed items
+
+  -- ---- each policy
+
+  abbrev seal_promise : List (Event SealTag) → Event SealTag → Type 0
+  seal_promise before event = SealTurn (key_book before) event
+
+  seal_keeps_run : choice.seal ≡ true → RunKeeps seal_view SealLine seal_promise run
+  seal_keeps_run on =
+      part_keeps choice g feed items sealing seal_view SealLine seal_promise 0 is seal_is_part seal_keeps
+      (seal_on choice g on) (seal_value choice g on) (seal_starts (birth_of g) (memory_of g) g.entries)
+
+  abbrev comp_line : List (Event CompartmentTag) → Machine ℕ CompartmentTag → Type 0
+  comp_line = CompLine (birth_of g) g.entries
+
+  abbrev comp_promise : List (Event CompartmentTag) → Event CompartmentTag → Type 0
+  comp_promise = CompTurn (birth_of g) g.entries
+
+  comp_keeps_run : choice.comp ≡ true → RunKeeps comp_view comp_line comp_promise run
+  comp_keeps_run on =
+      let count = compartment_count g.compartments in
+      part_keeps choice g feed items compartments comp_view comp_line comp_promise count is comp_is_part
+      (comp_keeps (birth_of g) g.entries) (comp_on choice g on) (comp_value choice g on)
+      (comp_starts (birth_of g) (memory_of g) g.entries count (λ n below. owner_below g (4 * n)))
+
+  abbrev edges : List (ℕ × ℕ)
+  edges = map pair_of g.edges
+
+  abbrev flow_line : List (Event FlowTag) → Machine (List (ℕ × ℕ)) FlowTag → Type 0
+  flow_line = FlowLine (birth_of g) (memory_of g) edges
+
+  abbrev flow_promise : List (Event FlowTag) → Event FlowTag → Type 0
+  flow_promise = FlowTurn (birth_of g) (memory_of g) edges
+
+  flow_keeps_run : choice.flow ≡ true → RunKeeps flow_view flow_line flow_promise run
+  flow_keeps_run on =
+      part_keeps choice g feed items flow flow_view flow_line flow_promise edges is flow_is_part
+      (flow_keeps (birth_of g) (memory_of g) edges) (flow_on choice g on) (flow_value choice g on)
+      (flow_starts (birth_of g) (memory_of g) g.entries edges)
+
+  abbrev heap_line : List (Event HeapTag) → Machine HeapState HeapTag → Type 0
+  heap_line = HeapLine g.heap_base (heap_top g)
+
+  abbrev heap_promise : List (Event HeapTag) → Event HeapTag → Type 0
+  heap_promise before event = HeapTurn g.heap_base (heap_top g) (block_book before) event
+
+  heap_keeps_run : choice.heap ≡ true → RunKeeps heap_view heap_line heap_promise run
+  heap_keeps_run on =
+      let region = region_is g is in
+      part_keeps choice g feed items heap heap_view heap_line heap_promise (heap_of g) is heap_is_part
+      (heap_keeps g.heap_base (heap_top g)) (heap_on choice g on) (heap_value choice g on)
+      (heap_starts (birth_of g) (memory_of g) g.entries g.heap_base g.heap_bytes region.aligned region.small (λ n below. heap_told g n))
+
+  -- ---- all of them
+
+  pub run_is_safe : IsSafe choice g run.events
+  run_is_safe = record {
+    seal = λ on. (seal_keeps_run on).promises;
+    comp = λ on. comp_safe (birth_of g) g.entries (events_by comp_view run.events) (comp_keeps_run on).promises;
+    flow = λ on. flow_safe (birth_of g) (memory_of g) edges (events_by flow_view run.events) (flow_keeps_run on).promises;
+    heap = λ on. (heap_keeps_run on).promises;
+  }
+
+  in_line : {U V : Type 0} (m : PolicyModel U V) (l : View AllTag AllState U V) (line : List (Event U) → Machine V U → Type 0)
+      (promise : List (Event U) → Event U → Type 0) → IsPart all m l → l.is_on (chosen choice g) ≡ true → RunKeeps l line promise run
+      → InLine l line (events_by l run.events) run.machine
+  unfolding start_machine
+  in_line m l line promise part on kept =
+      let stays = run_stays m l part (start_machine all (chosen choice g) g) feed items
+      (record { sound = start_sound choice g is; valid = start_holds choice g is; on = on }) in
+      record { sound = stays.sound; valid = stays.valid; on = stays.on; held = kept.kept }
+
+  pub run_in_line : IsInLine choice g run.events run.machine
+  run_in_line = record {
+    seal = λ on. in_line sealing seal_view SealLine seal_promise seal_is_part (seal_on choice g on) (seal_keeps_run on);
+    comp = λ on. in_line compartments comp_view comp_line comp_promise comp_is_part (comp_on choice g on) (comp_keeps_run on);
+    flow = λ on. in_line flow flow_view flow_line flow_promise flow_is_part (flow_on choice g on) (flow_keeps_run on);
+    heap = λ on. in_line heap heap_view heap_line heap_promise heap_is_part (heap_on choice g on) (heap_keeps_run on);
+  }

@@ -1,0 +1,6 @@
+pub mod Attacks
+pub mod Ends
+pub mod Holds
+pub mod Line
+pub mod Safe
+pub mod Views

@@ -1,0 +1,31 @@
+-- How each of the four policies is read off all of them together, and the events of a run as each sees them.
+use Rattle.std.specs.Prelude.{ℕ, List, [], map}
+use Rattle.engine_trait.specs.Events.{Event}
+use Rattle.policy_parts.specs.View.{View, left_view, on_view, right_view}
+use Rattle.part_turns.specs.Maps.{event_with}
+use Rattle.sealing_policy.specs.declared.tag.SealTag.{SealTag}
+use Rattle.sealing_policy.specs.declared.tag.SealTag.TheVariants.{Data}
+use Rattle.compartment_policy.specs.declared.tag.CompartmentTag.{CompartmentTag}
+use Rattle.compartment_policy.specs.declared.tag.CompartmentTag.TheVariants as compartment_tag
+use Rattle.flow_policy.specs.declared.tag.FlowTag.{FlowTag}
+use Rattle.flow_policy.specs.declared.tag.FlowTag.TheVariants as flow_tag
+use Rattle.heap_policy.specs.Heap.{HeapState, empty_heap}
+use Rattle.heap_policy.specs.declared.tag.HeapTag.{HeapTag}
+use Rattle.heap_policy.specs.declared.tag.HeapTag.TheVariants.{Val}
+use Rattle.policy_choice.specs.All.{AllState, AllTag}
+
+abbrev pub seal_view : View AllTag AllState SealTag ℕ
+seal_view = left_view (on_view Data 0)
+
+abbrev pub comp_view : View AllTag AllState CompartmentTag ℕ
+comp_view = right_view (left_view (on_view compartment_tag.Plain 0))
+
+abbrev pub flow_view : View AllTag AllState FlowTag (List (ℕ × ℕ))
+flow_view = right_view (right_view (left_view (on_view flow_tag.Plain [])))
+
+abbrev pub heap_view : View AllTag AllState HeapTag HeapState
+heap_view = right_view (right_view (right_view (on_view Val (empty_heap 0 0))))
+
+-- the events as one policy sees them
+abbrev pub events_by : {S U V : Type 0} → View AllTag S U V → List (Event AllTag) → List (Event U)
+events_by l events = map (event_with l.tag) events

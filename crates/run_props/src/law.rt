@@ -1,0 +1,121 @@
+//! Laws on runs.
+
+ghost use Rattle.std.specs.Prelude.{◌≡◌, ℕ, ◌+◌, List, [], map, true};
+ghost use Rattle.image_format.specs.Conditions.{IsImage};
+ghost use Rattle.image_format.specs.Picture.{Picture};
+ghost use Rattle.engine_trait.specs.Runs.{Item, run_along};
+ghost use Rattle.sealing_policy.specs.Sealing.{sealing};
+ghost use Rattle.compartment_policy.specs.Compartments.{compartments};
+ghost use Rattle.flow_policy.specs.Flow.{flow};
+ghost use Rattle.heap_policy.specs.Heap.{heap};
+ghost use Rattle.policy_choice.specs.All.{all, chosen, pair_of};
+ghost use Rattle.policy_choice.specs.declared.choice.Choice.{Choice};
+ghost use Rattle.policy_parts.specs.Part.{IsPart};
+ghost use Rattle.tag_loader.specs.Births.{birth_of};
+ghost use Rattle.tag_loader.specs.Start.{memory_of, start_machine};
+ghost use Rattle.seal_runs.specs.SealSafe.{SealSafe};
+ghost use Rattle.comp_runs.specs.CompSafe.{CompSafe};
+ghost use Rattle.flow_runs.specs.FlowSafe.{FlowSafe};
+ghost use Rattle.heap_runs.specs.HeapSafe.{HeapSafe};
+ghost use Rattle.policy_trait.specs.declared.birth.Birth.{Birth};
+ghost use Rattle.engine_trait.specs.Events.{Event, event_of};
+ghost use Rattle.engine_trait.specs.Machine.{Machine, is_ready_in};
+ghost use Rattle.part_turns.specs.Maps.{event_with};
+ghost use Rattle.policy_choice.specs.All.{AllState, AllTag};
+ghost use Rattle.seal_runs.specs.SealLine.{SealLine};
+ghost use Rattle.comp_runs.specs.CompLine.{CompLine};
+ghost use Rattle.flow_runs.specs.FlowLine.{FlowLine};
+ghost use Rattle.heap_runs.specs.BlockBook.{block_book};
+ghost use Rattle.heap_runs.specs.HeapLine.{HeapLine};
+ghost use Rattle.run_props.specs.Attacks.{GoesAstray, MissesBlock, Trespasses, UnsealsWithoutKey};
+ghost use Rattle.run_props.specs.Ends.{IsStopped};
+ghost use Rattle.run_props.specs.Line.{InLine};
+ghost use Rattle.run_props.specs.Safe.{IsInLine, IsSafe, heap_top, run_of};
+ghost use Rattle.run_props.specs.Views.{comp_view, events_by, flow_view, heap_view, seal_view};
+
+use compartment_policy::CompartmentTag;
+use flow_policy::FlowTag;
+use heap_policy::HeapTag;
+use sealing_policy::SealTag;
+
+/// Each of the four policies is a part of all of them together, wherever it is chosen. The function does nothing.
+pub fn parts_law()
+    ensures seal { IsPart all sealing seal_view }
+    ensures comp { IsPart all compartments comp_view }
+    ensures flow { IsPart all flow flow_view }
+    ensures heap { IsPart all heap heap_view }
+{}
+
+/// Where sealing is chosen, along any list of turns and fed bytes, each unsealing used its key. The function does nothing.
+pub fn seal_safe()
+    ensures { (choice : Choice) (g : Picture) (items : List Item) → IsImage g
+        → choice.seal ≡ true → SealSafe (events_by seal_view (run_of choice g items).events) }
+{}
+
+/// Where compartments are chosen, along any list of turns and fed bytes, each store lies in its compartment's permitted
+/// words, and a compartment is entered by right alone. The function does nothing.
+pub fn comp_safe()
+    ensures { (choice : Choice) (g : Picture) (items : List Item) → IsImage g
+        → choice.comp ≡ true
+        → CompSafe (birth_of g) g.entries (events_by comp_view (run_of choice g items).events) }
+{}
+
+/// Where control flow is chosen, along any list of turns and fed bytes, each hart runs the image's code alone, and each
+/// indirect jump is a listed edge. The function does nothing.
+pub fn flow_safe()
+    ensures { (choice : Choice) (g : Picture) (items : List Item) → IsImage g
+        → choice.flow ≡ true
+        → FlowSafe (birth_of g) (memory_of g) (map pair_of g.edges)
+        (events_by flow_view (run_of choice g items).events) }
+{}
+
+/// Where heap safety is chosen, along any list of turns and fed bytes, each heap access lies in its pointer's live block. The
+/// function does nothing.
+pub fn heap_safe()
+    ensures { (choice : Choice) (g : Picture) (items : List Item) → IsImage g
+        → choice.heap ≡ true
+        → HeapSafe g.heap_base (heap_top g)
+        (events_by heap_view (run_of choice g items).events) }
+{}
+
+/// Each run keeps what is said of each chosen policy, whatever bytes were there to be got at its start. The function does
+/// nothing.
+pub fn run_law()
+    ensures { (choice : Choice) (g : Picture) (feed : List ℕ) (items : List Item) → IsImage g
+        → IsSafe choice g
+        (run_along all (start_machine all (chosen choice g) g) feed items).events }
+{}
+
+/// In each state that a run comes to, the tags say of the places what the books say of the events: it is one of which the
+/// line of each chosen policy speaks, whatever bytes were there to be got at the run's start. The function does nothing.
+pub fn line_law()
+    ensures { (choice : Choice) (g : Picture) (feed : List ℕ) (items : List Item) → IsImage g
+        → IsInLine choice g
+        (run_along all (start_machine all (chosen choice g) g) feed items).events
+        (run_along all (start_machine all (chosen choice g) g) feed items).machine }
+{}
+
+/// In every state of which a policy's line speaks, a ready hart's turn ends in a stop that is no exit where it is an attack: an unsealing without its key; a word outside the code, or one to which no edge leads from the jump before; a
+/// store to a word that is not permitted, or a foreign word without right of entry; an access by a pointer that does not
+/// reach its live block, or one to the heap by what is no pointer. The function does nothing.
+pub fn attack_law()
+    ensures seal { (events : List (Event SealTag)) (s : Machine AllState AllTag) (feed : List ℕ)
+        (h : ℕ) → InLine seal_view SealLine events s → is_ready_in s.core h ≡ true
+        → UnsealsWithoutKey (event_with seal_view.tag (event_of all s feed h))
+        → IsStopped (event_of all s feed h) }
+    ensures comp { (birth : ℕ → Birth) (entries : List ℕ) (events : List (Event CompartmentTag))
+        (s : Machine AllState AllTag) (feed : List ℕ) (h : ℕ)
+        → InLine comp_view (CompLine birth entries) events s → is_ready_in s.core h ≡ true
+        → Trespasses birth entries events (event_with comp_view.tag (event_of all s feed h))
+        → IsStopped (event_of all s feed h) }
+    ensures flow { (birth : ℕ → Birth) (words : List ℕ) (edges : List (ℕ × ℕ))
+        (events : List (Event FlowTag)) (s : Machine AllState AllTag) (feed : List ℕ) (h : ℕ)
+        → InLine flow_view (FlowLine birth words edges) events s → is_ready_in s.core h ≡ true
+        → GoesAstray birth words edges events (event_with flow_view.tag (event_of all s feed h))
+        → IsStopped (event_of all s feed h) }
+    ensures heap { (base top : ℕ) (events : List (Event HeapTag)) (s : Machine AllState AllTag)
+        (feed : List ℕ) (h : ℕ) → InLine heap_view (HeapLine base top) events s → is_ready_in s.core h ≡ true
+        → MissesBlock base top (block_book events)
+        (event_with heap_view.tag (event_of all s feed h))
+        → IsStopped (event_of all s feed h) }
+{}

@@ -1,0 +1,10 @@
+//! What every run of every image keeps under the chosen policies, over every interleaving of the harts: each unsealing used
+//! its key, each indirect jump is a listed edge, each store lies in its compartment's permitted words, and each heap access in
+//! its pointer's live block.
+#![tactic(auto)]
+
+mod law;
+
+pub use law::{
+    attack_law, comp_safe, flow_safe, heap_safe, line_law, parts_law, run_law, seal_safe,
+};

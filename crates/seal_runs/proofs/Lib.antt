@@ -1,0 +1,7 @@
+mod BookLemmas
+mod LineLemmas
+mod RuleLemmas
+mod ServiceLemmas
+pub mod StartLemmas
+mod StepLemmas
+pub mod TurnLemmas

@@ -1,0 +1,3 @@
+pub mod KeyBook
+pub mod SealLine
+pub mod SealSafe

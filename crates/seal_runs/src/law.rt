@@ -1,0 +1,22 @@
+//! What sealing keeps.
+
+ghost use Rattle.std.specs.Prelude.{ℕ, List, []};
+ghost use Rattle.policy_trait.specs.declared.birth.Birth.{Birth};
+ghost use Rattle.sealing_policy.specs.Sealing.{sealing};
+ghost use Rattle.part_turns.specs.Keeps.{Keeps};
+ghost use Rattle.part_turns.specs.Start.{first_machine};
+ghost use Rattle.seal_runs.specs.KeyBook.{key_book};
+ghost use Rattle.seal_runs.specs.SealLine.{SealLine};
+ghost use Rattle.seal_runs.specs.SealSafe.{SealTurn};
+
+/// Each turn under sealing keeps its line, and does what the key book as it stands allows; so does each turn in which other
+/// policies are chosen too. The function does nothing.
+pub fn key_law()
+    ensures { Keeps sealing SealLine (λ before event. SealTurn (key_book before) event) }
+{}
+
+/// The line holds at every start. The function does nothing.
+pub fn start_law()
+    ensures { (birth : ℕ → Birth) (words entries : List ℕ)
+        → SealLine [] (first_machine sealing 0 birth words entries) }
+{}
