@@ -18,16 +18,13 @@ use Rattle.engine_trait.specs.Events.{Event}
 use Rattle.engine_trait.specs.Machine.{CoreState, Machine, hart_at}
 use Rattle.heap_policy.specs.Heap.{HeapState, effect_of, heap, uses_word}
 use Rattle.heap_policy.specs.declared.tag.HeapTag.{HeapTag}
+use Rattle.heap_policy.specs.declared.tag.HeapTag.TheVariants.{Val}
 use Rattle.part_turns.specs.Turns.{Does, IsSeen, after_step, computes, loads, loads_part, moves, stores, stores_part}
 use Rattle.part_turns.proofs.Places.{each_hart, each_register, each_stored, nth_tag, store_plain, store_tag, store_tag_other}
 use Rattle.heap_runs.specs.BlockBook.{block_book}
-use Rattle.heap_runs.specs.HeapLine.{HeapLine, IsBelow}
+use Rattle.heap_runs.specs.HeapLine.{HeapLine, IsBelow, IsHartBelow}
 use Rattle.heap_runs.proofs.Rules.{IsRow, IsStored, no_word, result_below, stores_is, stores_part_is}
 use Rattle.heap_runs.proofs.Tags.{IsKept, holding_kept, same_kept}
-
--- a hart whose tags name no block from a number on
-abbrev pub IsHartBelow : ℕ → HartState HeapTag → Type 0
-IsHartBelow next hart = (r : ℕ) → IsBelow next (reg_tag hart r)
 
 -- memory of the same size in which each word is of the kind that it was, and names no block from a number on
 pub record StaysMemory (next : ℕ) (old new : RamState HeapTag) : Type 0 where
@@ -46,7 +43,7 @@ module _ (base top : ℕ) (events : List (Event HeapTag)) (s : Machine HeapState
   pub kept_line : (later : List (Event HeapTag)) (core : CoreState HeapTag) → block_book later ≡ block_book events
       → StaysMemory next s.core.ram core.ram → ((h : ℕ) → IsHartBelow next (hart_at core h))
       → HeapLine base top later (record { policy = s.policy; core = core })
-  kept_line later core same stays registers = record {
+  kept_line later core same stays harts = record {
     from = line.from;
     to = line.to;
     space = line.space;
@@ -54,7 +51,7 @@ module _ (base top : ℕ) (events : List (Event HeapTag)) (s : Machine HeapState
     next = let is = line.next in cc;
     static = λ n lower outside. (stays.kinds n (there n lower)).static (line.static n (there n lower) outside);
     cells = λ n lower inside. (stays.kinds n (there n lower)).cell _ (line.cells n (there n lower) inside);
-    registers = registers;
+    harts = harts;
     words = stays.below;
   }
     where
@@ -94,7 +91,7 @@ module _ (base top : ℕ) (events : List (Event HeapTag)) (s : Machine HeapState
 
     -- a register's tag
     register_below : (tag : HeapTag) → (r : ℕ) × (tag ≡ reg_tag hart r) → IsBelow next tag
-    register_below tag of = subst (IsBelow next) (sym of.1) (line.registers h of.0)
+    register_below tag of = subst (IsBelow next) (sym of.1) ((line.harts h).registers of.0)
 
     module _ (register value : ℕ) (does : Does hart ram look register value) where
       below : IsBelow next outs.result
@@ -149,9 +146,13 @@ module _ (base top : ℕ) (events : List (Event HeapTag)) (s : Machine HeapState
 
       -- ---- the line
 
-      pub goes_line : (later : List (Event HeapTag)) → block_book later ≡ block_book events → IsHart hart
+      pub goes_line : (later : List (Event HeapTag)) → block_book later ≡ block_book events → IsHart hart → outs.pc ≡ Val
           → HeapLine base top later (after_step heap s h look outs register value)
-      goes_line later same hart_is =
+      goes_line later same hart_is plain_pc =
           kept_line later (after_step heap s h look outs register value).core same (memory_by does)
           (each_hart (IsHartBelow next) s.core h _ (ram_after look.effect.access) (store_plain ram look.effect.access outs.result)
-          (each_register (λ value tag. IsBelow next tag) hart register value outs.result hart_is below (line.registers h)) line.registers)
+          (record {
+            pc = subst (IsBelow next) (sym plain_pc) tt;
+            registers = each_register (λ value tag. IsBelow next tag) hart register value outs.result hart_is below (line.harts h).registers;
+          })
+          line.harts)

@@ -1,5 +1,5 @@
 -- What an allowed rule tells of its tags: what its result names, which word is reached, and what a word holds after a store.
-use Rattle.std.proofs.Common.{◌≡◌, ℕ, ◌==◌, Bool, true, false, ◌&&◌, Option, Some, None, Ok, option_map, if◌then◌else◌, refl, ap, subst}
+use Rattle.std.proofs.Common.{◌≡◌, ℕ, ◌==◌, Bool, true, false, ◌&&◌, Option, Some, None, Ok, option_map, if◌then◌else◌, refl, ap, subst, sym}
 use Rattle.std.specs.Option.{option_and_then}
 use Rattle.std.proofs.lemmas.Option.{same_Some}
 use Rattle.rv_decode.specs.declared.groups.Group.{Group}
@@ -185,6 +185,15 @@ decided_by g true (Some tag) outs e =
     (refl, ap (λ (o : Outs HeapTag). Some o.result) (given_is (record { pc = Val; result = tag }) outs e))
 decided_by g true None outs e = absurd cc
 decided_by g false row outs e = absurd cc
+
+-- and leaves a plain pc
+plain_by : (g : Group) (row : Option HeapTag) (outs : Outs HeapTag) → decided g row ≡ Ok outs → outs.pc ≡ Val
+plain_by g (Some tag) outs e = sym (ap (λ (o : Outs HeapTag). o.pc) (given_is (record { pc = Val; result = tag }) outs e))
+plain_by g None outs e = absurd cc
+
+pub pc_is : (s : Machine HeapState HeapTag) (h : ℕ) (look : Look HeapTag) (outs : Outs HeapTag) (e : Event HeapTag)
+    → Allows heap s h look outs e → outs.pc ≡ Val
+pc_is s h look outs e allows = plain_by look.group _ outs allows.rule
 
 pub row_is : (s : Machine HeapState HeapTag) (h : ℕ) (look : Look HeapTag) (outs : Outs HeapTag) (e : Event HeapTag)
     → Allows heap s h look outs e → IsRow look outs.result

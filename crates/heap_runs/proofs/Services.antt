@@ -20,11 +20,11 @@ use Rattle.heap_policy.specs.declared.tag.HeapTag.{HeapTag}
 use Rattle.heap_policy.specs.declared.tag.HeapTag.TheVariants.{Cell, Free}
 use Rattle.part_turns.proofs.Places.{IsServed, kept, nth_tag, written}
 use Rattle.heap_runs.specs.BlockBook.{BlockBook, block_book, freed_where, live_in}
-use Rattle.heap_runs.specs.HeapLine.{HeapLine, IsBelow, IsCellOf, IsStatic, is_in_block}
+use Rattle.heap_runs.specs.HeapLine.{HeapLine, IsBelow, IsCellOf, IsHartBelow, IsStatic, is_in_block}
 use Rattle.heap_runs.specs.HeapSafe.{is_in_heap}
 use Rattle.heap_runs.proofs.BookLemmas.{is_other, length_pushed, live_freed, live_pushed, lives}
 use Rattle.heap_runs.proofs.Finds.{found_before, found_last, free_word, gone, has_word, lies_out, stays}
-use Rattle.heap_runs.proofs.Kept.{IsHartBelow, StaysMemory}
+use Rattle.heap_runs.proofs.Kept.{StaysMemory}
 use Rattle.heap_runs.proofs.Regions.{heap_has, live_within, newest}
 use Rattle.heap_runs.proofs.Tags.{IsKept, below_more, given, given_is, same_kept, wiped_below, wiped_kept}
 
@@ -111,7 +111,7 @@ module _ (base top : ℕ) (events : List (Event HeapTag)) (s : Machine HeapState
         → ((n : ℕ) → IsServed heap s.policy (handing_out next range pc) s.core.ram core.ram n)
         → ((h : ℕ) → IsHartBelow (next + 1) (hart_at core h))
         → HeapLine base top later (record { policy = handed_out s.policy next (Some range); core = core })
-    handed_line pc noted served registers = record {
+    handed_line pc noted served harts = record {
       from = line.from;
       to = line.to;
       space = space_insert s.policy.space block line.space (first_within s.policy.space next count at some fit) fit.lies_free
@@ -121,7 +121,7 @@ module _ (base top : ℕ) (events : List (Event HeapTag)) (s : Machine HeapState
       static = λ n lower elsewhere. static_left base top range _ (old n) (new n) n in_region.0 in_region.1 elsewhere
           (line.static n (there n lower) elsewhere) (word_left n);
       cells = λ n lower heaped. handed_cell n (line.cells n (there n lower) heaped) (word_left n);
-      registers = registers;
+      harts = harts;
       words = λ n. below_left (next + 1) range _ (old n) (new n) n (omega arith, tt)
           (below_more next (next + 1) (omega arith) (old n) (line.words n)) (word_left n);
     }
@@ -150,7 +150,7 @@ module _ (base top : ℕ) (events : List (Event HeapTag)) (s : Machine HeapState
         → ((n : ℕ) → IsServed heap s.policy (freeing block pc) s.core.ram core.ram n)
         → ((h : ℕ) → IsHartBelow next (hart_at core h))
         → HeapLine base top later (record { policy = taken_back s.policy block.number; core = core })
-    freed_line pc noted served registers = let within = live_within base top events s is line block is_live in record {
+    freed_line pc noted served harts = let within = live_within base top events s is line block is_live in record {
       from = line.from;
       to = line.to;
       space = space_filter s.policy.space block.number line.space;
@@ -159,7 +159,7 @@ module _ (base top : ℕ) (events : List (Event HeapTag)) (s : Machine HeapState
       static = λ n lower elsewhere. static_left base top words_back _ (old n) (new n) n within.from within.to elsewhere
           (line.static n (there n lower) elsewhere) (word_left n);
       cells = λ n lower heaped. freed_cell n (line.cells n (there n lower) heaped) (word_left n);
-      registers = registers;
+      harts = harts;
       words = λ n. below_left next words_back _ (old n) (new n) n tt (line.words n) (word_left n);
     }
       where

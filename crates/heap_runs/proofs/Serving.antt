@@ -31,10 +31,11 @@ use Rattle.part_turns.specs.Moments.{Service, service_of}
 use Rattle.part_turns.specs.Turns.{Allows, after_service}
 use Rattle.part_turns.proofs.Places.{IsServed, each_answered, each_hart, words_plain}
 use Rattle.heap_runs.specs.BlockBook.{BlockBook, block_book, blocks_by, freed}
-use Rattle.heap_runs.specs.HeapLine.{HeapLine, IsBelow}
+use Rattle.heap_runs.specs.HeapLine.{HeapLine, IsBelow, IsHartBelow}
 use Rattle.heap_runs.specs.HeapSafe.{HeapTurn}
 use Rattle.heap_runs.proofs.BookLemmas.{book_by}
-use Rattle.heap_runs.proofs.Kept.{IsHartBelow, kept_line}
+use Rattle.heap_runs.proofs.Kept.{kept_line}
+use Rattle.heap_runs.proofs.Rules.{pc_is}
 use Rattle.heap_runs.proofs.Plans.{IsOwn, finds_none, hands_out, own_is, takes_back}
 use Rattle.heap_runs.proofs.Promises.{serves_promised}
 use Rattle.heap_runs.proofs.Services.{freed_line, handed_line, others_memory, unranged_memory}
@@ -92,14 +93,21 @@ module _ (base top : ℕ) (before : List (Event HeapTag)) (s : Machine HeapState
   size : length ram_after.words ≡ length s.core.ram.words
   size = omega (arith, words_bytes s.core.ram words)
 
-  registers_after : (p : Plan HeapTag) (bound : ℕ) → next ≤ bound → ((answer : Answer HeapTag) → p.answer ≡ Some answer → IsBelow bound answer.tag)
+  harts_after : (p : Plan HeapTag) (bound : ℕ) → next ≤ bound → ((answer : Answer HeapTag) → p.answer ≡ Some answer → IsBelow bound answer.tag)
       → (n : ℕ) → IsHartBelow bound (hart_at (core_after p) n)
-  registers_after p bound le answered =
+  harts_after p bound le answered =
       each_hart (IsHartBelow bound) s.core h _ ram_after (words_plain s.core.ram words)
-      (each_answered (λ value tag. IsBelow bound tag) hart p.answer hart_is answered (λ r. still h r)) still
+      (record {
+        pc = subst (IsBelow bound) (sym (pc_is s h look outs e allows)) tt;
+        registers = each_answered (λ value tag. IsBelow bound tag) hart p.answer hart_is answered (still h).registers;
+      })
+      still
     where
       still : (n : ℕ) → IsHartBelow bound (hart_at s.core n)
-      still n r = below_more next bound le _ (line.registers n r)
+      still n = record {
+        pc = below_more next bound le _ (line.harts n).pc;
+        registers = λ r. below_more next bound le _ ((line.harts n).registers r);
+      }
 
   -- the book by the number of the service
   book_of : (p : Plan HeapTag) → IsCarried p → (number : ℕ) → look.service ≡ number
@@ -132,7 +140,7 @@ module _ (base top : ℕ) (before : List (Event HeapTag)) (s : Machine HeapState
           number_is number next (sym tagged ∙ sym (pointer_is answer answered)) ∙ line.next),
       handed_line base top before s is line later (core_after handing) size at count (omega arith) (found_first s.policy.space count at fit)
           outs.pc (book_of handing carried 48 is_malloc) carried.left
-          (registers_after handing (next + 1) (omega arith) (λ answer answered.
+          (harts_after handing (next + 1) (omega arith) (λ answer answered.
           subst (IsBelow (next + 1)) (pointer_is answer answered) (omega arith))),
     )
 
@@ -147,7 +155,7 @@ module _ (base top : ℕ) (before : List (Event HeapTag)) (s : Machine HeapState
     promised passing carried (λ answer number is_called answered tagged. absurd (let plain = value_is answer answered in cc)),
     kept_line base top before s line later (core_after passing) (book_of passing carried 48 is_malloc)
         (unranged_memory base top before s is line later (core_after passing) size passing refl carried.left)
-        (registers_after passing next (omega arith) (λ answer answered. subst (IsBelow next) (value_is answer answered) tt)),
+        (harts_after passing next (omega arith) (λ answer answered. subst (IsBelow next) (value_is answer answered) tt)),
   )
 
   frees_serves : (block : Block) → look.service ≡ 49 → Contains s.policy.space.live block → arguments.t0 ≡ Ptr block.number
@@ -156,7 +164,7 @@ module _ (base top : ℕ) (before : List (Event HeapTag)) (s : Machine HeapState
     promised p carried (λ answer number is_called answered tagged. absurd (omega (arith, is_called, is_free))),
     freed_line base top before s is line later (core_after p) size block live outs.pc
         (book_of p carried 49 is_free ∙ ap (λ (tag : HeapTag). freed tag book) pointer) carried.left
-        (registers_after p next (omega arith) (λ answer answered. absurd cc)),
+        (harts_after p next (omega arith) (λ answer answered. absurd cc)),
   )
 
   own_serves : (p : Plan HeapTag) → IsOwn s.policy look.service arguments outs.pc p → IsCarried p → Serves p
@@ -174,7 +182,7 @@ module _ (base top : ℕ) (before : List (Event HeapTag)) (s : Machine HeapState
     where
       rest_below : (rest : Rest) → IsBelow next (rest_tag rest Val arguments.t0)
       rest_below Plain = tt
-      rest_below AsA0 = line.registers h a0
+      rest_below AsA0 = (line.harts h).registers a0
 
   -- a service that heap safety doesn't know is of no account to the book
   no_blocks : (p : Plan HeapTag) (number : ℕ) → heap_knows number ≡ false → blocks_by book (Some (service_by number p)) ≡ book
@@ -190,7 +198,7 @@ module _ (base top : ℕ) (before : List (Event HeapTag)) (s : Machine HeapState
             (kept_line base top before s line later (core_after p)
             (book_of p carried look.service refl ∙ no_blocks p look.service unknown)
             (others_memory base top before s is line later (core_after p) size p apart carried.left)
-            (registers_after p next (omega arith) (λ answer is_answer. others_below answer (answered answer is_answer)))),
+            (harts_after p next (omega arith) (λ answer is_answer. others_below answer (answered answer is_answer)))),
       )
 
   -- ---- any

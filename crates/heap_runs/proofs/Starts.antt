@@ -75,6 +75,12 @@ registers_below [] h r = fresh_below 0 r
 registers_below (entry ∷ entries) zero r = fresh_below entry r
 registers_below (entry ∷ entries) (suc h) r = registers_below entries h r
 
+-- each pc is plain
+pc_below : (entries : List ℕ) (h : ℕ) → IsBelow 0 (get_or (map (λ entry. fresh_hart entry Val Val) entries) h (fresh_hart 0 Val Val)).pc_tag
+pc_below [] h = tt
+pc_below (entry ∷ entries) zero = tt
+pc_below (entry ∷ entries) (suc h) = pc_below entries h
+
 -- ---- the line
 
 pub starts : (birth : ℕ → Birth) (words entries : List ℕ) (base bytes : ℕ) → base % 4 ≡ 0 → base + bytes < 2 ^ 32
@@ -89,6 +95,6 @@ starts birth words entries base bytes aligned small told = record {
   next = refl;
   static = λ n lower outside. (contents.Val, start_is birth words n false lower (told n lower ∙ outside));
   cells = λ n lower inside. start_is birth words n true lower (told n lower ∙ inside);
-  registers = λ h r. registers_below entries h r;
+  harts = λ h. record { pc = pc_below entries h; registers = registers_below entries h };
   words = words_below birth words;
 }

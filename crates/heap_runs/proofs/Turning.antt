@@ -12,12 +12,12 @@ use Rattle.part_turns.specs.Moments.{service_of}
 use Rattle.part_turns.specs.Turns.{Turns, exits, goes, idles, serves, stops}
 use Rattle.part_turns.proofs.Places.{each_served, there}
 use Rattle.heap_runs.specs.BlockBook.{BlockBook, block_book}
-use Rattle.heap_runs.specs.HeapLine.{HeapLine}
+use Rattle.heap_runs.specs.HeapLine.{HeapLine, IsHartBelow}
 use Rattle.heap_runs.specs.HeapSafe.{HeapTurn}
 use Rattle.heap_runs.proofs.BookLemmas.{book_by}
-use Rattle.heap_runs.proofs.Kept.{IsHartBelow, StaysMemory, goes_line, kept_line, same_memory}
+use Rattle.heap_runs.proofs.Kept.{StaysMemory, goes_line, kept_line, same_memory}
 use Rattle.heap_runs.proofs.Promises.{exits_promised, goes_promised, unretired}
-use Rattle.heap_runs.proofs.Rules.{row_is}
+use Rattle.heap_runs.proofs.Rules.{pc_is, row_is}
 use Rattle.heap_runs.proofs.Serving.{served}
 
 module _ (base top : ℕ) (before : List (Event HeapTag)) (s : Machine HeapState HeapTag) (h : ℕ) (e : Event HeapTag)
@@ -38,7 +38,7 @@ module _ (base top : ℕ) (before : List (Event HeapTag)) (s : Machine HeapState
   unchanged core none ram harts =
       kept_line base top before s line later core (book_by before e None none)
       (subst (StaysMemory s.policy.next s.core.ram) (sym ram) (same_memory base top before s line))
-      (λ n. subst (IsHartBelow s.policy.next) (same_hart n) (line.registers n))
+      (λ n. subst (IsHartBelow s.policy.next) (same_hart n) (line.harts n))
     where
       same_hart : (n : ℕ) → hart_at s.core n ≡ hart_at core n
       same_hart n = cc
@@ -62,7 +62,7 @@ module _ (base top : ℕ) (before : List (Event HeapTag)) (s : Machine HeapState
   turned t (goes look outs register value allows none does same) = subst Turned (sym same) (
     goes_promised base top before s line h look outs e allows register value none does,
     goes_line base top before s line h look outs is.ram.shape allows.seen (row_is s h look outs e allows) register value does
-        later (book_by before e None none) (sound_hart allows.ready),
+        later (book_by before e None none) (sound_hart allows.ready) (pc_is s h look outs e allows),
   )
   turned t (serves look outs p words allows group no_access told planned ranged retagged same) = subst Turned (sym same)
       (served base top before s is line h look outs words e allows no_access (sound_hart allows.ready) p planned

@@ -1,7 +1,7 @@
 -- What holds of heap safety in each state that a run comes to.
 use Rattle.std.specs.Prelude.{◌≡◌, ℕ, ◌*◌, ◌<◌, nat_le, nat_lt, Bool, true, false, ◌&&◌, List, length, Option, Some, None, slice_index_or}
 use Rattle.std.specs.List.{find}
-use Rattle.tag_memory.specs.Hart.{reg_tag}
+use Rattle.tag_memory.specs.Hart.{HartState, reg_tag}
 use Rattle.engine_trait.specs.Events.{Event}
 use Rattle.engine_trait.specs.Machine.{Machine, hart_at}
 use Rattle.live_blocks.specs.Space.{IsSpace, end_of}
@@ -39,6 +39,11 @@ IsBelow next (Static content) = IsContentBelow next content
 IsBelow next (Cell number content) = (number < next) × IsContentBelow next content
 IsBelow next Free = Unit {0}
 
+-- so do the tags of the pc and of all registers
+pub record IsHartBelow (next : ℕ) (hart : HartState HeapTag) : Type 0 where
+  pub pc : IsBelow next hart.pc_tag
+  pub registers : (r : ℕ) → IsBelow next (reg_tag hart r)
+
 module _ (base top : ℕ) where
   -- The policy's region is that region, its live blocks are the book's, each with a number of its own and the words of none
   -- other, and the next number is how many were handed out, which is above all that any tag names. A word of the heap is a
@@ -53,5 +58,5 @@ module _ (base top : ℕ) where
         → IsStatic (slice_index_or s.core.ram.tags n s.core.ram.plain)
     pub cells : (n : ℕ) → n < length s.core.ram.words → is_in_heap base top (4 * n) ≡ true
         → IsCellOf (find (is_in_block (4 * n)) s.policy.space.live) (slice_index_or s.core.ram.tags n s.core.ram.plain)
-    pub registers : (h r : ℕ) → IsBelow s.policy.next (reg_tag (hart_at s.core h) r)
+    pub harts : (h : ℕ) → IsHartBelow s.policy.next (hart_at s.core h)
     pub words : (n : ℕ) → IsBelow s.policy.next (slice_index_or s.core.ram.tags n s.core.ram.plain)
