@@ -1,0 +1,4 @@
+pub mod AccountLemmas
+pub mod KeyLemmas
+pub mod RuleLemmas
+pub mod StoreLemmas

@@ -1,0 +1,10 @@
+use Rattle.std.proofs.Common.{ap}
+use Rattle.rule_cache.specs.Stores.{Rules}
+use Rattle.rule_cache.proofs.RuleLemmas.{put_kept}
+use Rattle.rule_cache.proofs.cache.RuleCacheRuleStore.keep.Goals as goal
+
+pub returns-clause-kept : goal.returns-clause-kept
+returns-clause-kept c =
+    let before = c.args.self.now in
+    let put = put_kept c.args.key before.rules.cap before.rules.entries c.len-length.ensures.valid c.args.words in
+    rw c.in_ok-put.ensures.entries (ap (λ (kept : Rules). record { kept = kept; capacity = before.rules.cap; hits = before.hits; misses = before.misses }) put)

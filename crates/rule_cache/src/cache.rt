@@ -1,0 +1,91 @@
+//! `RuleCache`: the rules in one list by recency.
+
+ghost use Rattle.std.specs.Prelude.{◌≡◌, ◌≤◌, IfNone, IfSome, Some, slice_get};
+ghost use Rattle.std.specs.Map.{lookup};
+ghost use Rattle.lru.specs.LruCache.{lru_cache};
+ghost use Rattle.rule_cache.specs.Keys.{key_eq};
+ghost use Rattle.rule_cache.specs.Stores.{Store, emptied, empty_store, found, looked_for, stored, with_rule};
+
+use crate::key::{Key, OutWords};
+use crate::store::RuleStore;
+use lru::LruCache;
+use std::alloc::{AllocError, Global};
+use std::num::NonZeroUsize;
+
+/// A store that holds its rules in one list, under a hash of their keys.
+#[derive(Drop)]
+pub struct RuleCache {
+    rules: LruCache<Key, OutWords>,
+    hits: u64,
+    misses: u64,
+}
+
+impl RuleStore for RuleCache {
+    ghost state = { λ c. record {
+      kept = c.rules.entries;
+      capacity = c.rules.cap;
+      hits = c.hits;
+      misses = c.misses;
+    } };
+
+    fn made(alloc: Global, capacity: u32) -> Result<Self, AllocError> {
+        let capacity = NonZeroUsize::new(capacity as usize).unwrap();
+        let rules = LruCache::new(alloc, capacity)?;
+        Ok(RuleCache {
+            rules,
+            hits: 0,
+            misses: 0,
+        })
+    }
+
+    fn find(&mut self, key: &Key) -> Option<OutWords> {
+        let found = moved(&mut self.rules, key);
+        if found.is_some() {
+            self.hits = self.hits.saturating_add(1);
+        } else {
+            self.misses = self.misses.saturating_add(1);
+        }
+        found
+    }
+
+    fn keep(&mut self, key: Key, words: OutWords) -> Result<(), AllocError> {
+        let _length = self.rules.len(); // no two keys are the same
+        self.rules.put(key, words)?;
+        Ok(())
+    }
+
+    fn clear(&mut self) {
+        self.rules.clear();
+    }
+
+    fn hits(&self) -> u64 {
+        self.hits
+    }
+
+    fn misses(&self) -> u64 {
+        self.misses
+    }
+}
+
+// The outputs of the rule with this key, which goes to the front.
+fn moved(rules: &mut LruCache<Key, OutWords>, key: &Key) -> Option<OutWords>
+    ensures found { result ≡ lookup (key_eq key.now) rules.old.entries }
+    ensures hit { IfSome result (λ words. rules.new
+        ≡ lru_cache (with_rule rules.old.cap key.now words rules.old.entries) rules.old.cap) }
+    ensures miss { IfNone result (rules.new ≡ rules.old) }
+{
+    let _length = rules.len(); // no two keys are the same, and they fit
+    if let Some(words) = newest(rules, key) {
+        return Some(words);
+    }
+    rules.get(key).copied()
+}
+
+// The outputs of the most recent rule where it has this key. A program that runs in a loop of few rules asks for it often,
+// and it takes no hash.
+fn newest(rules: &LruCache<Key, OutWords>, key: &Key) -> Option<OutWords>
+    ensures { IfSome result (λ words. slice_get rules.now.entries 0 ≡ Some (key.now, words)) }
+{
+    let (first, words) = rules.peek_mru()?;
+    if *first == *key { Some(*words) } else { None }
+}

@@ -1,0 +1,13 @@
+//! The words of tags: small numbers that stand for tags in an engine that keeps rules. A tag gets the next word where it
+//! first comes, up to a limit, and keeps it.
+#![tactic(auto)]
+
+mod interner;
+mod law;
+mod table;
+#[cfg(test)]
+mod tests;
+
+pub use interner::Interner;
+pub use law::growth_law;
+pub use table::{InternEnd, TagTable};
