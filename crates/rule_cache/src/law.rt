@@ -15,7 +15,8 @@ use pump_words::Same;
 /// A store is one after each call: its keys are distinct and no more than its capacity. The function does nothing.
 pub fn store_law()
     ensures made { (capacity : ℕ) → 1 ≤ capacity → IsStore (empty_store capacity) }
-    ensures find { (key : StoreKey) (store : Store) → IsStore store → IsStore (looked_for key store) }
+    ensures find { (key : StoreKey) (store : Store) → IsStore store
+        → IsStore (looked_for key store) }
     ensures keep { (key : StoreKey) (words : Outs ℕ) (store : Store) → IsStore store
         → IsStore (stored key words store) }
     ensures clear { (store : Store) → IsStore store → IsStore (emptied store) }
@@ -26,7 +27,8 @@ pub fn store_law()
 pub fn account_law<T: Same>()
     ensures apart { (tag_of : ℕ → T) (bound : ℕ) (store : Store) (key : StoreKey)
         → TellsBelow tag_of T.eq bound → IsKeyBelow bound key
-        → AllByRecursion (IsKeyBelow bound) (keys_of store.kept) → IsToldApart tag_of T.eq key store }
+        → AllByRecursion (IsKeyBelow bound) (keys_of store.kept)
+        → IsToldApart tag_of T.eq key store }
     ensures is_kept { (tag_of : ℕ → T) (account : Account T) (store : Store) (key : StoreKey)
         → IsAccountOf tag_of account store → IsToldApart tag_of T.eq key store
         → is_kept T.eq (key_by tag_of key) account ≡ is_some (found key store) }
