@@ -7,7 +7,7 @@ use Rattle.policy_trait.specs.declared.rules.Outs.{Outs}
 use Rattle.monitor_calls.specs.Service.{Job}
 use Rattle.turn_steps.specs.declared.look.Look.{Look}
 use Rattle.turn_steps.specs.declared.stop.Stop.{Stop}
-use Rattle.engine_trait.specs.Accounts.{Account, IsUncached, Key, accounted, after_look, after_outs, after_rule, after_service, counted, is_kept, is_over, keeping, key_of, look_counted, looked_up, same_key, seeing, with_tags, written_tags}
+use Rattle.engine_trait.specs.Accounts.{Account, IsUncached, Key, accounted, after_look, after_rule, after_service, counted, is_kept, is_over, keeping, key_of, look_counted, looked_up, rule_counted, rule_kept, same_key, seeing, with_tags, written_tags}
 use Rattle.engine_trait.specs.Machine.{Machine}
 use Rattle.engine_trait.specs.Turn.{allowed, job_at, prepared}
 use Rattle.engine_trait.specs.declared.ends.Halt.{Halt}
@@ -17,7 +17,7 @@ use Rattle.engine_trait.specs.declared.ends.Halt.{Halt}
 module _ {T : Type 0} (eq : T → T → Bool) (a : Account T) (plain : IsUncached a) where
   pub looked_up_missed : (key : Key T) → looked_up eq key a ≡ record a { misses = counted a.misses }
   looked_up_missed key =
-      ap (λ kept. if list_any (same_key eq key) kept then record a { hits = counted a.hits } else record a { misses = counted a.misses }) plain.kept
+      ap (λ kept. if list_any (same_key eq key) kept then record (keeping eq key a) { hits = counted a.hits } else record a { misses = counted a.misses }) plain.kept
 
   keeping_none : (key : Key T) → keeping eq key a ≡ a
   keeping_none key =
@@ -27,18 +27,16 @@ module _ {T : Type 0} (eq : T → T → Bool) (a : Account T) (plain : IsUncache
   seeing_none : (tags : List T) → seeing eq tags a ≡ a
   seeing_none tags = ap (λ n. if n == 0 then a else record a { seen = with_tags eq a.seen tags }) plain.capacity
 
+  rule_kept_none : {E : Type 0} (key : Key T) (answer : Result (Outs T) E) → rule_kept eq key answer a ≡ a
+  rule_kept_none key (Ok outs) = ap (λ kept. seeing eq (outs.pc ∷ outs.result ∷ []) kept) (keeping_none key) ∙ seeing_none (outs.pc ∷ outs.result ∷ [])
+  rule_kept_none key (Err why) = refl
+
   pub never_over : is_over a ≡ false
   never_over = le-ltb a.limit (length a.seen) (let empty : length a.seen ≡ 0 = ap length plain.seen in omega (arith, empty))
 
 module _ {S T : Type 0} (eq : T → T → Bool) (m : PolicyModel T S) (s : Machine S T) (h : ℕ) where
-  after_outs_none : (look : Look T) (answer : Result (Outs T) Stop) (a : Account T) → IsUncached a → after_outs eq m s h look answer a ≡ a
-  after_outs_none look (Ok outs) a plain =
-      ap (λ kept. seeing eq (outs.pc ∷ outs.result ∷ []) kept) (keeping_none eq a plain (key_of eq m s h look))
-      ∙ seeing_none eq a plain (outs.pc ∷ outs.result ∷ [])
-  after_outs_none look (Err why) a plain = refl
-
   after_rule_none : (found : Result (Look T) Stop) (a : Account T) → IsUncached a → after_rule eq m s h found a ≡ a
-  after_rule_none (Ok look) a plain = after_outs_none look (allowed m s h look) a plain
+  after_rule_none (Ok look) a plain = rule_kept_none eq a plain (key_of eq m s h look) (allowed m s h look)
   after_rule_none (Err why) a plain = refl
 
   after_service_none : (job : Result (Option (Job T)) Stop) (a : Account T) → IsUncached a → after_service eq m s h job a ≡ a
@@ -55,7 +53,7 @@ module _ {S T : Type 0} (eq : T → T → Bool) (m : PolicyModel T S) (s : Machi
 
   -- only the look-up and the turn are counted
   settled_account : (a b : Account T) → IsUncached b → look_counted eq m s h a ≡ b → accounted eq m s h a ≡ record b { turns = counted a.turns }
-  unfolding accounted
+  unfolding accounted rule_counted
   settled_account a b plain looked =
       ap (λ c. turned (after_service eq m s h (job_at m s h) (after_rule eq m s h (prepared m s h) c)) a.turns) looked
       ∙ ap (λ c. turned (after_service eq m s h (job_at m s h) c) a.turns) (after_rule_none (prepared m s h) b plain)
@@ -98,19 +96,19 @@ seeing_halt : {T : Type 0} (eq : T → T → Bool) (tags : List T) (a : Account 
 seeing_halt eq tags a = either_halt a.halt (a.capacity == 0) a (record a { seen = with_tags eq a.seen tags }) refl refl
 
 looked_up_halt : {T : Type 0} (eq : T → T → Bool) (key : Key T) (a : Account T) → (looked_up eq key a).halt ≡ a.halt
-looked_up_halt eq key a = either_halt a.halt (is_kept eq key a) (record a { hits = counted a.hits }) (record a { misses = counted a.misses }) refl refl
+looked_up_halt eq key a = either_halt a.halt (is_kept eq key a) (record (keeping eq key a) { hits = counted a.hits }) (record a { misses = counted a.misses }) refl refl
+
+rule_kept_halt : {T E : Type 0} (eq : T → T → Bool) (key : Key T) (answer : Result (Outs T) E) (a : Account T) → (rule_kept eq key answer a).halt ≡ a.halt
+rule_kept_halt eq key (Ok outs) a = seeing_halt eq (outs.pc ∷ outs.result ∷ []) (keeping eq key a)
+rule_kept_halt eq key (Err why) a = refl
 
 module _ {S T : Type 0} (eq : T → T → Bool) (m : PolicyModel T S) (s : Machine S T) (h : ℕ) where
   after_look_halt : (found : Result (Look T) Stop) (a : Account T) → (after_look eq m s h found a).halt ≡ a.halt
   after_look_halt (Ok look) a = looked_up_halt eq (key_of eq m s h look) a
   after_look_halt (Err why) a = refl
 
-  after_outs_halt : (look : Look T) (answer : Result (Outs T) Stop) (a : Account T) → (after_outs eq m s h look answer a).halt ≡ a.halt
-  after_outs_halt look (Ok outs) a = seeing_halt eq (outs.pc ∷ outs.result ∷ []) (keeping eq (key_of eq m s h look) a)
-  after_outs_halt look (Err why) a = refl
-
   after_rule_halt : (found : Result (Look T) Stop) (a : Account T) → (after_rule eq m s h found a).halt ≡ a.halt
-  after_rule_halt (Ok look) a = after_outs_halt look (allowed m s h look) a
+  after_rule_halt (Ok look) a = rule_kept_halt eq (key_of eq m s h look) (allowed m s h look) a
   after_rule_halt (Err why) a = refl
 
   after_service_halt : (job : Result (Option (Job T)) Stop) (a : Account T) → (after_service eq m s h job a).halt ≡ a.halt
@@ -122,12 +120,13 @@ module _ {S T : Type 0} (eq : T → T → Bool) (m : PolicyModel T S) (s : Machi
   unfolding look_counted
   look_counted_halt a = after_look_halt (prepared m s h) a
 
+  rule_counted_halt : (a : Account T) → (rule_counted eq m s h a).halt ≡ a.halt
+  unfolding rule_counted
+  rule_counted_halt a = after_rule_halt (prepared m s h) (look_counted eq m s h a) ∙ look_counted_halt a
+
   pub accounted_halt : (a : Account T) → (accounted eq m s h a).halt ≡ a.halt
   unfolding accounted
-  accounted_halt a =
-      after_service_halt (job_at m s h) (after_rule eq m s h (prepared m s h) (look_counted eq m s h a))
-      ∙ after_rule_halt (prepared m s h) (look_counted eq m s h a)
-      ∙ look_counted_halt a
+  accounted_halt a = after_service_halt (job_at m s h) (rule_counted eq m s h a) ∙ rule_counted_halt a
 
   pub accounted_turns : (a : Account T) → (accounted eq m s h a).turns ≡ counted a.turns
   unfolding accounted

@@ -1,5 +1,6 @@
 pub mod AccountLemmas
 pub mod MachineLemmas
+pub mod MapLemmas
 pub mod MirrorLemmas
 pub mod StepLemmas
 pub mod TurnLemmas

@@ -125,6 +125,13 @@ pub record Prepares {S T : Type 0} (m : PolicyModel T S) (s : Machine S T) (h : 
   pub looked_is : looked (hart_at s.core h) s.core.ram ≡ Ok look
   pub offered_is : is_offered m s look ≡ true
 
+-- a call that is planned is a call, and its service gives that job
+pub plans : {T : Type 0} (test : Bool) (given : Result (Job T) PlanEnd) (pc service : ℕ) (job : Job T) → (if test then or_unserved pc service given else Ok None) ≡ Ok (Some job)
+    → (test ≡ true) × (given ≡ Ok job)
+plans true (Ok given) pc service job e = (refl, cc)
+plans true (Err end) pc service job e = absurd cc
+plans false given pc service job e = absurd cc
+
 module _ {S T : Type 0} (m : PolicyModel T S) (s : Machine S T) (h : ℕ) where
   offers : (test : Bool) (found look : Look T) (why : Stop) → is_offered m s found ≡ test → (if test then Ok found else Err why) ≡ Ok look → (found ≡ look) × (is_offered m s found ≡ true)
   offers true found look why is e = (cc, is)
@@ -141,12 +148,6 @@ module _ {S T : Type 0} (m : PolicyModel T S) (s : Machine S T) (h : ℕ) where
   prepared_is look e = let parts = prepares (looked (hart_at s.core h) s.core.ram) look e in record { looked_is = parts.0; offered_is = parts.1 }
 
   -- ---- a call of a policy's service that nothing refuses
-
-  plans : (test : Bool) (given : Result (Job T) PlanEnd) (pc service : ℕ) (job : Job T) → (if test then or_unserved pc service given else Ok None) ≡ Ok (Some job)
-      → (test ≡ true) × (given ≡ Ok job)
-  plans true (Ok given) pc service job e = (refl, cc)
-  plans true (Err end) pc service job e = absurd cc
-  plans false given pc service job e = absurd cc
 
   pub known_call : (look : Look T) → Prepares m s h look → is_call look.group ≡ true → m.knows s.policy look.service ≡ true
   known_call look found call = sym (ap (λ is_so. not is_so || m.knows s.policy look.service) call) ∙ found.offered_is

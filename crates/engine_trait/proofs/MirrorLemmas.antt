@@ -31,6 +31,7 @@ use Rattle.engine_trait.specs.Standing.{Standing, Stepped, idle, is_ready, is_ru
 use Rattle.engine_trait.specs.Turn.{Turned, allowed, attempt, carried_at, core_effected, core_ended, effected, end_of, is_offered, offered, or_fault, or_unserved, or_violation, planned, prepared, service_on, settled, turn_by, turn_of}
 use Rattle.engine_trait.specs.declared.ends.Halt.{Halt}
 use Rattle.engine_trait.proofs.AccountLemmas.{accounted_halt}
+use Rattle.engine_trait.proofs.MapLemmas.{carried_at_by, core_effected_by, hart_at_by}
 use Rattle.engine_trait.proofs.StepLemmas.{plain_stays, plain_step, step_idle}
 use Rattle.engine_trait.proofs.TurnLemmas.{allowed_turn, planned_turn}
 
@@ -46,36 +47,8 @@ both_by turn change (Err e) changed_first rest changed is each = ap (λ r. r >>=
 -- ---- the core
 
 module _ {T U : Type 0} (f : T → U) where
-  hart_at_by : (core : CoreState T) (h : ℕ) → hart_at (core_by f core) h ≡ hart_by f (hart_at core h)
-  hart_at_by core h = get_or-map (hart_by f) core.harts h (fresh_hart 0 core.ram.plain core.ram.plain)
-
   pub ready_by : (core : CoreState T) (h : ℕ) → is_ready_in (core_by f core) h ≡ is_ready_in core h
   ready_by core h = ap (λ (n : ℕ). nat_lt h n && has_no_stop (stop_at core h)) (length-map core.harts (hart_by f))
-
-  with_hart_by : (core : CoreState T) (h : ℕ) (hart : HartState T) (ram : RamState T)
-      → with_hart (core_by f core) h (hart_by f hart) (ram_by f ram) ≡ core_by f (with_hart core h hart ram)
-  with_hart_by core h hart ram =
-      ap (λ (harts : List (HartState U)). record (core_by f core) { harts = harts; ram = ram_by f ram }) (sym (map-set (hart_by f) core.harts h hart))
-
-  core_ended_by : (core : CoreState T) (h : ℕ) (carried : Carried T) (end : Done)
-      → core_ended (core_by f core) h (carry_by f carried) end ≡ core_by f (core_ended core h carried end)
-  core_ended_by core h carried (done.Stepped byte) = with_hart_by core h carried.hart carried.ram
-  core_ended_by core h carried done.Broke = with_hart_by core h carried.hart carried.ram
-  core_ended_by core h carried (done.Exited code) =
-      ap (λ (c : CoreState U). stopping c h (stop.Exit code)) (with_hart_by core h carried.hart carried.ram)
-
-  module _ (core : CoreState T) (feed : List ℕ) (h : ℕ) (look : Look T) (outs : Outs T) where
-    carried_at_by : carried_at (core_by f core) feed h (look_by f look) (outs_by f outs) ≡ carry_by f (carried_at core feed h look outs)
-    unfolding carried_at
-    carried_at_by =
-        ap (λ hart. carried_out hart (ram_by f core.ram) feed (look_by f look) (outs_by f outs)) (hart_at_by core h)
-        ∙ carried_out_by f (hart_at core h) core.ram feed look outs
-
-    core_effected_by : core_effected (core_by f core) feed h (look_by f look) (outs_by f outs) ≡ core_by f (core_effected core feed h look outs)
-    unfolding core_effected
-    core_effected_by =
-        ap (λ (c : Carried U). core_ended (core_by f core) h c c.done) carried_at_by
-        ∙ core_ended_by core h (carried_at core feed h look outs) (carried_at core feed h look outs).done
 
 -- ---- a policy that offers no service
 

@@ -73,19 +73,28 @@ module _ {T : Type 0} (eq : T → T → Bool) where
   abbrev pub is_kept : Key T → Account T → Bool
   is_kept key account = list_any (same_key key) account.kept
 
-  -- a look-up is a hit or a miss
-  abbrev pub looked_up : Key T → Account T → Account T
-  looked_up key account =
-      if is_kept key account then record account { hits = counted account.hits } else record account { misses = counted account.misses }
-
   -- the key goes to the front, and the last one goes where there are too many
   abbrev pub keeping : Key T → Account T → Account T
   keeping key account =
       record account { kept = take account.capacity (key ∷ filter (λ other. not (same_key key other)) account.kept) }
 
+  -- a look-up is a hit, which moves the key to the front, or a miss
+  abbrev pub looked_up : Key T → Account T → Account T
+  looked_up key account =
+      if is_kept key account then record (keeping key account) { hits = counted account.hits } else record account { misses = counted account.misses }
+
   -- the tags have words from now on
   abbrev pub seeing : List T → Account T → Account T
   seeing tags account = if account.capacity == 0 then account else record account { seen = with_tags account.seen tags }
+
+  -- an allowed rule is kept, and its outputs have words
+  abbrev pub rule_kept : {E : Type 0} → Key T → Result (Outs T) E → Account T → Account T
+  rule_kept key (Ok outs) account = seeing (outs.pc ∷ outs.result ∷ []) (keeping key account)
+  rule_kept key (Err why) account = account
+
+-- more tags have words than may have
+abbrev pub is_over : {T : Type 0} → Account T → Bool
+is_over account = nat_lt account.limit (length account.seen)
 
 -- the tags that a service writes: those of its range, ascending, and that of its answer
 abbrev pub answer_tags : {T : Type 0} → Option (Answer T) → List T
@@ -104,13 +113,9 @@ module _ {S T : Type 0} (eq : T → T → Bool) (m : PolicyModel T S) (s : Machi
   after_look (Ok look) account = looked_up eq (key_of look) account
   after_look (Err why) account = account
 
-  -- an allowed rule is kept, and its outputs have words
-  abbrev pub after_outs : Look T → Result (Outs T) Stop → Account T → Account T
-  after_outs look (Ok outs) account = seeing eq (outs.pc ∷ outs.result ∷ []) (keeping eq (key_of look) account)
-  after_outs look (Err why) account = account
-
+  -- its rule is kept where it is allowed
   abbrev pub after_rule : Result (Look T) Stop → Account T → Account T
-  after_rule (Ok look) account = after_outs look (allowed m s h look) account
+  after_rule (Ok look) account = rule_kept eq (key_of look) (allowed m s h look) account
   after_rule (Err why) account = account
 
   -- the tags that a served service writes have words
@@ -123,11 +128,15 @@ module _ {S T : Type 0} (eq : T → T → Bool) (m : PolicyModel T S) (s : Machi
   unfoldable pub look_counted : Account T → Account T
   look_counted account = after_look (prepared m s h) account
 
+  -- the account after the rule of a turn, if it came to one
+  unfoldable pub rule_counted : Account T → Account T
+  rule_counted account = after_rule (prepared m s h) (look_counted account)
+
   -- the account after a turn that is made
   unfoldable pub accounted : Account T → Account T
-  accounted account =
-      record (after_service (job_at m s h) (after_rule (prepared m s h) (look_counted account))) { turns = counted account.turns }
+  accounted account = record (after_service (job_at m s h) (rule_counted account)) { turns = counted account.turns }
 
--- more tags have words than may have
-abbrev pub is_over : {T : Type 0} → Account T → Bool
-is_over account = nat_lt account.limit (length account.seen)
+  -- the account before the step that needs more words than there may be: that of the rule's outputs, or that of the tags
+  -- that the service writes
+  abbrev pub before_out : Account T → Account T
+  before_out account = if is_over (rule_counted account) then look_counted account else rule_counted account

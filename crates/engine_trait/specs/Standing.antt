@@ -1,7 +1,7 @@
 -- An engine as its callers see it, and one step of it: the turn of a hart with what it leaves of the account.
-use Rattle.std.specs.Prelude.{◌≡◌, ℕ, Bool, true, false, ◌&&◌, List, Option, Some, None, IsOk}
+use Rattle.std.specs.Prelude.{◌≡◌, ◌⊎◌, ℕ, Bool, true, false, ◌&&◌, List, Option, Some, None, IsOk}
 use Rattle.policy_trait.specs.Model.{PolicyModel}
-use Rattle.engine_trait.specs.Accounts.{Account, accounted, is_over, look_counted}
+use Rattle.engine_trait.specs.Accounts.{Account, accounted, before_out, is_over, look_counted, rule_counted}
 use Rattle.engine_trait.specs.Machine.{Machine, is_ready_in}
 use Rattle.engine_trait.specs.Turn.{prepared, stopped_at, turn_of}
 use Rattle.engine_trait.specs.declared.ends.Halt.{Halt}
@@ -30,6 +30,10 @@ is_running (Some why) = false
 abbrev pub is_ready : {S T : Type 0} → Standing S T → ℕ → Bool
 is_ready e h = is_running e.account.halt && is_ready_in e.machine.core h
 
+-- the account stopped for want of memory
+abbrev pub wanting : {T : Type 0} → Account T → Account T
+wanting account = record account { halt = Some halt.Memory }
+
 module _ {S T : Type 0} (eq : T → T → Bool) (m : PolicyModel T S) (e : Standing S T) (feed : List ℕ) (h : ℕ) where
   -- the turn is made: it is the machine's, and it is counted
   abbrev pub made : Stepped S T
@@ -39,10 +43,11 @@ module _ {S T : Type 0} (eq : T → T → Bool) (m : PolicyModel T S) (e : Stand
     ended = (turn_of m e.machine feed h).ended;
   }
 
-  -- the engine ran out of tag words: the look-up is counted, the turn is not, and nothing else changes
+  -- the engine ran out of tag words: the look-up is counted, and the rule is kept where its outputs have words; the turn is
+  -- not counted, and nothing else changes
   abbrev pub out_of_words : Stepped S T
   out_of_words = record {
-    standing = record e { account = record (look_counted eq m e.machine h e.account) { halt = Some halt.TagWords } };
+    standing = record e { account = record (before_out eq m e.machine h e.account) { halt = Some halt.TagWords } };
     feed = feed;
     ended = ends.TagsOut;
   }
@@ -59,20 +64,14 @@ module _ {S T : Type 0} (eq : T → T → Bool) (m : PolicyModel T S) (e : Stand
   unfoldable pub step : Stepped S T
   step = step_by (is_ready e h) (is_over (accounted eq m e.machine h e.account))
 
-  -- Memory ran out in a turn that came to its rule: the look-up is counted and the engine is stopped; the machine, the feed,
-  -- the turns and what is seen stay. What is kept is not said.
+  -- Memory ran out in a turn that came to its rule: the look-up is counted, and the rule is kept where the turn came to its
+  -- service; the engine is stopped, the turn is not counted, and nothing else changes.
   pub record GivesUp (f : Standing S T) (fed : List ℕ) : Type 0 where
     pub ready : is_ready e h ≡ true
     pub asked : IsOk (prepared m e.machine h)
     pub machine : f.machine ≡ e.machine
     pub unfed : fed ≡ feed
-    pub turns : f.account.turns ≡ e.account.turns
-    pub seen : f.account.seen ≡ e.account.seen
-    pub limit : f.account.limit ≡ e.account.limit
-    pub capacity : f.account.capacity ≡ e.account.capacity
-    pub hits : f.account.hits ≡ (look_counted eq m e.machine h e.account).hits
-    pub misses : f.account.misses ≡ (look_counted eq m e.machine h e.account).misses
-    pub halt : f.account.halt ≡ Some halt.Memory
+    pub account : (f.account ≡ wanting (look_counted eq m e.machine h e.account)) ⊎ (f.account ≡ wanting (rule_counted eq m e.machine h e.account))
 
 -- a stop that is no exit: one of the checks or the policy ended the turn
 abbrev pub IsFailure : Stop → Type 0

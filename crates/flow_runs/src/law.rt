@@ -22,7 +22,8 @@ pub fn edge_law()
 
 /// A run in which each turn does so is safe. The function does nothing.
 pub fn safe_law()
-    ensures { (birth : ℕ → Birth) (words : List ℕ) (edges : List (ℕ × ℕ)) (events : List (Event FlowTag))
+    ensures { (birth : ℕ → Birth) (words : List ℕ) (edges : List (ℕ × ℕ))
+        (events : List (Event FlowTag))
         → ((x : Moment events) → FlowTurn birth words edges x.before x.event)
         → FlowSafe birth words edges events }
 {}

@@ -13,14 +13,16 @@ ghost use Rattle.heap_runs.specs.HeapSafe.{HeapTurn, is_in_heap};
 /// which other policies are chosen too. The function does nothing.
 pub fn block_law()
     ensures { (base top : ℕ)
-        → Keeps heap (HeapLine base top) (λ before event. HeapTurn base top (block_book before) event) }
+        → Keeps heap (HeapLine base top)
+        (λ before event. HeapTurn base top (block_book before) event) }
 {}
 
 /// The line holds at every start with a heap region of whole words, where the births tell it. The function does nothing.
 pub fn start_law()
     ensures { (birth : ℕ → Birth) (words entries : List ℕ) (base bytes : ℕ)
         → base % 4 ≡ 0 → base + bytes < 2 ^ 32
-        → ((n : ℕ) → n < length words → (birth (4 * n)).heap ≡ is_in_heap base (base + bytes) (4 * n))
+        → ((n : ℕ) → n < length words
+        → (birth (4 * n)).heap ≡ is_in_heap base (base + bytes) (4 * n))
         → HeapLine base (base + bytes) []
         (first_machine heap (empty_heap base bytes) birth words entries) }
 {}

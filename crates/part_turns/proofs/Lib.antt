@@ -1,7 +1,6 @@
 pub mod EffectFacts
 pub mod LookFacts
 pub mod MachineFacts
-pub mod MapLemmas
 pub mod Places
 pub mod RunLemmas
 pub mod ServiceFacts

@@ -11,9 +11,9 @@ use Rattle.policy_trait.specs.declared.services.Words.{Words}
 use Rattle.monitor_calls.specs.Ranges.{IsJobOf}
 use Rattle.monitor_calls.specs.Service.{new_word, retagged, retagged_range, tag_or_end}
 use Rattle.monitor_calls.proofs.RangeLemmas.{each_retagged, same_list}
+use Rattle.engine_trait.specs.Maps.{words_by}
 use Rattle.policy_parts.specs.Part.{IsPart, Planned, beside_others, others, own}
 use Rattle.policy_parts.specs.View.{View}
-use Rattle.part_turns.proofs.MapLemmas.{words_by}
 
 -- a plan's service is the number that was asked
 pub number_is : {U V : Type 0} (m : PolicyModel U V) (v : V) (number : ℕ) (a : Args U) (pc : U) (p : Plan U) → Planned m v number a pc p

@@ -12,7 +12,6 @@ use Rattle.policy_trait.specs.declared.rules.Outs.{Outs}
 use Rattle.policy_trait.specs.declared.rules.Refused.{Refused}
 use Rattle.policy_trait.specs.declared.services.Args.{Args}
 use Rattle.policy_trait.specs.declared.services.Plan.{Plan}
-use Rattle.policy_trait.specs.declared.services.PlanEnd.{PlanEnd}
 use Rattle.tag_memory.specs.Hart.{HartState}
 use Rattle.tag_memory.specs.Maps.{hart_by}
 use Rattle.tag_memory.specs.Ram.{ram_bytes, ram_tag, ram_word}
@@ -29,11 +28,12 @@ use Rattle.turn_steps.specs.declared.stop.Stop.{Stop}
 use Rattle.turn_steps.proofs.MapLemmas.{looked_by}
 use Rattle.engine_trait.specs.Events.{Call, Event, asked_in, called_in, event_by, event_of, is_retiring, touched_in, work_in}
 use Rattle.engine_trait.specs.Machine.{CoreState, IsMachine, Machine, hart_at, is_ready_in}
-use Rattle.engine_trait.specs.Maps.{core_by}
-use Rattle.engine_trait.specs.Turn.{Turned, allowed, carried_at, core_effected, effected, job_at, or_unserved, or_violation, planned, prepared, service_on, settled, turn_of}
+use Rattle.engine_trait.specs.Maps.{core_by, words_by}
+use Rattle.engine_trait.specs.Turn.{Turned, allowed, carried_at, core_effected, effected, job_at, or_violation, planned, prepared, service_on, settled, turn_of}
 use Rattle.engine_trait.specs.declared.ends.TurnEnd.{TurnEnd}
 use Rattle.engine_trait.specs.declared.ends.TurnEnd.TheVariants as ends
-use Rattle.engine_trait.proofs.MachineLemmas.{Prepares, can_plan, known_call, prepared_is}
+use Rattle.engine_trait.proofs.MachineLemmas.{Prepares, can_plan, known_call, plans, prepared_is}
+use Rattle.engine_trait.proofs.MapLemmas.{args_on_by, core_effected_by, core_served_by, hart_at_by}
 use Rattle.engine_trait.proofs.MirrorLemmas.{ready_by}
 use Rattle.engine_trait.proofs.TurnLemmas.{event_idle, job_ruled, turn_checked, turn_idle, turn_refused, turn_ruled}
 use Rattle.policy_parts.specs.Part.{IsPart, Planned, beside_others}
@@ -43,7 +43,6 @@ use Rattle.part_turns.specs.Moments.{Service, service_by, service_of}
 use Rattle.part_turns.specs.Turns.{Allows, Turns, after_service, exits, goes, idles, is_computing, serves, stops}
 use Rattle.part_turns.proofs.EffectFacts.{Leaves, halts, leaves, moves_on, no_access, retires}
 use Rattle.part_turns.proofs.LookFacts.{Looks, looks}
-use Rattle.part_turns.proofs.MapLemmas.{args_on_by, core_effected_by, core_served_by, hart_at_by, words_by}
 use Rattle.part_turns.proofs.ServiceFacts.{job_seen, number_is}
 use Rattle.part_turns.proofs.StopFacts.{StopsUnretired, checked_stops, refused_stops, unserved_stops}
 
@@ -52,12 +51,6 @@ use Rattle.part_turns.proofs.StopFacts.{StopsUnretired, checked_stops, refused_s
 ruled : {A : Type 0} (pc : ℕ) (answer : Result A Refused) (given : A) → or_violation pc answer ≡ Ok given → answer ≡ Ok given
 ruled pc (Ok x) given e = cc
 ruled pc (Err refused) given e = absurd cc
-
-called : {T : Type 0} (is_so : Bool) (given : Result (Job T) PlanEnd) (pc service : ℕ) (job : Job T)
-    → (if is_so then or_unserved pc service given else Ok None) ≡ Ok (Some job) → (is_so ≡ true) × (given ≡ Ok job)
-called true (Ok given) pc service job e = (refl, cc)
-called true (Err end) pc service job e = absurd cc
-called false given pc service job e = absurd cc
 
 call_is : (called_group : Group) → is_call called_group ≡ true → called_group ≡ group.Call
 call_is group.Call e = refl
@@ -283,7 +276,7 @@ module _ {T S U V : Type 0} (w : PolicyModel T S) (m : PolicyModel U V) (l : Vie
           → ShownAs (effected w s feed h look outs (Some job)) (Ok look) (Ok (Some job))
       unfolding planned service_on
       call_shown job e =
-          let parts = called (is_call look.group) (service_on w s h look outs) hart.pc look.service job e in
+          let parts = plans (is_call look.group) (service_on w s h look outs) hart.pc look.service job e in
           job_shown job parts.0 (is_job w s.policy (ram_word s.core.ram) (ram_tag s.core.ram) look.service arguments outs.pc job parts.1)
 
       -- ---- each end of the plan

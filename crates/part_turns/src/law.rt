@@ -16,7 +16,8 @@ use policy_trait::Policy;
 pub fn turn_law<P: Policy, Q: Policy>()
     ensures turn { (l : View P.Tag P Q.Tag Q) (s : Machine P P.Tag) (feed : List ℕ) (h : ℕ)
         → IsPart P.model Q.model l → l.is_on s.policy ≡ true → IsMachine P.model s
-        → P.holds s.policy → Turns Q.model (seen_by l s) h (event_with l.tag (event_of P.model s feed h))
+        → P.holds s.policy
+        → Turns Q.model (seen_by l s) h (event_with l.tag (event_of P.model s feed h))
         (seen_by l (turn_of P.model s feed h).machine) }
     ensures on { (l : View P.Tag P Q.Tag Q) (s : Machine P P.Tag) (feed : List ℕ) (h : ℕ)
         → IsPart P.model Q.model l → l.is_on s.policy ≡ true

@@ -1,5 +1,5 @@
 -- Steps of an engine that keeps no rules, by where the turn ended.
-use Rattle.std.proofs.Common.{◌≡◌, ℕ, Bool, true, false, List, None, Result, Ok, Err, IsOk, refl, ap, sym, ◌∙◌, subst, if◌then◌else◌}
+use Rattle.std.proofs.Common.{◌≡◌, ℕ, Bool, true, false, List, None, Result, Ok, Err, IsOk, refl, ap, sym, ◌∙◌, inl, subst, if◌then◌else◌}
 use Rattle.std.proofs.lemmas.Bool.{false≢true}
 use Rattle.policy_trait.specs.Model.{PolicyModel}
 use Rattle.policy_trait.specs.Steps.{◌>>=◌}
@@ -11,7 +11,7 @@ use Rattle.turn_steps.specs.declared.look.Look.{Look}
 use Rattle.turn_steps.specs.declared.stop.Stop.{Stop}
 use Rattle.engine_trait.specs.Accounts.{Account, IsUncached, accounted, counted}
 use Rattle.engine_trait.specs.Machine.{Machine, hart_at}
-use Rattle.engine_trait.specs.Standing.{GivesUp, Standing, Stepped, is_ready, step}
+use Rattle.engine_trait.specs.Standing.{GivesUp, Standing, Stepped, is_ready, step, wanting}
 use Rattle.engine_trait.specs.Turn.{Turned, allowed, effected, or_unserved, planned, prepared, service_on, settled, stopped_at, turn_of}
 use Rattle.engine_trait.specs.declared.ends.TurnEnd.{TurnEnd}
 use Rattle.engine_trait.specs.declared.ends.TurnEnd.TheVariants as ends
@@ -119,13 +119,7 @@ module _ {S T : Type 0} (eq : T → T → Bool) (m : PolicyModel T S) (e : Stand
     asked = subst IsOk (sym looked) refl;
     machine = refl;
     unfed = refl;
-    turns = refl;
-    seen = refl;
-    limit = refl;
-    capacity = refl;
-    hits = sym (ap (λ account. account.hits) (look_counted_missed eq m e.machine h e.account look plain looked));
-    misses = sym (ap (λ account. account.misses) (look_counted_missed eq m e.machine h e.account look plain looked));
-    halt = refl;
+    account = inl (ap wanting (sym (look_counted_missed eq m e.machine h e.account look plain looked)));
   })
 
   pub unrefused : (look : Look T) (outs : Outs T) (asked : Standing S T) → prepared m e.machine h ≡ Ok look → asked ≡ after_look_up e → allowed m asked.machine h look ≡ Ok outs

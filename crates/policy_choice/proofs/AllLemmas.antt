@@ -56,13 +56,13 @@ comp_apart_in : (part : Option ℕ) (r : Others) (k : ℕ) → knows_in compartm
 comp_apart_in None r k known = absurd (cc known)
 comp_apart_in (Some count) r k known = others_offer r k (neither k known)
 
-seal_apart : (s : Maybe ℕ) (r : Maybe ℕ × Others) → IsApart (maybe sealing) (both (maybe compartments) (both (maybe flow) (maybe heap))) s r
+pub seal_apart : (s : Maybe ℕ) (r : Maybe ℕ × Others) → IsApart (maybe sealing) (both (maybe compartments) (both (maybe flow) (maybe heap))) s r
 seal_apart s r k known = sealing_apart s.part r k known
 
-comp_apart : (s : Maybe ℕ) (r : Others) → IsApart (maybe compartments) (both (maybe flow) (maybe heap)) s r
+pub comp_apart : (s : Maybe ℕ) (r : Others) → IsApart (maybe compartments) (both (maybe flow) (maybe heap)) s r
 comp_apart s r k known = comp_apart_in s.part r k known
 
-flow_apart : (s : Maybe (List (ℕ × ℕ))) (r : Maybe HeapState) → IsApart (maybe flow) (maybe heap) s r
+pub flow_apart : (s : Maybe (List (ℕ × ℕ))) (r : Maybe HeapState) → IsApart (maybe flow) (maybe heap) s r
 flow_apart s r k known = let none = flow_offers_none s.part k in absurd (cc (none, known))
 
 -- ---- who lends

@@ -1,4 +1,4 @@
-mod AllLemmas
+pub mod AllLemmas
 mod FlatLemmas
 pub mod NothingLemmas
-mod OwnerLemmas
+pub mod OwnerLemmas

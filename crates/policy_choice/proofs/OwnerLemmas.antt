@@ -5,7 +5,7 @@ use Rattle.image_format.proofs.FieldLaws.{both}
 use Rattle.image_format.specs.Conditions.{IsList, are_rows, in_order, is_compartment, is_compartment_after, is_owner, is_range, is_u32, whole}
 use Rattle.image_format.specs.declared.rows.CompartmentRange.{CompartmentRange}
 
-owner_fits : (ram : ℕ) (row : CompartmentRange) → is_compartment ram row ≡ true → row.owner ≤ 31
+pub owner_fits : (ram : ℕ) (row : CompartmentRange) → is_compartment ram row ≡ true → row.owner ≤ 31
 owner_fits ram row fits =
     let masks = both (is_range ram row.range && is_owner row.owner && is_u32 row.into) (is_u32 row.write) fits in
     let into = both (is_range ram row.range && is_owner row.owner) (is_u32 row.into) masks.0 in

@@ -12,7 +12,8 @@ use Rattle.policy_trait.specs.declared.services.Answer.{Answer}
 use Rattle.policy_trait.specs.declared.services.Args.{Args}
 use Rattle.policy_trait.specs.declared.services.Plan.{Plan}
 use Rattle.policy_trait.specs.declared.services.PlanEnd.{PlanEnd}
-use Rattle.policy_product.specs.Both.{both_ignore, joined, lent, or_else, rest_tag, tag_beside}
+use Rattle.policy_product.specs.Both.{both_ignore, joined, lent, or_else, rest_tag}
+use Rattle.policy_parts.specs.Part.{committed, word_tag}
 
 -- one for each policy, in the order in which they are asked
 pub record Four (A B C D : Type 0) : Type 0 where
@@ -31,14 +32,6 @@ module _ {T S : Type 0} (m : PolicyModel T S) where
   -- a policy lends the used arguments of a service that is not its own
   abbrev pub lent_to_others : S → ℕ → ℕ → Args T → Result (Unit {0}) PlanEnd
   lent_to_others s number uses a = if m.knows s number then Ok tt else lent (m.lend s) uses a
-
-  -- it retags the words of its own services, wipes those that another's makes zero, and leaves the others
-  abbrev pub word_tag : S → Plan T → T → Result T Refused
-  word_tag s p old = if m.knows s p.service then m.retag s p old else tag_beside m s p.zero p.pc old
-
-  -- and only its own change it
-  abbrev pub committed : S → Plan T → S
-  committed s p = if m.knows s p.service then m.commit s p else s
 
 -- texts that are not empty, with bars between
 abbrev pub all_joined : List (List ℕ) → List ℕ

@@ -79,20 +79,20 @@ module _ {T : Type 0} (tag_of : ℕ → T) (eq : T → T → Bool) (key : Key) w
 
     -- a look-up of a key that the account has, or has not
     counted_hit : is_kept eq (key_by tag_of key) account ≡ true
-        → looked_up eq (key_by tag_of key) account ≡ record account { hits = counted account.hits }
-    counted_hit hit = ap (λ b. if b then record account { hits = counted account.hits } else record account { misses = counted account.misses }) hit
+        → looked_up eq (key_by tag_of key) account ≡ record (accounts.keeping eq (key_by tag_of key) account) { hits = counted account.hits }
+    counted_hit hit = ap (λ b. if b then record (accounts.keeping eq (key_by tag_of key) account) { hits = counted account.hits } else record account { misses = counted account.misses }) hit
 
     counted_miss : is_kept eq (key_by tag_of key) account ≡ false
         → looked_up eq (key_by tag_of key) account ≡ record account { misses = counted account.misses }
-    counted_miss miss = ap (λ b. if b then record account { hits = counted account.hits } else record account { misses = counted account.misses }) miss
+    counted_miss miss = ap (λ b. if b then record (accounts.keeping eq (key_by tag_of key) account) { hits = counted account.hits } else record account { misses = counted account.misses }) miss
 
     hit_by : (at : Option (Outs ℕ)) → is_some at ≡ true
-        → IsAccountOf tag_of (accounts.keeping eq (key_by tag_of key) (record account { hits = counted account.hits })) (counted_as key at store)
+        → IsAccountOf tag_of (record (accounts.keeping eq (key_by tag_of key) account) { hits = counted account.hits }) (counted_as key at store)
     hit_by None hit = absurd cc
     hit_by (Some words) hit = record { kept = keys_alike words; capacity = is.capacity; hits = ap counted is.hits; misses = is.misses }
 
     pub hit_alike : is_some (found key store) ≡ true
-        → IsAccountOf tag_of (accounts.keeping eq (key_by tag_of key) (looked_up eq (key_by tag_of key) account)) (looked_for key store)
+        → IsAccountOf tag_of (looked_up eq (key_by tag_of key) account) (looked_for key store)
     hit_alike hit = rw (counted_hit (kept_alike ∙ hit)) (hit_by (found key store) hit)
 
     miss_by : (at : Option (Outs ℕ)) → is_some at ≡ false → IsAccountOf tag_of (record account { misses = counted account.misses }) (counted_as key at store)

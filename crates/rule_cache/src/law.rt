@@ -35,8 +35,7 @@ pub fn account_law<T: Same>()
     ensures hit { (tag_of : ℕ → T) (account : Account T) (store : Store) (key : StoreKey)
         → IsAccountOf tag_of account store → IsToldApart tag_of T.eq key store
         → is_some (found key store) ≡ true
-        → IsAccountOf tag_of (accounts.keeping T.eq (key_by tag_of key)
-        (looked_up T.eq (key_by tag_of key) account)) (looked_for key store) }
+        → IsAccountOf tag_of (looked_up T.eq (key_by tag_of key) account) (looked_for key store) }
     ensures miss { (tag_of : ℕ → T) (account : Account T) (store : Store) (key : StoreKey)
         → IsAccountOf tag_of account store → IsToldApart tag_of T.eq key store
         → is_some (found key store) ≡ false

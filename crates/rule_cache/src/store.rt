@@ -9,7 +9,7 @@ use std::alloc::{AllocError, Global};
 /// Rules by their keys, as many as the capacity, the most recent first.
 ///
 /// The counts stand still at 2^64 - 1. Of the calls, `made` and `keep` alone take memory.
-pub trait RuleStore: Sized {
+pub trait RuleStore: Drop {
     /// What is kept, and the counts.
     ghost state: { Self → Store };
 

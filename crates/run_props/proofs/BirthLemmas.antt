@@ -13,6 +13,7 @@ use Rattle.image_format.proofs.FieldLaws.{both}
 use Rattle.compartment_policy.specs.Compartments.{IsCount}
 use Rattle.heap_policy.specs.Heap.{IsHeap}
 use Rattle.policy_choice.specs.All.{compartment_count, heap_of}
+use Rattle.policy_choice.proofs.OwnerLemmas.{owner_fits}
 use Rattle.tag_loader.specs.Births.{birth_by, birth_of, id_of, is_labelled_by, is_owned_by, lies_in, lies_in_heap}
 
 -- ---- the count of compartments
@@ -27,12 +28,6 @@ count_least count (row ∷ rows) =
     let here = le-max_left count (row.owner + 1) in
     let rest = count_least (max count (row.owner + 1)) rows in
     omega (arith, here, rest)
-
-owner_fits : (ram : ℕ) (row : CompartmentRange) → is_compartment ram row ≡ true → row.owner ≤ 31
-owner_fits ram row fits =
-    let masks = both (is_range ram row.range && is_owner row.owner && is_u32 row.into) (is_u32 row.write) fits in
-    let into = both (is_range ram row.range && is_owner row.owner) (is_u32 row.into) masks.0 in
-    leb-true row.owner 31 (both (is_range ram row.range) (is_owner row.owner) into.0).1
 
 -- it is never more than 32
 count_most : (ram : ℕ) (before : Option CompartmentRange) (count : ℕ) (rows : List CompartmentRange) → count ≤ 32

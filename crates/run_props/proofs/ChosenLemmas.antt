@@ -1,7 +1,6 @@
 -- The chosen policies at the start of an image: what each keeps of its value, their sound machine, and each one's value.
 use Rattle.std.proofs.Common.{◌≡◌, ℕ, ◌≤◌, Bool, true, false, [], map, ap, arith}
 use Rattle.std.specs.Option.{is_some, unwrap_or}
-use Rattle.std.proofs.Math.Nat.{max-le}
 use Rattle.image_format.specs.Conditions.{IsImage}
 use Rattle.image_format.specs.Picture.{Picture}
 use Rattle.policy_trait.specs.Model.{PolicyModel}
@@ -9,9 +8,10 @@ use Rattle.sealing_policy.specs.Sealing.{HasFewKeys, sealing}
 use Rattle.compartment_policy.specs.Compartments.{IsCount, compartments}
 use Rattle.flow_policy.specs.Flow.{HoldsAlways, flow}
 use Rattle.heap_policy.specs.Heap.{IsHeap, empty_heap, heap}
-use Rattle.policy_product.specs.Maybe.{MaybeHolds, room_in}
+use Rattle.policy_product.specs.Maybe.{MaybeHolds}
 use Rattle.policy_choice.specs.All.{all, chosen, compartment_count, heap_of, pair_of, part_if}
 use Rattle.policy_choice.specs.declared.choice.Choice.{Choice}
+use Rattle.policy_choice.proofs.AllLemmas.{room_of_chosen}
 use Rattle.engine_trait.specs.Machine.{IsMachine}
 use Rattle.tag_loader.specs.Start.{start_machine}
 use Rattle.run_props.specs.Views.{comp_view, flow_view, heap_view, seal_view}
@@ -32,10 +32,6 @@ module _ {S : Type 0} (s : S) where
   value_if : (on : Bool) (absent : S) → on ≡ true → unwrap_or (part_if on s).part absent ≡ s
   value_if on absent is = ap (λ (b : Bool). unwrap_or (part_if b s).part absent) is
 
-  room_if : {T : Type 0} (m : PolicyModel T S) (on : Bool) (ram : ℕ) → m.room s ≤ ram → room_in m (part_if on s).part ≤ ram
-  room_if m true ram fits = fits
-  room_if m false ram fits = omega arith
-
 -- ---- all of them
 
 module _ (choice : Choice) (g : Picture) where
@@ -48,14 +44,8 @@ module _ (choice : Choice) (g : Picture) where
     ),
   )
 
-  room_fits : IsImage g → all.room (chosen choice g) ≤ g.ram
-  room_fits is =
-      max-le (room_if 0 sealing choice.seal g.ram (omega arith))
-      (max-le (room_if (compartment_count g.compartments) compartments choice.comp g.ram (omega arith))
-      (max-le (room_if (map pair_of g.edges) flow choice.flow g.ram (omega arith)) (room_if (heap_of g) heap choice.heap g.ram (ends_inside g is))))
-
   pub start_sound : IsImage g → IsMachine all (start_machine all (chosen choice g) g)
-  start_sound is = sound_start all (chosen choice g) g is (room_fits is)
+  start_sound is = sound_start all (chosen choice g) g is (room_of_chosen choice g (ends_inside g is))
 
   -- ---- each of them, where it is chosen
 

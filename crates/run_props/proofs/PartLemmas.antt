@@ -1,78 +1,31 @@
 -- Each of the four policies is a part of all of them together, which keep the laws.
-use Rattle.std.proofs.Common.{◌≡◌, ℕ, Bool, true, false, ◌||◌, List, [], Option, Some, None, refl, ap, ◌∙◌, arith}
-use Rattle.std.proofs.lemmas.Bool.Decides.{nat_tests}
+use Rattle.std.proofs.Common.{[], refl}
 use Rattle.policy_trait.specs.Laws.{KeepsLaws}
 use Rattle.policy_trait.specs.Model.{PolicyModel}
-use Rattle.sealing_policy.specs.Sealing.{HasFewKeys, sealing, sealing_knows}
+use Rattle.sealing_policy.specs.Sealing.{HasFewKeys, sealing}
 use Rattle.sealing_policy.specs.SealingLaws.{sealing_laws}
 use Rattle.sealing_policy.specs.declared.tag.SealTag.TheVariants.{Data}
 use Rattle.compartment_policy.specs.CompartmentLaws.{compartment_laws}
-use Rattle.compartment_policy.specs.Compartments.{IsCount, compartment_knows, compartments}
+use Rattle.compartment_policy.specs.Compartments.{IsCount, compartments}
 use Rattle.compartment_policy.specs.declared.tag.CompartmentTag.TheVariants as compartment_tag
 use Rattle.flow_policy.specs.Flow.{HoldsAlways, flow}
 use Rattle.flow_policy.specs.FlowLaws.{flow_laws}
 use Rattle.flow_policy.specs.declared.tag.FlowTag.TheVariants as flow_tag
-use Rattle.heap_policy.specs.Heap.{HeapState, IsHeap, empty_heap, heap, heap_knows}
+use Rattle.heap_policy.specs.Heap.{IsHeap, empty_heap, heap}
 use Rattle.heap_policy.specs.HeapLaws.{heap_laws}
 use Rattle.heap_policy.specs.declared.tag.HeapTag.TheVariants.{Val}
-use Rattle.policy_product.specs.Both.{IsApart, both}
+use Rattle.policy_product.specs.Both.{both}
 use Rattle.policy_product.specs.BothLaws.{both_laws}
-use Rattle.policy_product.specs.Maybe.{knows_in, maybe}
+use Rattle.policy_product.specs.Maybe.{maybe}
 use Rattle.policy_product.specs.MaybeLaws.{maybe_laws}
-use Rattle.policy_product.specs.declared.maybe.Maybe.{Maybe}
 use Rattle.policy_choice.specs.All.{all}
+use Rattle.policy_choice.proofs.AllLemmas.{comp_apart, flow_apart, seal_apart}
 use Rattle.policy_parts.specs.Part.{IsPart}
 use Rattle.policy_parts.specs.View.{left_view, on_view, right_view}
 use Rattle.policy_parts.proofs.OnLemmas.{part_of_itself}
 use Rattle.policy_parts.proofs.PairLemmas.{part_of_left, part_of_right}
 use Rattle.run_props.specs.Holds.{AllHold, CompHolds, FlowHolds, HeapHolds, LastHold, RestHold, SealHolds}
 use Rattle.run_props.specs.Views.{comp_view, flow_view, heap_view, seal_view}
-
--- ---- who offers which service
-
-not_comp : (k : ℕ) → sealing_knows k ≡ true → compartment_knows k ≡ false
-not_comp k known = grind (arith, nat_tests)
-
-not_heap : (k : ℕ) → sealing_knows k ≡ true → heap_knows k ≡ false
-not_heap k known = grind (arith, nat_tests)
-
-neither : (k : ℕ) → compartment_knows k ≡ true → heap_knows k ≡ false
-neither k known = grind (arith, nat_tests)
-
--- a policy that may be off offers no service that it doesn't know
-offers_no : {T S : Type 0} (m : PolicyModel T S) (part : Option S) (k : ℕ) → ((s : S) → m.knows s k ≡ false) → knows_in m part k ≡ false
-offers_no m None k unknown = refl
-offers_no m (Some s) k unknown = unknown s
-
--- where it offers one, it knows it
-offers : {T S : Type 0} (m : PolicyModel T S) (part : Option S) (k : ℕ) (knows : Bool) → ((s : S) → m.knows s k ≡ knows) → knows_in m part k ≡ true → knows ≡ true
-offers m None k knows is known = absurd (cc known)
-offers m (Some s) k knows is known = cc (is s, known)
-
--- no service is offered by the last two, or by the last three
-
-abbrev Last : Type 0
-Last = Maybe (List (ℕ × ℕ)) × Maybe HeapState
-
-last_two : (r : Last) (k : ℕ) → heap_knows k ≡ false → (both (maybe flow) (maybe heap)).knows r k ≡ false
-last_two r k unknown =
-    ap (λ first. first || knows_in heap r.1.part k) (offers_no flow r.0.part k (λ s. refl)) ∙ offers_no heap r.1.part k (λ s. unknown)
-
-last_three : (r : Maybe ℕ × Last) (k : ℕ) → compartment_knows k ≡ false → heap_knows k ≡ false
-    → (both (maybe compartments) (both (maybe flow) (maybe heap))).knows r k ≡ false
-last_three r k not_known unknown =
-    ap (λ first. first || (both (maybe flow) (maybe heap)).knows r.1 k) (offers_no compartments r.0.part k (λ s. not_known)) ∙ last_two r.1 k unknown
-
-seal_apart : (s : Maybe ℕ) (r : Maybe ℕ × Last) → IsApart (maybe sealing) (both (maybe compartments) (both (maybe flow) (maybe heap))) s r
-seal_apart s r k known =
-    let is = offers sealing s.part k (sealing_knows k) (λ v. refl) known in
-    last_three r k (not_comp k is) (not_heap k is)
-
-comp_apart : (s : Maybe ℕ) (r : Last) → IsApart (maybe compartments) (both (maybe flow) (maybe heap)) s r
-comp_apart s r k known = last_two r k (neither k (offers compartments s.part k (compartment_knows k) (λ v. refl) known))
-
-flow_apart : (s : Maybe (List (ℕ × ℕ))) (r : Maybe HeapState) → IsApart (maybe flow) (maybe heap) s r
-flow_apart s r k known = let none = offers_no flow s.part k (λ v. refl) in absurd (cc (none, known))
 
 -- ---- the laws
 

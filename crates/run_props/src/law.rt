@@ -114,7 +114,8 @@ pub fn attack_law()
         → GoesAstray birth words edges events (event_with flow_view.tag (event_of all s feed h))
         → IsStopped (event_of all s feed h) }
     ensures heap { (base top : ℕ) (events : List (Event HeapTag)) (s : Machine AllState AllTag)
-        (feed : List ℕ) (h : ℕ) → InLine heap_view (HeapLine base top) events s → is_ready_in s.core h ≡ true
+        (feed : List ℕ) (h : ℕ) → InLine heap_view (HeapLine base top) events s
+        → is_ready_in s.core h ≡ true
         → MissesBlock base top (block_book events)
         (event_with heap_view.tag (event_of all s feed h))
         → IsStopped (event_of all s feed h) }

@@ -2,12 +2,14 @@
 //! first comes, up to a limit, and keeps it.
 #![tactic(auto)]
 
+mod decoder;
 mod interner;
 mod law;
 mod table;
 #[cfg(test)]
 mod tests;
 
+pub use decoder::Decoder;
 pub use interner::Interner;
 pub use law::growth_law;
 pub use table::{InternEnd, TagTable};

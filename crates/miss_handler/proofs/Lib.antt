@@ -1,0 +1,6 @@
+pub mod AccountLemmas
+pub mod AskLemmas
+pub mod HitLemmas
+pub mod MaskLemmas
+pub mod MissLemmas
+pub mod RuleLemmas

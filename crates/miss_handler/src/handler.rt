@@ -1,0 +1,189 @@
+//! `ask`: the answer of a kept rule, or that of the policy's, which is kept then.
+
+ghost use Rattle.std.specs.Prelude.{◌≡◌, ◌↔◌, ◌<◌, ◌≤◌, [], ◌∷◌, Err, IfOk, IsOk, IsOkAnd, OnErr, OnOk, Ok, Some, if◌then◌else◌, true, is_some, length, slice_get};
+ghost use Rattle.policy_trait.specs.Model.{masked};
+ghost use Rattle.policy_trait.specs.declared.rules.Refused.{Refused};
+ghost use Rattle.engine_trait.specs.Accounts.{Account, counted, is_kept, looked_up, rule_kept, with_tags};
+ghost use Rattle.rule_cache.specs.Stores.{found, stored};
+ghost use Rattle.tag_intern.specs.Table.{Extends};
+ghost use Rattle.miss_handler.specs.Asked.{AreInWords, AreOutWords, AreRules, answer_on, outs_on, tag_key, word_key};
+ghost use Rattle.miss_handler.specs.Answered.{AreWordsOf, IsAnswered, with_outs};
+ghost use Rattle.miss_handler.specs.Told.{Tells};
+
+use crate::ends::AskEnd;
+use crate::rules::Rules;
+use policy_trait::{Mask, Outs, Refused};
+use rule_cache::{InWords, Key, OutWords, RuleStore};
+use rv_decode::Group;
+use tag_intern::{Decoder, InternEnd, TagTable};
+
+/// The outputs of the rule of a group at five tags, all as words.
+///
+/// A kept rule is found, and the policy's rule is not asked then, nothing is appended to the table, and no memory is
+/// taken. Else the policy's rule is asked once. Where it refuses, it is not kept. Where it allows, its outputs get words,
+/// that of the pc first, and the rule is kept; where they can't, nothing is appended and it is not kept.
+#[inline(always)]
+pub fn ask<T: TagTable, C: RuleStore, R: Rules<Tag = T::Tag>>(
+    tags: &mut T,
+    store: &mut C,
+    rules: &mut R,
+    group: Group,
+    words: InWords,
+) -> Result<OutWords, AskEnd>
+    requires plain_word { slice_get (T.state tags.old).tags 0 ≡ Some (R.book rules.old).plain }
+    requires in_words { AreInWords (length (T.state tags.old).tags) words }
+    requires rules { AreRules (R.book rules.old) (T.state tags.old).tags (C.state store.old).kept }
+
+    // The answer is that of the policy's rule.
+    ensures answer { IfOk result (λ outs.
+        answer_on (R.book rules.old) (T.state tags.old).tags group words
+        ≡ Ok (outs_on (R.book rules.old) (T.state tags.new).tags outs)) }
+    ensures out_words { IfOk result (AreOutWords (length (T.state tags.new).tags)) }
+    ensures stopped { (refused : Refused) → (result ≡ Err (AskEnd.Stopped refused))
+        ↔ (answer_on (R.book rules.old) (T.state tags.old).tags group words ≡ Err refused) }
+
+    // Beside the account of an engine, the look-up is counted, and an allowed rule is kept and its outputs have words.
+    ensures kept { OnOk result ((account : Account T.Tag)
+        → Tells (R.book rules.old).plain (T.state tags.old) (C.state store.old) account
+        → Tells (R.book rules.old).plain (T.state tags.new) (C.state store.new)
+        (rule_kept T.Tag.eq (tag_key (R.book rules.old) (T.state tags.old).tags group words)
+        (answer_on (R.book rules.old) (T.state tags.old).tags group words)
+        (looked_up T.Tag.eq (tag_key (R.book rules.old) (T.state tags.old).tags group words)
+        account))) }
+    ensures unkept { OnErr result ((account : Account T.Tag)
+        → Tells (R.book rules.old).plain (T.state tags.old) (C.state store.old) account
+        → Tells (R.book rules.old).plain (T.state tags.new) (C.state store.new)
+        (looked_up T.Tag.eq (tag_key (R.book rules.old) (T.state tags.old).tags group words)
+        account)) }
+
+    // It is out of words exactly where the outputs need more than there may be.
+    ensures tags_out { result ≡ Err AskEnd.TagsOut
+        → IsOkAnd (answer_on (R.book rules.old) (T.state tags.old).tags group words)
+        (λ outs. (T.state tags.old).limit
+        < length (with_tags T.Tag.eq (T.state tags.old).tags (outs.pc ∷ outs.result ∷ []))) }
+    ensures within { length (T.state tags.new).tags ≤ (T.state tags.new).limit }
+    ensures extends { Extends (T.state tags.old).tags (T.state tags.new).tags }
+    ensures refused { OnErr result (T.state tags.new ≡ T.state tags.old) }
+
+    // A kept rule is found: nothing that may fail is done, and no rule is asked.
+    ensures hit { is_some (found (word_key (R.book rules.old) group words) (C.state store.old)) ≡ true
+        → IsOk result }
+    ensures known { is_some (found (word_key (R.book rules.old) group words) (C.state store.old)) ≡ true
+        → T.state tags.new ≡ T.state tags.old }
+    ensures told { (account : Account T.Tag)
+        → Tells (R.book rules.old).plain (T.state tags.old) (C.state store.old) account
+        → is_kept T.Tag.eq (tag_key (R.book rules.old) (T.state tags.old).tags group words) account
+        ≡ is_some (found (word_key (R.book rules.old) group words) (C.state store.old)) }
+    ensures answers { R.answers rules.new
+        ≡ (if is_some (found (word_key (R.book rules.old) group words) (C.state store.old))
+        then R.answers rules.old else counted (R.answers rules.old)) }
+
+    // The rules stay what they are, and each kept one is the policy's answer still.
+    ensures book { R.book rules.new ≡ R.book rules.old }
+    ensures rules { AreRules (R.book rules.old) (T.state tags.new).tags (C.state store.new).kept }
+{
+    let _len = tags.len(); // for the proof: no tag has two words
+    let key = Key {
+        group,
+        words: masked(rules.ignores(group), words),
+    };
+    if let Some(outs) = store.find(&key) {
+        return Ok(outs);
+    }
+    missed(tags, store, rules, key)
+}
+
+/// The words with each that the mask ignores made that of the plain tag.
+#[inline(always)]
+fn masked(mask: Mask, words: InWords) -> InWords
+    ensures { result ≡ masked mask 0 words }
+{
+    InWords {
+        pc: if mask.pc { 0 } else { words.pc },
+        ci: if mask.ci { 0 } else { words.ci },
+        t1: if mask.t1 { 0 } else { words.t1 },
+        t2: if mask.t2 { 0 } else { words.t2 },
+        tm: if mask.tm { 0 } else { words.tm },
+    }
+}
+
+/// What the policy's rule answers to a key that is not kept. Where it allows, its outputs get words and the rule is kept;
+/// else table and store are as they were.
+#[inline(never)]
+fn missed<T: TagTable, C: RuleStore, R: Rules<Tag = T::Tag>>(
+    tags: &mut T,
+    store: &mut C,
+    rules: &mut R,
+    key: Key,
+) -> Result<OutWords, AskEnd>
+    ensures answered { IfOk result
+        (IsAnswered T.Tag.eq (R.book rules.old) (T.state tags.old) (T.state tags.new) key) }
+    ensures kept { IfOk result (λ outs.
+        C.state store.new ≡ stored key outs (C.state store.old)) }
+    ensures stopped { (refused : Refused) → (result ≡ Err (AskEnd.Stopped refused))
+        ↔ (answer_on (R.book rules.old) (T.state tags.old).tags key.group key.words ≡ Err refused) }
+    ensures tags_out { result ≡ Err AskEnd.TagsOut
+        → IsOkAnd (answer_on (R.book rules.old) (T.state tags.old).tags key.group key.words)
+        (λ outs. (T.state tags.old).limit
+        < length (with_outs T.Tag.eq (T.state tags.old).tags outs)) }
+    ensures table { OnErr result (T.state tags.new ≡ T.state tags.old) }
+    ensures store { OnErr result (C.state store.new ≡ C.state store.old) }
+    ensures within { OnOk result (length (T.state tags.new).tags ≤ (T.state tags.new).limit) }
+    ensures answers { R.answers rules.new ≡ counted (R.answers rules.old) }
+    ensures book { R.book rules.new ≡ R.book rules.old }
+{
+    let outs = match answer(tags, rules, &key) {
+        Ok(outs) => outs,
+        Err(refused) => return Err(AskEnd::Stopped(refused)),
+    };
+    let len = tags.len();
+    let words = match intern_outs(tags, outs) {
+        Ok(words) => words,
+        Err(InternEnd::Full) => return Err(AskEnd::TagsOut),
+        Err(InternEnd::Memory) => return Err(AskEnd::Memory),
+    };
+    if store.keep(key, words).is_err() {
+        tags.cut(len);
+        return Err(AskEnd::Memory);
+    }
+    Ok(words)
+}
+
+/// The answer of the policy's rule at the tags of a key.
+fn answer<T: TagTable, R: Rules<Tag = T::Tag>>(
+    tags: &T,
+    rules: &mut R,
+    key: &Key,
+) -> Result<Outs<T::Tag>, Refused>
+    ensures answer { result
+        ≡ answer_on (R.book rules.old) (T.state tags.now).tags key.now.group key.now.words }
+    ensures answers { R.answers rules.new ≡ counted (R.answers rules.old) }
+    ensures book { R.book rules.new ≡ R.book rules.old }
+{
+    let decoder = Decoder {
+        tags,
+        plain: rules.plain(),
+    };
+    rules.answer(key.group, key.words.map(&decoder))
+}
+
+/// The words of the outputs, that of the pc first. A refusal leaves no tag behind.
+fn intern_outs<T: TagTable>(tags: &mut T, outs: Outs<T::Tag>) -> Result<OutWords, InternEnd>
+    ensures words { IfOk result (AreWordsOf (T.state tags.new).tags outs) }
+    ensures grown { OnOk result (T.state tags.new
+        ≡ record (T.state tags.old) { tags = with_outs T.Tag.eq (T.state tags.old).tags outs }) }
+    ensures within { OnOk result (length (T.state tags.new).tags ≤ (T.state tags.new).limit) }
+    ensures full { result ≡ Err InternEnd.Full
+        → (T.state tags.old).limit < length (with_outs T.Tag.eq (T.state tags.old).tags outs) }
+    ensures refused { OnErr result (T.state tags.new ≡ T.state tags.old) }
+{
+    let len = tags.len();
+    let pc = tags.intern(outs.pc)?;
+    match tags.intern(outs.result) {
+        Ok(result) => Ok(OutWords { pc, result }),
+        Err(end) => {
+            tags.cut(len);
+            Err(end)
+        }
+    }
+}

@@ -1,0 +1,14 @@
+//! What is asked of the rules where tags are words: a kept rule where there is one, else the policy's, which is kept then.
+#![tactic(auto)]
+
+mod ends;
+mod handler;
+mod masks;
+mod rules;
+#[cfg(test)]
+mod tests;
+
+pub use ends::AskEnd;
+pub use handler::ask;
+pub use masks::Masks;
+pub use rules::{Asking, Rules};

@@ -1,0 +1,151 @@
+-- What an answer of the rules leaves, in the words of the engine's state.
+use Rattle.std.proofs.Common.{◌≡◌, ℕ, ◌<◌, ◌≤◌, ◌==◌, Bool, true, false, List, [], ◌∷◌, Result, Ok, Err, IfErr, IfOk, IsOk, IsOkAnd, OnErr, OnOk, length, refl, sym, ap, ◌∙◌, arith, is_some, subst, if◌then◌else◌}
+use Rattle.std.proofs.lemmas.Bool.{le-ltb, lt-ltb}
+use Rattle.std.proofs.lemmas.Bool.Decides.{nat_tests}
+use Rattle.policy_trait.specs.Model.{PolicyModel}
+use Rattle.policy_trait.specs.declared.rules.Outs.{Outs}
+use Rattle.policy_trait.specs.declared.rules.Refused.{Refused}
+use Rattle.turn_steps.specs.declared.look.Look.{Look}
+use Rattle.engine_trait.specs.Accounts.{Account, Key, counted, is_kept, is_over, keeping, looked_up, rule_kept, with_tags}
+use Rattle.rule_cache.specs.Stores.{Store, found}
+use Rattle.tag_intern.specs.Table.{Extends, TableState}
+use Rattle.miss_handler.specs.Asked.{AreInWords, AreOutWords, AreRules, answer_on, outs_on, tag_key, word_key}
+use Rattle.miss_handler.specs.Books.{rulebook_of}
+use Rattle.miss_handler.specs.Told.{Tells}
+use Rattle.miss_handler.specs.declared.ends.AskEnd.{AskEnd}
+use Rattle.miss_handler.specs.declared.ends.AskEnd.TheVariants as ask_end
+use Rattle.pump_engine.specs.Pump.{IsPump, PumpState, account_by_words, decode, pump_of}
+use Rattle.pump_engine.specs.Steps.{Allows, Unanswered, answer_in, key_in, looked_in, ruled_in}
+use Rattle.pump_engine.proofs.LowLemmas.{ins_same}
+use Rattle.pump_engine.proofs.StayLemmas.{decode_grown, machine_grown, pump_grown}
+
+-- ---- accounts
+
+pub not_none : (n : ℕ) → 1 ≤ n → (n == 0) ≡ false
+not_none n some = grind (arith, nat_tests, some)
+
+-- what both cases of a test have
+in_both : {A B : Type 0} (f : A → B) (test : Bool) (x y : A) (b : B) → f x ≡ b → f y ≡ b → f (if test then x else y) ≡ b
+in_both f true x y b first second = first
+in_both f false x y b first second = second
+
+module _ {T : Type 0} (eq : T → T → Bool) (key : Key T) where
+  -- a look-up leaves what does not count look-ups
+  looked_leaves : {B : Type 0} (f : Account T → B) (a : Account T) → f (record (keeping eq key a) { hits = counted a.hits }) ≡ f a
+      → f (record a { misses = counted a.misses }) ≡ f a → f (looked_up eq key a) ≡ f a
+  looked_leaves f a hit miss = in_both f (is_kept eq key a) (record (keeping eq key a) { hits = counted a.hits }) (record a { misses = counted a.misses }) (f a) hit miss
+
+  -- so does a rule that is kept
+  ruled_leaves : {B : Type 0} (f : Account T → B) (answer : Result (Outs T) Refused) (a : Account T)
+      → ((seen : List T) → f (record (keeping eq key a) { seen = seen }) ≡ f a) → f (keeping eq key a) ≡ f a → f (rule_kept eq key answer a) ≡ f a
+  ruled_leaves f (Ok outs) a seen kept =
+      in_both f (a.capacity == 0) (keeping eq key a) (record (keeping eq key a) { seen = with_tags eq a.seen (outs.pc ∷ outs.result ∷ []) }) (f a) kept (seen _)
+  ruled_leaves f (Err why) a seen kept = refl
+
+  -- outputs that need too many words
+  over_by : (tags : List T) (limit : ℕ) (a : Account T) → a.seen ≡ tags → a.limit ≡ limit → 1 ≤ a.capacity → (answer : Result (Outs T) Refused)
+      → IsOkAnd answer (λ outs. limit < length (with_tags eq tags (outs.pc ∷ outs.result ∷ []))) → is_over (rule_kept eq key answer a) ≡ true
+  over_by tags limit a seen_is limit_is some (Ok outs) over =
+      ap (λ is_none. is_over (if is_none then keeping eq key a else record (keeping eq key a) { seen = with_tags eq a.seen (outs.pc ∷ outs.result ∷ []) })) (not_none a.capacity some)
+      ∙ ap (λ (n : ℕ). is_over (record a { limit = n; seen = with_tags eq a.seen (outs.pc ∷ outs.result ∷ []) })) limit_is
+      ∙ ap (λ (seen : List T). is_over (record a { limit = limit; seen = with_tags eq seen (outs.pc ∷ outs.result ∷ []) })) seen_is
+      ∙ lt-ltb limit (length (with_tags eq tags (outs.pc ∷ outs.result ∷ []))) over
+  over_by tags limit a seen_is limit_is some (Err why) over = absurd over
+
+-- ---- the clauses of `ask`
+
+module _ {S T : Type 0} (eq : T → T → Bool) (m : PolicyModel T S) (p : PumpState S T) (look : Look ℕ) (table : TableState T) (store : Store) where
+  -- the engine with what `ask` left
+  abbrev pub asked : PumpState S T
+  asked = pump_of p.policy p.core table store p.turns p.halt
+
+  -- what `ask` says of the rules of a policy that stands at s
+  pub record IsAsked (s : S) (answered : Result (Outs ℕ) AskEnd) : Type 0 where
+    pub answer : IfOk answered (λ outs. answer_on (rulebook_of m s) p.table.tags look.group look.inputs ≡ Ok (outs_on (rulebook_of m s) table.tags outs))
+    pub out_words : IfOk answered (AreOutWords (length table.tags))
+    pub stopped : (refusal : Refused) → answered ≡ Err (ask_end.Stopped refusal) → answer_on (rulebook_of m s) p.table.tags look.group look.inputs ≡ Err refusal
+    pub kept : OnOk answered ((account : Account T) → Tells (m.plain s) p.table p.store account
+        → Tells (m.plain s) table store (rule_kept eq (tag_key (rulebook_of m s) p.table.tags look.group look.inputs)
+        (answer_on (rulebook_of m s) p.table.tags look.group look.inputs)
+        (looked_up eq (tag_key (rulebook_of m s) p.table.tags look.group look.inputs) account)))
+    pub unkept : OnErr answered ((account : Account T) → Tells (m.plain s) p.table p.store account
+        → Tells (m.plain s) table store (looked_up eq (tag_key (rulebook_of m s) p.table.tags look.group look.inputs) account))
+    pub tags_out : answered ≡ Err ask_end.TagsOut → IsOkAnd (answer_on (rulebook_of m s) p.table.tags look.group look.inputs)
+        (λ outs. p.table.limit < length (with_tags eq p.table.tags (outs.pc ∷ outs.result ∷ [])))
+    pub within : length table.tags ≤ table.limit
+    pub extends : Extends p.table.tags table.tags
+    pub hit : is_some (found (word_key (rulebook_of m s) look.group look.inputs) p.store) ≡ true → IsOk answered
+    pub told : (account : Account T) → Tells (m.plain s) p.table p.store account
+        → is_kept eq (tag_key (rulebook_of m s) p.table.tags look.group look.inputs) account ≡ is_some (found (word_key (rulebook_of m s) look.group look.inputs) p.store)
+    pub rules : AreRules (rulebook_of m s) table.tags store.kept
+
+  module _ (is : IsPump m p) where
+    tells_own : Tells (m.plain p.policy) p.table p.store (account_by_words m p)
+    tells_own = record { seen = refl; limit = refl; room = is.room; rules = record { kept = refl; capacity = refl; hits = refl; misses = refl } }
+
+    -- the account that the table and the store tell, and the turns and the halt as they were
+    account_told : (account : Account T) → Tells (m.plain p.policy) table store account → account.turns ≡ p.turns → account.halt ≡ p.halt → account_by_words m asked ≡ account
+    account_told account tells turns_are halt_is = λ j. record {
+      seen = sym tells.seen j;
+      limit = sym tells.limit j;
+      kept = sym tells.rules.kept j;
+      capacity = sym tells.rules.capacity j;
+      turns = sym turns_are j;
+      hits = sym tells.rules.hits j;
+      misses = sym tells.rules.misses j;
+      halt = sym halt_is j;
+    }
+
+    looked_turns : (looked_in eq m p look).turns ≡ p.turns
+    looked_turns = looked_leaves eq (key_in eq m p look) (λ account. account.turns) (account_by_words m p) refl refl
+
+    looked_halt : (looked_in eq m p look).halt ≡ p.halt
+    looked_halt = looked_leaves eq (key_in eq m p look) (λ account. account.halt) (account_by_words m p) refl refl
+
+    ruled_turns : (ruled_in eq m p look).turns ≡ p.turns
+    ruled_turns = ruled_leaves eq (key_in eq m p look) (λ account. account.turns) (answer_in eq m p look) (looked_in eq m p look) (λ seen. refl) refl ∙ looked_turns
+
+    ruled_halt : (ruled_in eq m p look).halt ≡ p.halt
+    ruled_halt = ruled_leaves eq (key_in eq m p look) (λ account. account.halt) (answer_in eq m p look) (looked_in eq m p look) (λ seen. refl) refl ∙ looked_halt
+
+    room_by : (answered : Result (Outs ℕ) AskEnd) → IsAsked p.policy answered → 1 ≤ store.capacity
+    room_by (Ok outs) asks = (asks.kept (account_by_words m p) tells_own).room
+    room_by (Err end) asks = (asks.unkept (account_by_words m p) tells_own).room
+
+    -- it is an engine still
+    pub pump_asked : (answered : Result (Outs ℕ) AskEnd) → IsAsked p.policy answered → IsPump m asked
+    pump_asked answered asks = pump_grown m p asked is refl refl asks.extends asks.within (room_by answered asks) asks.rules
+
+    over_refused : (answered : Result (Outs ℕ) AskEnd) → IsAsked p.policy answered → answered ≡ Err ask_end.TagsOut → is_over (ruled_in eq m p look) ≡ true
+    over_refused answered asks out =
+        over_by eq (key_in eq m p look) p.table.tags p.table.limit (looked_in eq m p look)
+        (looked_leaves eq (key_in eq m p look) (λ account. account.seen) (account_by_words m p) refl refl)
+        (looked_leaves eq (key_in eq m p look) (λ account. account.limit) (account_by_words m p) refl refl)
+        (subst (λ n. 1 ≤ n) (sym (looked_leaves eq (key_in eq m p look) (λ account. account.capacity) (account_by_words m p) refl refl)) is.room)
+        (answer_in eq m p look) (asks.tags_out out)
+
+    module _ (inputs : AreInWords (length p.table.tags) look.inputs) where
+      pub allowed : (answered : Result (Outs ℕ) AskEnd) → IsAsked p.policy answered → IfOk answered (Allows eq m p look asked)
+      allowed (Ok outs) asks = record {
+        rule = asks.answer;
+        account = account_told (ruled_in eq m p look) (asks.kept (account_by_words m p) tells_own) ruled_turns ruled_halt;
+        machine = machine_grown m p asked is.words refl refl asks.extends;
+        inputs = ins_same (length p.table.tags) (decode m asked) (decode m p) (decode_grown m p asked refl asks.extends) look.inputs inputs;
+        within = le-ltb table.limit (length table.tags) asks.within;
+        words = asks.out_words;
+      }
+      allowed (Err end) asks = tt
+
+      pub unanswered : (answered : Result (Outs ℕ) AskEnd) → IsAsked p.policy answered → IfErr answered (Unanswered eq m p look asked)
+      unanswered (Ok outs) asks = tt
+      unanswered (Err end) asks = record {
+        account = account_told (looked_in eq m p look) (asks.unkept (account_by_words m p) tells_own) looked_turns looked_halt;
+        machine = machine_grown m p asked is.words refl refl asks.extends;
+        within = le-ltb table.limit (length table.tags) asks.within;
+        refused = λ refusal stops. asks.stopped refusal (ap (λ e. Err e) stops);
+        over = λ out. over_refused (Err end) asks (ap (λ e. Err e) out);
+      }
+
+    -- a kept rule is answered
+    pub kept_answered : (answered : Result (Outs ℕ) AskEnd) → IsAsked p.policy answered → is_kept eq (key_in eq m p look) (account_by_words m p) ≡ true → IsOk answered
+    kept_answered answered asks hit = asks.hit (sym (asks.told (account_by_words m p) tells_own) ∙ hit)

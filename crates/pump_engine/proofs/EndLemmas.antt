@@ -1,0 +1,142 @@
+-- How a turn of words ended: what a failure and an idle turn leave, a service of the policy, and want of memory.
+use Rattle.std.proofs.Common.{◌≡◌, ℕ, Bool, true, false, ◌||◌, not, List, Option, Some, None, Result, Ok, Err, ◌≢◌, refl, sym, ap, ◌∙◌, subst}
+use Rattle.policy_trait.specs.Model.{PolicyModel}
+use Rattle.policy_trait.specs.Steps.{◌>>=◌}
+use Rattle.policy_trait.specs.declared.rules.Outs.{Outs}
+use Rattle.policy_trait.specs.declared.services.PlanEnd.{PlanEnd}
+use Rattle.monitor_calls.specs.Service.{Job}
+use Rattle.turn_steps.specs.Looks.{is_call}
+use Rattle.turn_steps.specs.Maps.{look_by}
+use Rattle.turn_steps.specs.declared.effects.Done.{Done}
+use Rattle.turn_steps.specs.declared.effects.Done.TheVariants as done
+use Rattle.turn_steps.specs.declared.look.Look.{Look}
+use Rattle.turn_steps.specs.declared.stop.Stop.{Stop}
+use Rattle.turn_steps.specs.declared.stop.Stop.TheVariants as stop
+use Rattle.engine_trait.specs.Accounts.{is_kept}
+use Rattle.engine_trait.specs.Laws.{is_made}
+use Rattle.engine_trait.specs.Machine.{Machine, is_ready_in}
+use Rattle.engine_trait.specs.Standing.{GivesUp, IsFailure, Standing, Stepped, StopsOnly, Unchanged, is_ready, step}
+use Rattle.engine_trait.specs.Turn.{Turned, allowed, attempt, carried_at, effected, end_of, planned, prepared, settled, stopped_at, turn_by, turn_of}
+use Rattle.engine_trait.specs.declared.ends.TurnEnd.{TurnEnd}
+use Rattle.engine_trait.specs.declared.ends.TurnEnd.TheVariants as ends
+use Rattle.engine_trait.proofs.StepLemmas.{step_follows, step_stays_idle}
+use Rattle.engine_trait.proofs.TurnLemmas.{allowed_turn, planned_turn}
+use Rattle.miss_handler.specs.declared.ends.AskEnd.{AskEnd}
+use Rattle.miss_handler.specs.declared.ends.AskEnd.TheVariants as ask_end
+use Rattle.pump_engine.specs.Pump.{PumpState, account_by_words, decode, standing_by_words}
+use Rattle.pump_engine.specs.Steps.{Allows, EndsService, HasParts, key_in, may_grow, prepared_words, service_in, takes_memory, unanswered_end}
+use Rattle.pump_engine.proofs.CountLemmas.{prepared_at}
+use Rattle.pump_engine.proofs.TurnLemmas.{StepsTo, served_gives_up, served_turn, unserved_turn}
+
+-- ---- a failure
+
+module _ {S T : Type 0} (m : PolicyModel T S) (s : Machine S T) (feed : List ℕ) (h : ℕ) (why : Stop) (failing : IsFailure why) where
+  -- after it, the hart has the stop alone
+  abbrev HasFailed : Turned S T → Type 0
+  HasFailed turned = (turned.machine ≡ stopped_at s h why) × (turned.feed ≡ feed)
+
+  end_fails : (end : Done) → end_of end ≡ ends.Stopped why → ⊥
+  end_fails (done.Stepped byte) is = cc
+  end_fails done.Broke is = cc
+  end_fails (done.Exited code) is = let exits : why ≡ stop.Exit code = cc in subst IsFailure exits failing
+
+  effect_fails : (look : Look T) (outs : Outs T) (job : Option (Job T)) → (effected m s feed h look outs job).ended ≡ ends.Stopped why
+      → HasFailed (effected m s feed h look outs job)
+  effect_fails look outs (Some job) is = absurd cc
+  effect_fails look outs None is = absurd (end_fails (carried_at s.core feed h look outs).done is)
+
+  stop_fails : (other : Stop) → (settled m s feed h (Err other)).ended ≡ ends.Stopped why → HasFailed (settled m s feed h (Err other))
+  stop_fails other is = let same : other ≡ why = cc in (ap (stopped_at s h) same, refl)
+
+  steps_fail : {A : Type 0} (first : Result A Stop) (rest : A → Result (Turned S T) Stop)
+      → ((x : A) → (settled m s feed h (rest x)).ended ≡ ends.Stopped why → HasFailed (settled m s feed h (rest x)))
+      → (settled m s feed h (first >>= rest)).ended ≡ ends.Stopped why → HasFailed (settled m s feed h (first >>= rest))
+  steps_fail (Ok x) rest each is = each x is
+  steps_fail (Err other) rest each is = stop_fails other is
+
+  attempt_fails : (settled m s feed h (attempt m s feed h)).ended ≡ ends.Stopped why → HasFailed (settled m s feed h (attempt m s feed h))
+  unfolding attempt
+  attempt_fails =
+      steps_fail (prepared m s h) (allowed_turn m s feed h) λ look.
+      steps_fail (allowed m s h look) (planned_turn m s feed h look) λ outs.
+      steps_fail (planned m s h look outs) (λ job. Ok (effected m s feed h look outs job)) (effect_fails look outs)
+
+  turn_fails_by : (ready : Bool) → (turn_by m s feed h ready).ended ≡ ends.Stopped why → HasFailed (turn_by m s feed h ready)
+  turn_fails_by true is = attempt_fails is
+  turn_fails_by false is = absurd cc
+
+  turn_fails : (turn_of m s feed h).ended ≡ ends.Stopped why → HasFailed (turn_of m s feed h)
+  unfolding turn_of
+  turn_fails = turn_fails_by (is_ready_in s.core h)
+
+module _ {S T : Type 0} (eq : T → T → Bool) (m : PolicyModel T S) (e : Standing S T) (feed : List ℕ) (h : ℕ) (f : Standing S T) (fed : List ℕ) (ended : TurnEnd)
+    (steps : step eq m e feed h ≡ record { standing = f; feed = fed; ended = ended }) where
+  -- a failed turn leaves the stop alone
+  pub fails_alone : (why : Stop) → IsFailure why → ended ≡ ends.Stopped why → StopsOnly e feed h why f fed
+  fails_alone why failing stops =
+      let stopped : (step eq m e feed h).ended ≡ ends.Stopped why = ap (λ (s : Stepped S T). s.ended) steps ∙ stops in
+      let follows = step_follows eq m e feed h (ap is_made stopped) in
+      let failed = turn_fails m e.machine feed h why failing (sym follows.ended ∙ stopped) in
+      record {
+        machine = sym (ap (λ (s : Stepped S T). s.standing.machine) steps) ∙ follows.machine ∙ failed.0;
+        unfed = sym (ap (λ (s : Stepped S T). s.feed) steps) ∙ follows.fed ∙ failed.1;
+      }
+
+  -- an idle turn leaves all as it was
+  pub idles_alone : ended ≡ ends.Idle → Unchanged e feed f fed
+  idles_alone idle =
+      let stays = step_stays_idle eq m e feed h (ap (λ (s : Stepped S T). s.ended) steps ∙ idle) in
+      record {
+        same = sym (ap (λ (s : Stepped S T). s.standing) steps) ∙ ap (λ (s : Stepped S T). s.standing) stays.idle;
+        unfed = sym (ap (λ (s : Stepped S T). s.feed) steps) ∙ ap (λ (s : Stepped S T). s.feed) stays.idle;
+      }
+
+-- want of memory is told of nothing else
+pub memory_unanswered : (pc : ℕ) (end : AskEnd) → unanswered_end pc end ≡ ends.Memory → end ≡ ask_end.Memory
+memory_unanswered pc (ask_end.Stopped refusal) is = absurd cc
+memory_unanswered pc ask_end.TagsOut is = absurd cc
+memory_unanswered pc ask_end.Memory is = refl
+
+-- ---- a service of the policy, however it ended
+
+module _ {S T : Type 0} (eq : T → T → Bool) (m : PolicyModel T S) (p : PumpState S T) (feed : List ℕ) (h : ℕ) (ready : is_ready (standing_by_words m p) h ≡ true)
+    (q : PumpState S T) (look : Look ℕ) (found : prepared_words m p h ≡ Ok look) (parts : HasParts p q) (outs : Outs ℕ) (rule : Allows eq m p look q outs)
+    (call : is_call look.group ≡ true) (f : PumpState S T) (ended : TurnEnd) (served : EndsService eq m q h look outs f ended) where
+  service_turn_by : (given : Result (Job T) PlanEnd) → service_in eq m q h look outs ≡ given → ended ≢ ends.Memory → StepsTo eq m p feed h f feed ended
+  service_turn_by (Ok job) is has_memory =
+      served_turn eq m p feed h ready q look found parts outs rule call f job is ended (served.served job is) has_memory
+  service_turn_by (Err end) is has_memory =
+      let stopped = served.stopped end is in
+      unserved_turn eq m p feed h ready q look found parts outs rule call f end ended is stopped.0 stopped.1
+
+  pub service_turn : ended ≢ ends.Memory → StepsTo eq m p feed h f feed ended
+  service_turn = service_turn_by (service_in eq m q h look outs) refl
+
+  service_gives_up_by : (given : Result (Job T) PlanEnd) → service_in eq m q h look outs ≡ given → ended ≡ ends.Memory
+      → GivesUp eq m (standing_by_words m p) feed h (standing_by_words m f) feed
+  service_gives_up_by (Ok job) is out =
+      served_gives_up eq m p feed h ready q look found parts outs rule call f job ended (served.served job is) out
+  service_gives_up_by (Err end) is out = let stopped : ended ≡ ends.Stopped _ = (served.stopped end is).1 in absurd (cc (out, stopped))
+
+  pub service_gives_up : ended ≡ ends.Memory → GivesUp eq m (standing_by_words m p) feed h (standing_by_words m f) feed
+  service_gives_up = service_gives_up_by (service_in eq m q h look outs) refl
+
+-- ---- turns that may take memory
+
+module _ {S T : Type 0} (eq : T → T → Bool) (m : PolicyModel T S) (p : PumpState S T) (h : ℕ) (look : Look ℕ) (found : prepared_words m p h ≡ Ok look) where
+  grows : may_grow eq m (standing_by_words m p) h (Ok (look_by (decode m p) look)) ≡ true → takes_memory eq m (standing_by_words m p) h ≡ true
+  grows may = ap (may_grow eq m (standing_by_words m p) h) (prepared_at m p h look found) ∙ may
+
+  either_way : (kept call : Bool) → call ≡ true → (not kept || call) ≡ true
+  either_way true call is = is
+  either_way false call is = refl
+
+  pub service_grows : is_call look.group ≡ true → takes_memory eq m (standing_by_words m p) h ≡ true
+  service_grows call = grows (either_way (is_kept eq (key_in eq m p look) (account_by_words m p)) (is_call look.group) call)
+
+  not_kept : (kept call : Bool) → (kept ≡ true → ⊥) → (not kept || call) ≡ true
+  not_kept true call missed = absurd (missed refl)
+  not_kept false call missed = refl
+
+  pub missed_grows : (is_kept eq (key_in eq m p look) (account_by_words m p) ≡ true → ⊥) → takes_memory eq m (standing_by_words m p) h ≡ true
+  missed_grows missed = grows (not_kept (is_kept eq (key_in eq m p look) (account_by_words m p)) (is_call look.group) missed)

@@ -1,0 +1,128 @@
+-- A service of the policy where tags are words: what it is asked with, and what it leaves.
+use Rattle.std.proofs.Common.{◌≡◌, ℕ, ◌%◌, ◌<◌, ◌≤◌, Bool, List, All, length, map, Option, option_map, take, refl, sym, ap, ◌∙◌, if◌then◌else◌}
+use Rattle.std.proofs.lemmas.Bool.{le-ltb}
+use Rattle.std.specs.Map.{keys_of}
+use Rattle.policy_trait.specs.Laws.{KeepsLaws}
+use Rattle.policy_trait.specs.Maps.{answer_by, args_by}
+use Rattle.policy_trait.specs.Model.{IsGiven, PolicyModel}
+use Rattle.policy_trait.specs.declared.rules.Outs.{Outs}
+use Rattle.policy_trait.specs.declared.services.Answer.{Answer}
+use Rattle.policy_trait.specs.declared.services.Args.{Args}
+use Rattle.tag_memory.specs.Maps.{ram_by}
+use Rattle.tag_memory.specs.Ram.{RamState, ram_tag, ram_word}
+use Rattle.tag_memory.proofs.MapLemmas.{ram_tag_by}
+use Rattle.monitor_calls.specs.Service.{Job, served}
+use Rattle.turn_steps.specs.Services.{args_on}
+use Rattle.turn_steps.specs.declared.look.Look.{Look}
+use Rattle.engine_trait.specs.Accounts.{counted, with_tags, written_tags}
+use Rattle.engine_trait.specs.Machine.{hart_at}
+use Rattle.engine_trait.specs.Maps.{core_by, words_by}
+use Rattle.engine_trait.specs.Turn.{core_served, service_on}
+use Rattle.engine_trait.proofs.MapLemmas.{args_on_by, hart_at_by}
+use Rattle.rule_cache.specs.Named.{key_by}
+use Rattle.tag_intern.specs.Table.{Extends, TableState, cut_to}
+use Rattle.tag_intern.specs.Words.{tag_at}
+use Rattle.tag_intern.proofs.TableLemmas.{front}
+use Rattle.miss_handler.specs.Asked.{AreOutWords}
+use Rattle.miss_handler.specs.Books.{rulebook_of}
+use Rattle.word_service.specs.Written.{IsAnswerBelow, IsWordBelow}
+use Rattle.miss_handler.proofs.RuleLemmas.{keys_below, keys_grown, rules_grown}
+use Rattle.pump_engine.specs.Pump.{IsPump, PumpState, account_by_words, decode, machine_by_words, pump_of}
+use Rattle.pump_engine.specs.Steps.{Serves, service_in, written_in}
+use Rattle.pump_engine.proofs.AskLemmas.{not_none}
+use Rattle.pump_engine.proofs.StayLemmas.{after_service, decode_grown, machine_grown, machine_served, pump_grown, pump_served}
+
+-- ---- what it is asked with
+
+module _ {S T : Type 0} (eq : T → T → Bool) (m : PolicyModel T S) (p : PumpState S T) (h : ℕ) (look : Look ℕ) (outs : Outs ℕ) where
+  arguments_words : args_on (hart_at (core_by (decode m p) p.core) h) (ram_by (decode m p) p.core.ram) ≡ args_by (decode m p) (args_on (hart_at p.core h) p.core.ram)
+  arguments_words = ap (λ hart. args_on hart (ram_by (decode m p) p.core.ram)) (hart_at_by (decode m p) p.core h) ∙ args_on_by (decode m p) (hart_at p.core h) p.core.ram
+
+  service_words : service_in eq m p h look outs
+      ≡ served m p.policy (ram_word p.core.ram) (λ address. decode m p (ram_tag p.core.ram address)) look.service
+      (args_by (decode m p) (args_on (hart_at p.core h) p.core.ram)) (decode m p outs.pc)
+  unfolding service_on
+  service_words = λ j. served m p.policy (ram_word p.core.ram) (λ address. ram_tag_by (decode m p) p.core.ram address j) look.service (arguments_words j) (decode m p outs.pc)
+
+  -- by a reading of words that is the engine's
+  pub service_by : (plain : T) (table : TableState T) (ram : RamState ℕ) (arguments : Args T) (pc : T) → table ≡ p.table → plain ≡ m.plain p.policy → ram ≡ p.core.ram
+      → arguments ≡ args_by (tag_at plain table.tags) (args_on (hart_at p.core h) p.core.ram) → pc ≡ tag_at plain table.tags outs.pc
+      → service_in eq m p h look outs ≡ served m p.policy (ram_word ram) (λ address. tag_at plain table.tags (ram_tag ram address)) look.service arguments pc
+  service_by plain table ram arguments pc table_is plain_is ram_is arguments_are pc_is =
+      service_words
+      ∙ (λ j. served m p.policy (ram_word p.core.ram) (λ address. tag_at (sym plain_is j) (sym table_is j).tags (ram_tag p.core.ram address)) look.service
+      (args_by (tag_at (sym plain_is j) (sym table_is j).tags) (args_on (hart_at p.core h) p.core.ram)) (tag_at (sym plain_is j) (sym table_is j).tags outs.pc))
+      ∙ (λ j. served m p.policy (ram_word (sym ram_is j)) (λ address. tag_at plain table.tags (ram_tag (sym ram_is j) address)) look.service (sym arguments_are j) (sym pc_is j))
+
+-- ---- what it leaves
+
+-- tags that were added are cut off again
+pub cut_back : {T : Type 0} (old new : TableState T) (len : ℕ) → Extends old.tags new.tags → new.limit ≡ old.limit → len ≡ length old.tags → cut_to new len ≡ old
+cut_back old new len extends limit_is len_is = λ j. record {
+  tags = (ap (λ n. take n new.tags) len_is ∙ front old.tags new.tags extends) j;
+  limit = limit_is j;
+}
+
+module _ {S T : Type 0} (eq : T → T → Bool) (m : PolicyModel T S) (holds : S → Type 0) (laws : KeepsLaws m holds) (p : PumpState S T) (is : IsPump m p) (h : ℕ) (look : Look ℕ) (outs : Outs ℕ)
+    (job : Job T) (table : TableState T) (words : List (ℕ × ℕ × ℕ)) (answer : Option (Answer ℕ)) where
+  -- the tags that are written have words, and what is written in words stands for them
+  pub record IsWritten : Type 0 where
+    pub seen : table.tags ≡ with_tags eq p.table.tags (written_tags job)
+    pub limit : table.limit ≡ p.table.limit
+    pub within : length table.tags ≤ table.limit
+    pub extends : Extends p.table.tags table.tags
+    pub words_are : (plain : T) → words_by (tag_at plain table.tags) words ≡ job.words
+    pub answer_is : (plain : T) → option_map (answer_by (tag_at plain table.tags)) answer ≡ job.plan.answer
+    pub below : All (IsWordBelow (length table.tags)) words
+    pub answer_below : IsAnswerBelow (length table.tags) answer
+
+  -- the engine with these words
+  abbrev pub grown : PumpState S T
+  grown = pump_of p.policy p.core table p.store p.turns p.halt
+
+  -- and after the service
+  abbrev pub left : PumpState S T
+  left = after_service m grown h job.plan words answer look.effect.next outs.pc (counted p.turns)
+
+  module _ (written : IsWritten) (given : IsGiven m p.policy job.plan) (outputs : AreOutWords (length p.table.tags) outs) where
+    grown_is : IsPump m grown
+    grown_is = pump_grown m p grown is refl refl written.extends written.within is.room (rules_grown (rulebook_of m p.policy) p.table.tags table.tags written.extends p.store.kept is.rules)
+
+    pub pump_left : h < length p.core.harts → look.effect.next % 4 ≡ 0 → outs.pc < length table.tags → IsPump m left
+    pump_left there aligned below =
+        pump_served m holds laws grown job.plan given h words answer look.effect.next outs.pc (counted p.turns) grown_is there aligned written.below written.answer_below below
+
+    plain_stays : m.plain left.policy ≡ m.plain p.policy
+    plain_stays = (laws.keeps p.policy job.plan given).plain
+
+    pc_stays : decode m grown outs.pc ≡ decode m p outs.pc
+    pc_stays = decode_grown m p grown refl written.extends outs.pc outputs.pc
+
+    same_core : core_by (decode m grown) p.core ≡ core_by (decode m p) p.core
+    same_core = ap (λ machine. machine.core) (machine_grown m p grown is.words refl refl written.extends)
+
+    machine_left : machine_by_words m left ≡ record {
+      policy = m.commit p.policy job.plan;
+      core = core_served (machine_by_words m p).core h job.words job.plan.answer look.effect.next (decode m p outs.pc);
+    }
+    machine_left =
+        machine_served m holds laws grown job.plan given h words answer look.effect.next outs.pc (counted p.turns)
+        ∙ (λ j. record {
+          policy = m.commit p.policy job.plan;
+          core = core_served (same_core j) h (written.words_are (m.plain p.policy) j) (written.answer_is (m.plain p.policy) j) look.effect.next (pc_stays j);
+        })
+
+    account_left : account_by_words m left ≡ record (written_in eq m p h look outs job) { turns = counted p.turns }
+    account_left =
+        (λ j. record (account_by_words m p) {
+          seen = written.seen j;
+          limit = written.limit j;
+          kept = (ap (λ plain. map (key_by (tag_at plain table.tags)) (keys_of p.store.kept)) plain_stays
+              ∙ keys_grown (m.plain p.policy) p.table.tags table.tags written.extends (keys_of p.store.kept) (keys_below (rulebook_of m p.policy) p.table.tags p.store.kept is.rules)) j;
+          turns = counted p.turns;
+        })
+        ∙ sym (ap (λ is_none. record (if is_none then account_by_words m p else record (account_by_words m p) { seen = with_tags eq p.table.tags (written_tags job) }) { turns = counted p.turns })
+        (not_none p.store.capacity is.room))
+
+    pub serves : Serves eq m p h look outs job left
+    serves = record { machine = machine_left; account = account_left; within = le-ltb table.limit (length table.tags) written.within }

@@ -1,0 +1,91 @@
+use Rattle.std.proofs.Common.{◌≡◌, ◌<◌, ◌∙◌, All, length, ap, sym, subst, arith, rules}
+use Rattle.rv_decode.specs.declared.groups.Group.{Group}
+use Rattle.policy_trait.specs.Model.{IsGiven}
+use Rattle.tag_memory.specs.Ram.{IsPlace, ram_bytes}
+use Rattle.monitor_calls.specs.Ends.{job_by}
+use Rattle.engine_trait.specs.Accounts.{counted}
+use Rattle.engine_trait.specs.Turn.{core_served}
+use Rattle.miss_handler.specs.Asked.{AreOutWords}
+use Rattle.tag_intern.proofs.TableLemmas.{longer}
+use Rattle.pump_engine.proofs.ServiceLemmas.{IsWritten, cut_back, left, pump_left, serves}
+use Rattle.pump_engine.proofs.StayLemmas.{pump_at}
+use Rattle.pump_engine.proofs.pump.Pump.carry_out.Goals as goal
+use Rattle.pump_engine.specs.Pump.{IsPump, PumpState, pump_of}
+use Rattle.pump_engine.specs.Steps.{Serves}
+
+-- nothing was taken note of, and the tags that were added are cut off
+pub invariant_of-self-then-is_err : goal.invariant_of-self-then-is_err
+invariant_of-self-then-is_err g c =
+    let unnoted : c.commit.new.self ≡ c.self.inside.policy = search rules in
+    let table_is = c.cut.ensures ∙ cut_back (g.T.TagTable.state c.self.inside.tags) (g.T.TagTable.state c.intern_job.new.tags) c.len-len.result
+    c.intern_job.ensures.extends c.intern_job.ensures.limit c.len-len.ensures.len in
+    record {
+      pump = subst (λ policy. IsPump g.P.Policy.model (pump_of policy c.self.inside.core (g.T.TagTable.state c.cut.new.self) (g.C.RuleStore.state c.self.inside.store) c.self.inside.turns c.self.inside.halt)) (sym unnoted)
+          (subst (λ table. IsPump g.P.Policy.model (pump_of c.self.inside.policy c.self.inside.core table (g.C.RuleStore.state c.self.inside.store) c.self.inside.turns c.self.inside.halt)) (sym table_is)
+          c.self.invariant.pump);
+      masks_are = subst (λ policy. (group : Group) → c.self.inside.masks group ≡ g.P.Policy.model.ignores policy group) (sym unnoted) c.self.invariant.masks_are;
+    }
+
+pub serve-requires-clause-places : goal.serve-requires-clause-places
+serve-requires-clause-places g c =
+    subst (All (λ word. IsPlace (ram_bytes c.self.inside.core.ram) word.0)) (sym c.deref.ensures.value)
+    (c.in-Ok.ensures.places (ram_bytes c.self.inside.core.ram)
+    (subst (λ (q : PumpState g.row.P.Denot g.row.P-Tag.Denot). All (λ word. IsPlace (ram_bytes q.core.ram) word.0) c.args.job.now.words.items) (sym c.self.view_is) c.requires.places))
+
+pub invariant_of-self-2 : goal.invariant_of-self-2
+invariant_of-self-2 g c =
+    let p : PumpState g.row.P.Denot g.row.P-Tag.Denot =
+    pump_of c.self.inside.policy c.self.inside.core (g.T.TagTable.state c.self.inside.tags) (g.C.RuleStore.state c.self.inside.store) c.self.inside.turns c.self.inside.halt in
+    let given = subst (λ (q : PumpState g.row.P.Denot g.row.P-Tag.Denot). IsGiven g.P.Policy.model q.policy c.args.job.now.plan) (sym c.self.view_is) c.requires.given in
+    let outputs = subst (λ (q : PumpState g.row.P.Denot g.row.P-Tag.Denot). AreOutWords (length q.table.tags) c.args.outs) (sym c.self.view_is) c.requires.out_words in
+    let written : IsWritten g.P.Tag.PartialEq.eq g.P.Policy.model g.P.Policy.holds g.met.P.Policy.lawful p c.self.invariant.pump c.args.h c.args.look.now c.args.outs (job_by c.args.job.now.plan c.args.job.now.words.items) (g.T.TagTable.state c.intern_job.new.tags) c.in-Ok.written.words.items c.in-Ok.written.answer = record {
+      seen = c.in-Ok.ensures.seen;
+      limit = c.intern_job.ensures.limit;
+      within = c.intern_job.ensures.within;
+      extends = c.intern_job.ensures.extends;
+      words_are = c.in-Ok.ensures.words;
+      answer_is = c.in-Ok.ensures.answer;
+      below = c.in-Ok.ensures.below;
+      answer_below = c.in-Ok.ensures.answer_below;
+    } in
+    let noted : c.commit.new.self ≡ g.P.Policy.model.commit c.self.inside.policy c.args.job.now.plan = search rules in
+    let core_is : c.serve.new.self ≡ core_served c.self.inside.core c.args.h c.in-Ok.written.words.items c.in-Ok.written.answer c.args.look.now.effect.next c.args.outs.pc =
+    c.serve.ensures.core ∙ ap (λ words. core_served c.self.inside.core c.args.h words c.in-Ok.written.answer c.args.look.now.effect.next c.args.outs.pc) c.deref.ensures.value in
+    let there = subst (λ (q : PumpState g.row.P.Denot g.row.P-Tag.Denot). c.args.h < length q.core.harts) (sym c.self.view_is) c.requires.hart in
+    let more = longer p.table.tags (g.T.TagTable.state c.intern_job.new.tags).tags c.intern_job.ensures.extends in
+    let low = outputs.pc in
+    let below : c.args.outs.pc < length (g.T.TagTable.state c.intern_job.new.tags).tags = omega (arith, more, low) in
+    record {
+      pump = subst (λ policy. IsPump g.P.Policy.model (pump_of policy c.serve.new.self (g.T.TagTable.state c.intern_job.new.tags) (g.C.RuleStore.state c.self.inside.store) c.saturating_add-self-inside.result c.self.inside.halt)) (sym noted)
+          (pump_at g.P.Policy.model (left g.P.Tag.PartialEq.eq g.P.Policy.model g.P.Policy.holds g.met.P.Policy.lawful p c.self.invariant.pump c.args.h c.args.look.now c.args.outs (job_by c.args.job.now.plan c.args.job.now.words.items) (g.T.TagTable.state c.intern_job.new.tags) c.in-Ok.written.words.items c.in-Ok.written.answer) (pump_left g.P.Tag.PartialEq.eq g.P.Policy.model g.P.Policy.holds g.met.P.Policy.lawful p c.self.invariant.pump c.args.h c.args.look.now c.args.outs (job_by c.args.job.now.plan c.args.job.now.words.items) (g.T.TagTable.state c.intern_job.new.tags) c.in-Ok.written.words.items c.in-Ok.written.answer written given outputs there c.requires.aligned below)
+          c.serve.new.self core_is c.saturating_add-self-inside.result c.self.inside.halt);
+      masks_are = subst (λ policy. (group : Group) → c.self.inside.masks group ≡ g.P.Policy.model.ignores policy group) (sym noted)
+          (λ group. c.self.invariant.masks_are group ∙ sym ((g.met.P.Policy.lawful.keeps c.self.inside.policy c.args.job.now.plan given).ignores group));
+    }
+
+pub returns-clause-ends : goal.returns-clause-ends
+returns-clause-ends g c =
+    let p : PumpState g.row.P.Denot g.row.P-Tag.Denot =
+    pump_of c.self.inside.policy c.self.inside.core (g.T.TagTable.state c.self.inside.tags) (g.C.RuleStore.state c.self.inside.store) c.self.inside.turns c.self.inside.halt in
+    let given = subst (λ (q : PumpState g.row.P.Denot g.row.P-Tag.Denot). IsGiven g.P.Policy.model q.policy c.args.job.now.plan) (sym c.self.view_is) c.requires.given in
+    let outputs = subst (λ (q : PumpState g.row.P.Denot g.row.P-Tag.Denot). AreOutWords (length q.table.tags) c.args.outs) (sym c.self.view_is) c.requires.out_words in
+    let written : IsWritten g.P.Tag.PartialEq.eq g.P.Policy.model g.P.Policy.holds g.met.P.Policy.lawful p c.self.invariant.pump c.args.h c.args.look.now c.args.outs (job_by c.args.job.now.plan c.args.job.now.words.items) (g.T.TagTable.state c.intern_job.new.tags) c.in-Ok.written.words.items c.in-Ok.written.answer = record {
+      seen = c.in-Ok.ensures.seen;
+      limit = c.intern_job.ensures.limit;
+      within = c.intern_job.ensures.within;
+      extends = c.intern_job.ensures.extends;
+      words_are = c.in-Ok.ensures.words;
+      answer_is = c.in-Ok.ensures.answer;
+      below = c.in-Ok.ensures.below;
+      answer_below = c.in-Ok.ensures.answer_below;
+    } in
+    let noted : c.commit.new.self ≡ g.P.Policy.model.commit c.self.inside.policy c.args.job.now.plan = search rules in
+    let core_is : c.serve.new.self ≡ core_served c.self.inside.core c.args.h c.in-Ok.written.words.items c.in-Ok.written.answer c.args.look.now.effect.next c.args.outs.pc =
+    c.serve.ensures.core ∙ ap (λ words. core_served c.self.inside.core c.args.h words c.in-Ok.written.answer c.args.look.now.effect.next c.args.outs.pc) c.deref.ensures.value in
+    let turns_are : c.saturating_add-self-inside.result ≡ counted c.self.inside.turns = search rules in
+    let left_is : pump_of c.commit.new.self c.serve.new.self (g.T.TagTable.state c.intern_job.new.tags) (g.C.RuleStore.state c.self.inside.store) c.saturating_add-self-inside.result c.self.inside.halt
+    ≡ left g.P.Tag.PartialEq.eq g.P.Policy.model g.P.Policy.holds g.met.P.Policy.lawful p c.self.invariant.pump c.args.h c.args.look.now c.args.outs (job_by c.args.job.now.plan c.args.job.now.words.items) (g.T.TagTable.state c.intern_job.new.tags) c.in-Ok.written.words.items c.in-Ok.written.answer =
+    λ j. pump_of (noted j) (core_is j) (g.T.TagTable.state c.intern_job.new.tags) (g.C.RuleStore.state c.self.inside.store) (turns_are j) c.self.inside.halt in
+    subst (λ (q : PumpState g.row.P.Denot g.row.P-Tag.Denot). Serves g.P.Tag.PartialEq.eq g.P.Policy.model q c.args.h c.args.look.now c.args.outs (job_by c.args.job.now.plan c.args.job.now.words.items)
+    (pump_of c.commit.new.self c.serve.new.self (g.T.TagTable.state c.intern_job.new.tags) (g.C.RuleStore.state c.self.inside.store) c.saturating_add-self-inside.result c.self.inside.halt)) c.self.view_is
+    (subst (Serves g.P.Tag.PartialEq.eq g.P.Policy.model p c.args.h c.args.look.now c.args.outs (job_by c.args.job.now.plan c.args.job.now.words.items)) (sym left_is) (serves g.P.Tag.PartialEq.eq g.P.Policy.model g.P.Policy.holds g.met.P.Policy.lawful p c.self.invariant.pump c.args.h c.args.look.now c.args.outs (job_by c.args.job.now.plan c.args.job.now.words.items) (g.T.TagTable.state c.intern_job.new.tags) c.in-Ok.written.words.items c.in-Ok.written.answer written given outputs))

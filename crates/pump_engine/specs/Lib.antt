@@ -1,0 +1,3 @@
+pub mod Low
+pub mod Pump
+pub mod Steps

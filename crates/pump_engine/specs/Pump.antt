@@ -1,0 +1,74 @@
+-- The engine whose tags are words of a table, and which keeps rules: what it is, and which machine with which account it is
+-- by what its words stand for.
+use Rattle.std.specs.Prelude.{◌≡◌, ℕ, ◌≤◌, Option, Some, length, map, slice_get}
+use Rattle.std.specs.Map.{keys_of}
+use Rattle.rv_decode.specs.declared.groups.Group.{Group}
+use Rattle.policy_trait.specs.Model.{PolicyModel}
+use Rattle.policy_trait.specs.declared.rules.Mask.{Mask}
+use Rattle.engine_trait.specs.Accounts.{Account}
+use Rattle.engine_trait.specs.Machine.{CoreState, IsMachine, Machine}
+use Rattle.engine_trait.specs.Maps.{core_by}
+use Rattle.engine_trait.specs.Standing.{Standing}
+use Rattle.engine_trait.specs.declared.ends.Halt.{Halt}
+use Rattle.rule_cache.specs.Named.{key_by}
+use Rattle.rule_cache.specs.Stores.{Store}
+use Rattle.tag_intern.specs.Table.{TableState}
+use Rattle.tag_intern.specs.Words.{tag_at}
+use Rattle.miss_handler.specs.Asked.{AreRules}
+use Rattle.miss_handler.specs.Books.{rulebook_of}
+use Rattle.pump_engine.specs.Low.{IsLowCore}
+
+-- the policy's value, the core of words, the table of tags, the kept rules with the counts of look-ups, the count of turns,
+-- and why the engine is stopped as a whole
+pub record PumpState (S T : Type 0) : Type 0 where
+  pub policy : S
+  pub core : CoreState ℕ
+  pub table : TableState T
+  pub store : Store
+  pub turns : ℕ
+  pub halt : Option Halt
+
+abbrev pub pump_of : {S T : Type 0} → S → CoreState ℕ → TableState T → Store → ℕ → Option Halt → PumpState S T
+pump_of policy core table store turns halt =
+    record { policy = policy; core = core; table = table; store = store; turns = turns; halt = halt }
+
+module _ {S T : Type 0} (m : PolicyModel T S) where
+  -- what a word stands for
+  abbrev pub decode : PumpState S T → ℕ → T
+  decode p word = tag_at (m.plain p.policy) p.table.tags word
+
+  -- the machine of the tags that the words stand for
+  abbrev pub machine_by_words : PumpState S T → Machine S T
+  machine_by_words p = record { policy = p.policy; core = core_by (decode p) p.core }
+
+  -- its account: the table is what is seen, and the kept keys are those of the store
+  abbrev pub account_by_words : PumpState S T → Account T
+  account_by_words p = record {
+    seen = p.table.tags;
+    limit = p.table.limit;
+    kept = map (key_by (decode p)) (keys_of p.store.kept);
+    capacity = p.store.capacity;
+    turns = p.turns;
+    hits = p.store.hits;
+    misses = p.store.misses;
+    halt = p.halt;
+  }
+
+  abbrev pub standing_by_words : PumpState S T → Standing S T
+  standing_by_words p = record { machine = machine_by_words p; account = account_by_words p }
+
+  -- what holds of the engine at all times: the machine is sound, word 0 is the plain tag, no more tags have words than may,
+  -- every word in a register, in a pc and in memory is that of a tag, each kept rule is the policy's answer, and there may be
+  -- at least one
+  pub record IsPump (p : PumpState S T) : Type 0 where
+    pub machine : IsMachine m (machine_by_words p)
+    pub plain_word : slice_get p.table.tags 0 ≡ Some (m.plain p.policy)
+    pub within : length p.table.tags ≤ p.table.limit
+    pub words : IsLowCore (length p.table.tags) p.core
+    pub rules : AreRules (rulebook_of m p.policy) p.table.tags p.store.kept
+    pub room : 1 ≤ p.store.capacity
+
+  -- the masks that were taken are the policy's
+  pub record IsMasked (masks : Group → Mask) (p : PumpState S T) : Type 0 where
+    pub pump : IsPump p
+    pub masks_are : (group : Group) → masks group ≡ m.ignores p.policy group

@@ -1,0 +1,437 @@
+ghost use Rattle.std.specs.Prelude.{◌≡◌, ◌≢◌, ◌+◌, ◌%◌, ◌<◌, ◌≤◌, ◌&&◌, ◌||◌, not, [], Err, Ok, Some, None, IfErr, IfOk, IsOk, IsTrue, false, true, is_none, length};
+ghost use Rattle.std.specs.List.{All};
+ghost use Rattle.policy_trait.specs.Maps.{ins_by, outs_by};
+ghost use Rattle.policy_trait.specs.Model.{IsGiven};
+ghost use Rattle.monitor_calls.specs.Ends.{EndsAs, job_by};
+ghost use Rattle.tag_memory.specs.Hart.{reg_tag, reg_value};
+ghost use Rattle.tag_memory.specs.Ram.{IsPlace, ram_bytes, ram_tag, ram_word};
+ghost use Rattle.turn_steps.specs.Effects.{IsSound};
+ghost use Rattle.turn_steps.specs.Looks.{is_call};
+ghost use Rattle.turn_steps.specs.Maps.{look_by};
+ghost use Rattle.engine_trait.specs.Accounts.{is_kept, is_over};
+ghost use Rattle.engine_trait.specs.Machine.{IsMachine, hart_at, stop_at};
+ghost use Rattle.engine_trait.specs.Standing.{GivesUp, IsFailure, StopsOnly, Unchanged, is_ready, step};
+ghost use Rattle.engine_trait.specs.Turn.{carried_at, end_of, service_on, violation};
+ghost use Rattle.miss_handler.specs.Asked.{AreInWords, AreOutWords};
+ghost use Rattle.pump_engine.specs.Pump.{IsPump, account_by_words, standing_by_words};
+ghost use Rattle.pump_engine.specs.Steps.{Allows, CarriesOut, EndsService, HasParts, Unanswered, after_effect, after_halt, after_stop, after_unanswered, is_known, key_in, prepared_words, pump_start, service_in, takes_memory, unanswered_end};
+
+use engine_trait::{Core, Counts, Engine, Feed, Halt, Stop, TurnEnd};
+use miss_handler::{AskEnd, Asking, Masks, ask};
+use monitor_calls::{Job, ServeEnd, serve};
+use policy_trait::{Policy, Refused, TagMap};
+use rule_cache::{OutWords, RuleStore};
+use rv_decode::Group;
+use rv_step::Fault;
+use std::alloc::Global;
+use std::marker::Model;
+use tag_intern::{Decoder, InternEnd, TagTable};
+use tag_memory::{Hart, Ram};
+use turn_steps::Look;
+use word_service::{Decoded, WordJob, intern_job};
+
+/// An engine whose tags are words of a table, and which asks its policy for a rule only where the rule is not kept.
+///
+/// Contracts see it as a `PumpState`; `standing_by_words` is the machine of the tags that the words stand for, with its
+/// account.
+#[derive(Drop)]
+pub struct Pump<P: Policy, T: TagTable<Tag = P::Tag>, C: RuleStore> {
+    alloc: Global,
+    policy: P,
+    masks: Masks,
+    core: Core<u32>,
+    tags: T,
+    store: C,
+    turns: u64,
+    halt: Option<Halt>,
+}
+
+impl<P: Policy, T: TagTable<Tag = P::Tag>, C: RuleStore> Model for Pump<P, T, C> {
+    ghost use Rattle.pump_engine.specs.Pump.{IsMasked, PumpState, pump_of};
+
+    ghost Value = { PumpState P P.Tag };
+
+    ghost view = { λ p. pump_of p.policy p.core (T.state p.tags) (C.state p.store) p.turns p.halt };
+
+    ghost invariant = { λ p. IsMasked P.model p.masks
+        (pump_of p.policy p.core (T.state p.tags) (C.state p.store) p.turns p.halt) };
+}
+
+impl<P: Policy, T: TagTable<Tag = P::Tag>, C: RuleStore> Pump<P, T, C> {
+    /// The engine of these parts, of 1 to 8 harts: no hart has stopped, and no turn was made.
+    pub fn new(
+        alloc: Global,
+        policy: P,
+        ram: Ram<u32>,
+        harts: Vec<Hart<u32>>,
+        tags: T,
+        store: C,
+    ) -> Pump<P, T, C>
+        requires { IsPump P.model
+            (pump_start policy harts.items ram (T.state tags) (C.state store)) }
+        ensures { result ≡ pump_start policy harts.items ram (T.state tags) (C.state store) }
+    {
+        let masks = Masks::of(&policy);
+        Pump {
+            alloc,
+            policy,
+            masks,
+            core: Core::new(ram, harts),
+            tags,
+            store,
+            turns: 0,
+            halt: None,
+        }
+    }
+
+    /// How many tags have words: those below it. At all times word 0 is the plain tag, every word in a register, in a pc
+    /// and in memory is that of a tag, and each kept rule is the policy's answer.
+    pub fn words(&self) -> u32
+        ensures count { result ≡ length self.now.table.tags }
+        ensures sound { IsPump P.model self.now }
+    {
+        self.tags.len()
+    }
+
+    /// Whether hart `h` can have a turn: neither it nor the engine has stopped.
+    #[inline(always)]
+    fn is_ready(&self, h: u32) -> bool
+        requires { h < length (standing_by_words P.model self.now).machine.core.harts }
+        ensures ready { result ≡ is_ready (standing_by_words P.model self.now) h }
+        ensures hart { h < length self.now.core.harts }
+        ensures within { is_over (account_by_words P.model self.now) ≡ false }
+    {
+        self.halt.is_none() && self.core.stop(h).is_none()
+    }
+
+    /// Whether the service that is called, if one is, is one that the machine or the policy offers.
+    #[inline(always)]
+    fn is_known(&self, look: &Look<u32>) -> bool
+        ensures { result ≡ is_known P.model self.now.policy look.now }
+    {
+        !is_call(look.group) || self.policy.knows(look.service)
+    }
+
+    /// The checks of hart `h`'s turn.
+    #[inline(always)]
+    #[tactic(auto, unfolding(crate::specs::Steps::prepared_words))]
+    fn prepare(&self, h: u32) -> Result<Look<u32>, Stop>
+        requires { h < length self.now.core.harts }
+        ensures value { result ≡ prepared_words P.model self.now h }
+        ensures sound { IfOk result (λ look. IsSound (ram_bytes self.now.core.ram) look.effect) }
+        ensures known { IfOk result (λ look. is_known P.model self.now.policy look ≡ true) }
+        ensures in_words { IfOk result
+            (λ look. AreInWords (length self.now.table.tags) look.inputs) }
+    {
+        let look = match self.core.look(h) {
+            Ok(look) => look,
+            Err(fault) => return Err(Stop::Fault(fault)),
+        };
+        if !self.is_known(&look) {
+            return Err(Stop::Fault(Fault::NoService(look.service)));
+        }
+        Ok(look)
+    }
+    /// The stop of a refusal at hart `h`'s instruction.
+    fn violation(&self, h: u32, refused: Refused) -> Stop
+        requires { h < length self.now.core.harts }
+        ensures { result ≡ violation (hart_at self.now.core h).pc refused }
+    {
+        Stop::Violation {
+            part: refused.part,
+            why: refused.why,
+            pc: self.core.hart(h).pc(),
+        }
+    }
+
+    /// Counts a turn that stopped hart `h`.
+    fn stop_hart(&mut self, h: u32, why: Stop) -> TurnEnd
+        requires { h < length self.old.core.harts }
+        ensures state { self.new ≡ after_stop self.old h why }
+        ensures end { result ≡ TurnEnd.Stopped why }
+    {
+        self.core.stop_hart(h, why);
+        self.turns = self.turns.saturating_add(1);
+        TurnEnd::Stopped(why)
+    }
+
+    /// Stops the engine as a whole for want of tag words.
+    fn run_out(&mut self) -> TurnEnd
+        ensures state { self.new ≡ after_halt self.old Halt.TagWords }
+        ensures end { result ≡ TurnEnd.TagsOut }
+    {
+        self.halt = Some(Halt::TagWords);
+        TurnEnd::TagsOut
+    }
+
+    /// Stops the engine as a whole for want of memory.
+    fn give_up(&mut self) -> TurnEnd
+        ensures state { self.new ≡ after_halt self.old Halt.Memory }
+        ensures end { result ≡ TurnEnd.Memory }
+    {
+        self.halt = Some(Halt::Memory);
+        TurnEnd::Memory
+    }
+
+    /// The outputs of the rule that is asked with `look`, as words.
+    #[inline(always)]
+    fn ask(&mut self, look: &Look<u32>) -> Result<OutWords, AskEnd>
+        requires { AreInWords (length self.old.table.tags) look.now.inputs }
+        ensures stays { HasParts self.old self.new }
+        ensures core { self.new.core ≡ self.old.core }
+        ensures policy { self.new.policy ≡ self.old.policy }
+        ensures in_words { AreInWords (length self.new.table.tags) look.now.inputs }
+        ensures allowed { IfOk result (Allows P.Tag.eq P.model self.old look.now self.new) }
+        ensures unanswered { IfErr result (Unanswered P.Tag.eq P.model self.old look.now self.new) }
+        ensures kept { is_kept P.Tag.eq (key_in P.Tag.eq P.model self.old look.now)
+            (account_by_words P.model self.old) ≡ true → IsOk result }
+    {
+        let mut rules = Asking::new(&self.policy, &self.masks);
+        ask(
+            &mut self.tags,
+            &mut self.store,
+            &mut rules,
+            look.group,
+            look.inputs,
+        )
+    }
+
+    /// Ends a turn whose rule gave no outputs.
+    fn end_unanswered(&mut self, h: u32, end: AskEnd) -> TurnEnd
+        requires { h < length self.old.core.harts }
+        ensures state { self.new ≡ after_unanswered self.old h end }
+        ensures end { result ≡ unanswered_end (hart_at self.old.core h).pc end }
+    {
+        match end {
+            AskEnd::Stopped(refused) => {
+                let why = self.violation(h, refused);
+                self.stop_hart(h, why)
+            }
+            AskEnd::TagsOut => self.run_out(),
+            AskEnd::Memory => self.give_up(),
+        }
+    }
+
+    /// The effect of an allowed instruction that is no service of the policy.
+    #[inline(always)]
+    fn effect(&mut self, h: u32, feed: &mut Feed, look: &Look<u32>, outs: OutWords) -> TurnEnd
+        requires hart { h < length self.old.core.harts }
+        requires own { is_call look.now.group ≡ false }
+        requires sound { IsSound (ram_bytes self.old.core.ram) look.now.effect }
+        requires in_words { AreInWords (length self.old.table.tags) look.now.inputs }
+        requires out_words { AreOutWords (length self.old.table.tags) outs }
+        ensures state { self.new ≡ after_effect self.old feed.old h look.now outs }
+        ensures feed { feed.new ≡ (carried_at self.old.core feed.old h look.now outs).feed }
+        ensures end { result ≡ end_of (carried_at self.old.core feed.old h look.now outs).done }
+        ensures no_failure { (why : Stop) → IsFailure why → result ≢ TurnEnd.Stopped why }
+        ensures harts { length self.new.core.harts ≡ length self.old.core.harts }
+        ensures bytes { ram_bytes self.new.core.ram ≡ ram_bytes self.old.core.ram }
+    {
+        let end = self.core.effect(h, feed, look, outs);
+        self.turns = self.turns.saturating_add(1);
+        end
+    }
+
+    /// What the words of the table stand for.
+    fn decoder(&self) -> Decoder<'_, T>
+        ensures tags { T.state result.tags.now ≡ self.now.table }
+        ensures plain { result.plain ≡ P.model.plain self.now.policy }
+    {
+        Decoder {
+            tags: &self.tags,
+            plain: self.policy.plain(),
+        }
+    }
+
+    /// The policy's service that hart `h` calls, up to its effect.
+    #[tactic(auto, unfolding(engine_trait::specs::Turn::service_on))]
+    fn plan(&self, h: u32, look: &Look<u32>, outs: OutWords) -> Result<Job<P::Tag>, ServeEnd>
+        requires hart { h < length self.now.core.harts }
+        requires known { IsTrue (P.model.knows self.now.policy look.now.service) }
+        ensures ok { IfOk result (λ job. service_in P.Tag.eq P.model self.now h look.now outs
+            ≡ Ok (job_by job.plan job.words.items)) }
+        ensures err { IfErr result
+            (λ end. EndsAs end (service_in P.Tag.eq P.model self.now h look.now outs)) }
+        ensures places { IfOk result
+            (λ job. All (λ word. IsPlace (ram_bytes self.now.core.ram) word.0) job.words.items) }
+        ensures given { IfOk result (λ job. IsGiven P.model self.now.policy job.plan) }
+    {
+        let decoder = self.decoder();
+        let arguments = self.core.arguments(h).map(&decoder);
+        let pc = decoder.image(outs.pc);
+        let memory = Decoded {
+            ram: self.core.ram(),
+            decoder,
+        };
+        serve(
+            self.alloc,
+            &self.policy,
+            look.service,
+            &arguments,
+            pc,
+            &memory,
+        )
+    }
+
+    /// Carries out a service that nothing refused. What it writes gets words, and the policy takes note, before anything
+    /// is written, since those alone can fail.
+    fn carry_out(&mut self, h: u32, look: &Look<u32>, outs: OutWords, job: &Job<P::Tag>) -> TurnEnd
+        requires hart { h < length self.old.core.harts }
+        requires given { IsGiven P.model self.old.policy job.now.plan }
+        requires places { All (λ word. IsPlace (ram_bytes self.old.core.ram) word.0)
+            job.now.words.items }
+        requires aligned { look.now.effect.next % 4 ≡ 0 }
+        requires out_words { AreOutWords (length self.old.table.tags) outs }
+        ensures ends { CarriesOut P.Tag.eq P.model self.old h look.now outs
+            (job_by job.now.plan job.now.words.items) self.new result }
+        ensures harts { length self.new.core.harts ≡ length self.old.core.harts }
+        ensures bytes { ram_bytes self.new.core.ram ≡ ram_bytes self.old.core.ram }
+    {
+        let len = self.tags.len();
+        let written = match intern_job(self.alloc, &mut self.tags, job) {
+            Ok(written) => written,
+            Err(InternEnd::Full) => return self.run_out(),
+            Err(InternEnd::Memory) => return self.give_up(),
+        };
+        if self.policy.commit(&job.plan).is_err() {
+            self.tags.cut(len);
+            return self.give_up();
+        }
+        self.core.serve(h, &written.words, written.answer, look.effect.next, outs.pc);
+        self.turns = self.turns.saturating_add(1);
+        TurnEnd::Ran(None)
+    }
+
+    /// A call of a policy's service that the rule allowed.
+    fn service(&mut self, h: u32, look: &Look<u32>, outs: OutWords) -> TurnEnd
+        requires hart { h < length self.old.core.harts }
+        requires known { IsTrue (P.model.knows self.old.policy look.now.service) }
+        requires aligned { look.now.effect.next % 4 ≡ 0 }
+        requires out_words { AreOutWords (length self.old.table.tags) outs }
+        ensures ends { EndsService P.Tag.eq P.model self.old h look.now outs self.new result }
+        ensures harts { length self.new.core.harts ≡ length self.old.core.harts }
+        ensures bytes { ram_bytes self.new.core.ram ≡ ram_bytes self.old.core.ram }
+    {
+        match self.plan(h, look, outs) {
+            Ok(job) => self.carry_out(h, look, outs, &job),
+            Err(ServeEnd::Refused(refused)) => {
+                let why = self.violation(h, refused);
+                self.stop_hart(h, why)
+            }
+            Err(ServeEnd::Spent) => self.stop_hart(h, Stop::Fault(Fault::Spent(look.service))),
+            Err(ServeEnd::Memory) => self.give_up(),
+        }
+    }
+}
+
+/// Whether the group is that of a call of a policy's service.
+#[inline(always)]
+fn is_call(group: Group) -> bool
+    ensures { result ≡ is_call group }
+{
+    matches!(group, Group::Call)
+}
+
+impl<P: Policy, T: TagTable<Tag = P::Tag>, C: RuleStore> Engine for Pump<P, T, C> {
+    ghost use Rattle.pump_engine.specs.Pump.{standing_by_words};
+
+    type P = P;
+
+    ghost standing = { λ p. standing_by_words P.model p };
+
+    #[tactic(auto)]
+    fn turn(&mut self, h: u32, feed: &mut Feed) -> TurnEnd
+        requires { h < length (standing_by_words P.model self.old).machine.core.harts }
+        ensures step { result ≢ TurnEnd.Memory
+            → step P.Tag.eq P.model (standing_by_words P.model self.old) feed.old h
+            ≡ record { standing = standing_by_words P.model self.new; feed = feed.new; ended = result } }
+        ensures memory { result ≡ TurnEnd.Memory
+            → GivesUp P.Tag.eq P.model (standing_by_words P.model self.old) feed.old h
+            (standing_by_words P.model self.new) feed.new }
+        ensures failure { (why : Stop) → IsFailure why → result ≡ TurnEnd.Stopped why
+            → StopsOnly (standing_by_words P.model self.old) feed.old h why
+            (standing_by_words P.model self.new) feed.new }
+        ensures idle { result ≡ TurnEnd.Idle
+            → Unchanged (standing_by_words P.model self.old) feed.old
+            (standing_by_words P.model self.new) feed.new }
+        ensures harts { length (standing_by_words P.model self.new).machine.core.harts
+            ≡ length (standing_by_words P.model self.old).machine.core.harts }
+        ensures ram { ram_bytes (standing_by_words P.model self.new).machine.core.ram
+            ≡ ram_bytes (standing_by_words P.model self.old).machine.core.ram }
+        // A turn whose rule is kept takes no memory, but for a service of the policy.
+        ensures kept { result ≡ TurnEnd.Memory
+            → takes_memory P.Tag.eq P.model (standing_by_words P.model self.old) h ≡ true }
+    {
+        if !self.is_ready(h) {
+            return TurnEnd::Idle;
+        }
+        let look = match self.prepare(h) {
+            Ok(look) => look,
+            Err(why) => return self.stop_hart(h, why),
+        };
+        let outs = match self.ask(&look) {
+            Ok(outs) => outs,
+            Err(end) => return self.end_unanswered(h, end),
+        };
+        if is_call(look.group) {
+            return self.service(h, &look, outs);
+        }
+        self.effect(h, feed, &look, outs)
+    }
+
+    fn harts(&self) -> u32 {
+        self.core.harts()
+    }
+
+    fn ram(&self) -> u32 {
+        self.core.ram().bytes()
+    }
+
+    fn reg(&self, h: u32, r: u32) -> u32 {
+        self.core.hart(h).reg(r)
+    }
+
+    fn reg_tag(&self, h: u32, r: u32) -> P::Tag {
+        self.decoder().image(self.core.hart(h).reg_tag(r))
+    }
+
+    fn pc(&self, h: u32) -> u32 {
+        self.core.hart(h).pc()
+    }
+
+    fn pc_tag(&self, h: u32) -> P::Tag {
+        self.decoder().image(self.core.hart(h).pc_tag())
+    }
+
+    fn word(&self, address: u32) -> u32 {
+        self.core.ram().word(address)
+    }
+
+    fn word_tag(&self, address: u32) -> P::Tag {
+        self.decoder().image(self.core.ram().tag(address))
+    }
+
+    fn stop(&self, h: u32) -> Option<Stop> {
+        self.core.stop(h)
+    }
+
+    fn stopped(&self) -> bool {
+        self.halt.is_some()
+    }
+
+    fn halt(&self) -> Option<Halt> {
+        self.halt
+    }
+
+    fn policy(&self) -> &P {
+        &self.policy
+    }
+
+    fn counts(&self) -> Counts {
+        Counts {
+            turns: self.turns,
+            hits: self.store.hits(),
+            misses: self.store.misses(),
+        }
+    }
+}
