@@ -6,10 +6,10 @@ ghost use Rattle.turn_steps.specs.Looks.{is_call, looked};
 ghost use Rattle.turn_steps.specs.Services.{args_on};
 ghost use Rattle.engine_trait.specs.Machine.{CoreState, fresh_core, hart_at, stop_at, stopping};
 ghost use Rattle.engine_trait.specs.Standing.{IsFailure};
-ghost use Rattle.engine_trait.specs.Turn.{carried_at, core_effected, core_served, end_of};
+ghost use Rattle.engine_trait.specs.Turn.{carried_at, core_effected, core_served, end_of, violation};
 
 use crate::ends::TurnEnd;
-use policy_trait::{Answer, Args, Outs};
+use policy_trait::{Answer, Args, Outs, Refused};
 use rv_step::Fault;
 use std::marker::Model;
 use tag_memory::{Hart, Ram};
@@ -112,6 +112,18 @@ impl<T: Copy> Core<T> {
                 self.stops[h as usize] = Some(Stop::Exit(code));
                 TurnEnd::Stopped(Stop::Exit(code))
             }
+        }
+    }
+
+    /// The stop of hart `h` at its pc, where a rule refused.
+    pub fn violation(&self, h: u32, refused: Refused) -> Stop
+        requires { h < length self.now.harts }
+        ensures { result ≡ violation (hart_at self.now h).pc refused }
+    {
+        Stop::Violation {
+            part: refused.part,
+            why: refused.why,
+            pc: self.hart(h).pc(),
         }
     }
 

@@ -6,21 +6,21 @@ ghost use Rattle.turn_steps.specs.Effects.{IsSound};
 ghost use Rattle.tag_memory.specs.Hart.{reg_tag, reg_value};
 ghost use Rattle.tag_memory.specs.Ram.{IsPlace, ram_bytes, ram_tag, ram_word};
 ghost use Rattle.engine_trait.specs.Accounts.{IsUncached};
-ghost use Rattle.engine_trait.specs.Machine.{IsMachine, hart_at, stop_at};
+ghost use Rattle.engine_trait.specs.Machine.{IsMachine, stop_at};
 ghost use Rattle.engine_trait.specs.Standing.{GivesUp, IsFailure, StopsOnly, Unchanged, is_ready, step};
-ghost use Rattle.engine_trait.specs.Turn.{allowed, effected, is_offered, prepared, service_on, stopped_at, violation};
+ghost use Rattle.engine_trait.specs.Turn.{allowed, effected, is_offered, prepared, service_on, stopped_at};
 ghost use Rattle.turn_steps.specs.Looks.{is_call};
 ghost use Rattle.plain_engine.specs.Plain.{EndsService, after_look_up, after_turn, given_up, is_served, machine_of, standing_of};
 
 use engine_trait::{Core, Counts, Engine, Feed, Halt, Stop, TurnEnd};
 use monitor_calls::{Job, ServeEnd, serve};
-use policy_trait::{Outs, Policy, Refused};
-use rv_decode::{Group, Instr};
+use policy_trait::{Outs, Policy};
+use rv_decode::Instr;
 use rv_step::Fault;
 use std::alloc::Global;
 use std::marker::Model;
 use tag_memory::{Hart, Ram};
-use turn_steps::Look;
+use turn_steps::{Look, is_call};
 
 /// An engine that keeps tags as values and asks its policy at every turn. Contracts see it as a `Standing`.
 #[derive(Drop)]
@@ -105,19 +105,7 @@ impl<P: Policy> Plain<P> {
     {
         match self.policy.rule(look.group, look.inputs) {
             Ok(outs) => Ok(outs),
-            Err(refused) => Err(self.violation(h, refused)),
-        }
-    }
-
-    /// The stop of a refusal at hart `h`'s instruction.
-    fn violation(&self, h: u32, refused: Refused) -> Stop
-        requires { h < length self.now.machine.core.harts }
-        ensures { result ≡ violation (hart_at self.now.machine.core h).pc refused }
-    {
-        Stop::Violation {
-            part: refused.part,
-            why: refused.why,
-            pc: self.core.hart(h).pc(),
+            Err(refused) => Err(self.core.violation(h, refused)),
         }
     }
 
@@ -253,20 +241,13 @@ impl<P: Policy> Plain<P> {
         match self.plan(h, look, outs) {
             Ok(job) => self.carry_out(h, look, outs, &job),
             Err(ServeEnd::Refused(refused)) => {
-                let why = self.violation(h, refused);
+                let why = self.core.violation(h, refused);
                 self.stop_hart(h, why)
             }
             Err(ServeEnd::Spent) => self.stop_hart(h, Stop::Fault(Fault::Spent(look.service))),
             Err(ServeEnd::Memory) => self.give_up(),
         }
     }
-}
-
-/// Whether the group is that of a call of a policy's service.
-fn is_call(group: Group) -> bool
-    ensures { result ≡ is_call group }
-{
-    matches!(group, Group::Call)
 }
 
 impl<P: Policy> Engine for Plain<P> {

@@ -15,7 +15,7 @@ use Rattle.turn_steps.specs.declared.look.Look.{Look}
 use Rattle.turn_steps.specs.declared.stop.Stop.{Stop}
 use Rattle.turn_steps.specs.declared.stop.Stop.TheVariants as stop
 use Rattle.turn_steps.proofs.MapLemmas.{looked_by}
-use Rattle.engine_trait.specs.Accounts.{Account, Key, accounted, counted, look_counted, rule_counted, rule_kept}
+use Rattle.engine_trait.specs.Accounts.{Account, Key, look_counted, rule_counted, rule_kept}
 use Rattle.engine_trait.specs.Machine.{hart_at, is_ready_in}
 use Rattle.engine_trait.specs.Standing.{is_ready, is_running}
 use Rattle.engine_trait.specs.Turn.{allowed, offered, or_fault, or_violation, prepared}
@@ -23,7 +23,7 @@ use Rattle.engine_trait.proofs.MapLemmas.{hart_at_by}
 use Rattle.engine_trait.proofs.MirrorLemmas.{ready_by}
 use Rattle.pump_engine.specs.Pump.{PumpState, account_by_words, decode, machine_by_words, standing_by_words}
 use Rattle.pump_engine.specs.Steps.{answer_in, is_known, key_in, known_or, looked_in, prepared_words, ruled_in}
-use Rattle.pump_engine.proofs.StepLemmas.{accounted_checked, look_counted_at, rule_counted_at}
+use Rattle.pump_engine.proofs.StepLemmas.{look_counted_at, rule_counted_at}
 
 -- a rule that is refused as a stop is kept as little as one that is refused
 kept_alike : {T : Type 0} (eq : T → T → Bool) (key : Key T) (pc : ℕ) (answer : Result (Outs T) Refused) (a : Account T)
@@ -81,7 +81,3 @@ module _ {S T : Type 0} (m : PolicyModel T S) (p : PumpState S T) where
   module _ (h : ℕ) (why : Stop) where
     pub checked_at : prepared_words m p h ≡ Err why → prepared m (machine_by_words m p) h ≡ Err why
     checked_at found = prepared_by_words h ∙ ap (ok_by (look_by (decode m p))) found
-
-    pub checked_by_words : (eq : T → T → Bool) → prepared_words m p h ≡ Err why
-        → accounted eq m (machine_by_words m p) h (account_by_words m p) ≡ record (account_by_words m p) { turns = counted p.turns }
-    checked_by_words eq found = accounted_checked eq m (machine_by_words m p) h why (checked_at found) (account_by_words m p)

@@ -11,7 +11,7 @@ ghost use Rattle.turn_steps.specs.Maps.{look_by};
 ghost use Rattle.engine_trait.specs.Accounts.{is_kept, is_over};
 ghost use Rattle.engine_trait.specs.Machine.{IsMachine, hart_at, stop_at};
 ghost use Rattle.engine_trait.specs.Standing.{GivesUp, IsFailure, StopsOnly, Unchanged, is_ready, step};
-ghost use Rattle.engine_trait.specs.Turn.{carried_at, end_of, service_on, violation};
+ghost use Rattle.engine_trait.specs.Turn.{carried_at, end_of, service_on};
 ghost use Rattle.miss_handler.specs.Asked.{AreInWords, AreOutWords};
 ghost use Rattle.pump_engine.specs.Pump.{IsPump, account_by_words, standing_by_words};
 ghost use Rattle.pump_engine.specs.Steps.{Allows, CarriesOut, EndsService, HasParts, Unanswered, after_effect, after_halt, after_stop, after_unanswered, is_known, key_in, prepared_words, pump_start, service_in, takes_memory, unanswered_end};
@@ -19,15 +19,14 @@ ghost use Rattle.pump_engine.specs.Steps.{Allows, CarriesOut, EndsService, HasPa
 use engine_trait::{Core, Counts, Engine, Feed, Halt, Stop, TurnEnd};
 use miss_handler::{AskEnd, Asking, Masks, ask};
 use monitor_calls::{Job, ServeEnd, serve};
-use policy_trait::{Policy, Refused, TagMap};
+use policy_trait::{Policy, TagMap};
 use rule_cache::{OutWords, RuleStore};
-use rv_decode::Group;
 use rv_step::Fault;
 use std::alloc::Global;
 use std::marker::Model;
 use tag_intern::{Decoder, InternEnd, TagTable};
 use tag_memory::{Hart, Ram};
-use turn_steps::Look;
+use turn_steps::{Look, is_call};
 use word_service::{Decoded, WordJob, intern_job};
 
 /// An engine whose tags are words of a table, and which asks its policy for a rule only where the rule is not kept.
@@ -132,17 +131,6 @@ impl<P: Policy, T: TagTable<Tag = P::Tag>, C: RuleStore> Pump<P, T, C> {
         }
         Ok(look)
     }
-    /// The stop of a refusal at hart `h`'s instruction.
-    fn violation(&self, h: u32, refused: Refused) -> Stop
-        requires { h < length self.now.core.harts }
-        ensures { result ≡ violation (hart_at self.now.core h).pc refused }
-    {
-        Stop::Violation {
-            part: refused.part,
-            why: refused.why,
-            pc: self.core.hart(h).pc(),
-        }
-    }
 
     /// Counts a turn that stopped hart `h`.
     fn stop_hart(&mut self, h: u32, why: Stop) -> TurnEnd
@@ -204,7 +192,7 @@ impl<P: Policy, T: TagTable<Tag = P::Tag>, C: RuleStore> Pump<P, T, C> {
     {
         match end {
             AskEnd::Stopped(refused) => {
-                let why = self.violation(h, refused);
+                let why = self.core.violation(h, refused);
                 self.stop_hart(h, why)
             }
             AskEnd::TagsOut => self.run_out(),
@@ -315,21 +303,13 @@ impl<P: Policy, T: TagTable<Tag = P::Tag>, C: RuleStore> Pump<P, T, C> {
         match self.plan(h, look, outs) {
             Ok(job) => self.carry_out(h, look, outs, &job),
             Err(ServeEnd::Refused(refused)) => {
-                let why = self.violation(h, refused);
+                let why = self.core.violation(h, refused);
                 self.stop_hart(h, why)
             }
             Err(ServeEnd::Spent) => self.stop_hart(h, Stop::Fault(Fault::Spent(look.service))),
             Err(ServeEnd::Memory) => self.give_up(),
         }
     }
-}
-
-/// Whether the group is that of a call of a policy's service.
-#[inline(always)]
-fn is_call(group: Group) -> bool
-    ensures { result ≡ is_call group }
-{
-    matches!(group, Group::Call)
 }
 
 impl<P: Policy, T: TagTable<Tag = P::Tag>, C: RuleStore> Engine for Pump<P, T, C> {

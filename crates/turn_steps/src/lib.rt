@@ -13,7 +13,7 @@ mod stop;
 pub use effects::{Done, carry_out};
 pub use feed::Feed;
 pub use law::{map_law, steps_law, words_law};
-pub use look::Look;
+pub use look::{Look, is_call};
 pub use looking::look_ahead;
 pub use services::{answer_to, arguments_of, write_words};
 pub use stop::Stop;

@@ -1,3 +1,6 @@
+ghost use Rattle.std.specs.Prelude.{◌≡◌};
+ghost use Rattle.turn_steps.specs.Looks.{is_call};
+
 use policy_trait::Ins;
 use rv_decode::{Group, Register};
 use rv_step::Effect;
@@ -17,4 +20,12 @@ pub struct Look<T> {
     pub result: Register,
     /// The five tags that the rule is asked with.
     pub inputs: Ins<T>,
+}
+
+/// Whether the group is that of an ECALL whose number is no service of the machine: a call of a policy's service.
+#[inline(always)]
+pub fn is_call(group: Group) -> bool
+    ensures { result ≡ is_call group }
+{
+    matches!(group, Group::Call)
 }
