@@ -3,7 +3,7 @@ use Rattle.std.proofs.Common.{◌≡◌, ℕ, ◌+◌, ◌<◌, ◌≤◌, Bool,
 use Rattle.std.specs.Cmp.{IsEquivalence}
 use Rattle.std.specs.List.{All}
 use Rattle.std.proofs.Math.Seq.{take-suc}
-use Rattle.std.proofs.lemmas.List.{length-append, length-map, map-append, take-append-drop, take-append-le}
+use Rattle.std.proofs.lemmas.List.{length-append, length-map, take-append-drop, take-append-le}
 use Rattle.std.proofs.lemmas.List.Elements.{All-cons, All-head, All-nil, All-tail}
 use Rattle.std.proofs.lemmas.Option.{get_or_from_slice_get, same_Some, slice_get_within}
 use Rattle.policy_trait.specs.Maps.{answer_by}
@@ -14,6 +14,7 @@ use Rattle.tag_intern.specs.Table.{Extends}
 use Rattle.tag_intern.specs.Words.{tag_at}
 use Rattle.tag_intern.specs.declared.table.InternEnd.{InternEnd}
 use Rattle.tag_intern.specs.declared.table.InternEnd.TheVariants as intern_end
+use Rattle.tag_intern.proofs.ComingLemmas.{all_read, read_more, tag_came, tag_over, with_tags-append}
 use Rattle.tag_intern.proofs.TableLemmas.{extends_with_tags, longer, same_words}
 use Rattle.word_service.specs.Written.{AnswerStandsFor, IsAnswerBelow, IsWordBelow, StandFor, tags_of}
 
@@ -25,12 +26,6 @@ done x = Ok x
 abbrev failed : {A E : Type 0} → E → Result A E
 failed end = Err end
 
-same_end : {A E : Type 0} (r : Result A E) (given end : E) → r ≡ Err given → r ≡ Err end → given ≡ end
-same_end r given end e f = cc
-
-pub passed_on : {A B E : Type 0} (r : Result A E) (given told end : E) → r ≡ Err given → given ≡ told → r ≡ Err end → failed {A = B} told ≡ failed end
-passed_on r given told end e same f = ap (λ end. failed end) (sym same ∙ same_end r given end e f)
-
 -- memory that ran out is no want of words
 pub not_full : {A : Type 0} (end : InternEnd) → failed {A = A} end ≡ failed intern_end.Memory → failed {A = A} end ≡ failed intern_end.Full → ⊥
 not_full end memory full = cc
@@ -40,26 +35,14 @@ never_full x full = cc
 
 -- ---- the tags that come
 
-module _ {T : Type 0} (eq : T → T → Bool) where
-  -- some tags, and then others
-  pub with_tags-append : (seen tags more : List T) → with_tags eq seen (tags ++ more) ≡ with_tags eq (with_tags eq seen tags) more
-  with_tags-append seen [] more = refl
-  with_tags-append seen (tag ∷ tags) more = with_tags-append (with_tag eq seen tag) tags more
-
-  module _ (laws : IsEquivalence eq) (limit : ℕ) (seen : List T) where
-    -- tags for which there is no room, before others
-    pub tags_over : (tags more : List T) → limit < length (with_tags eq seen tags) → limit < length (with_tags eq seen (tags ++ more))
-    tags_over tags more over =
-        let n = longer (with_tags eq seen tags) _ (extends_with_tags eq laws (with_tags eq seen tags) more) in
-        subst (λ grown. limit < length grown) (sym (with_tags-append seen tags more)) (omega (arith, n, over))
-
-    -- where there is room for tags, there is for the first of them
-    pub first_fits : (tags : List T) → length (with_tags eq seen tags) ≤ limit → length (with_tags eq seen (take 1 tags)) ≤ limit
-    first_fits tags fits =
-        let n = longer (with_tags eq seen (take 1 tags)) _ (extends_with_tags eq laws (with_tags eq seen (take 1 tags)) (drop 1 tags)) in
-        let all = sym (with_tags-append seen (take 1 tags) (drop 1 tags)) ∙ ap (with_tags eq seen) (take-append-drop 1 tags) in
-        let more = subst (λ grown. length (with_tags eq seen (take 1 tags)) ≤ length grown) all n in
-        omega (arith, more, fits)
+module _ {T : Type 0} (eq : T → T → Bool) (laws : IsEquivalence eq) (limit : ℕ) (seen : List T) where
+  -- where there is room for tags, there is for the first of them
+  pub first_fits : (tags : List T) → length (with_tags eq seen tags) ≤ limit → length (with_tags eq seen (take 1 tags)) ≤ limit
+  first_fits tags fits =
+      let n = longer (with_tags eq seen (take 1 tags)) _ (extends_with_tags eq laws (with_tags eq seen (take 1 tags)) (drop 1 tags)) in
+      let all = sym (with_tags-append eq seen (take 1 tags) (drop 1 tags)) ∙ ap (with_tags eq seen) (take-append-drop 1 tags) in
+      let more = subst (λ grown. length (with_tags eq seen (take 1 tags)) ≤ length grown) all n in
+      omega (arith, more, fits)
 
 -- the first tag of a range with words is the first of all
 module _ {T : Type 0} where
@@ -73,40 +56,32 @@ take_next xs k d lt = ap (λ n. take n xs) (let next : k + 1 ≡ suc k = omega a
 
 -- the tag of the next word of a range comes
 module _ {T : Type 0} (words : List (ℕ × ℕ × T)) (k : ℕ) (item : ℕ × ℕ × T) (lt : k < length words) (is : item ≡ get_or words k item) where
+  abbrev tag_in : ℕ × ℕ × T → T
+  tag_in word = word.2
+
+  tag_is : item.2 ≡ tag_in (get_or words k item)
+  tag_is = ap tag_in is
+
   abbrev read : List T
   read = tags_of (take (k + 1) words)
 
-  read_more : read ≡ tags_of (take k words) ++ item.2 ∷ []
-  read_more =
-      ap tags_of (take_next words k item lt) ∙ map-append (λ (word : ℕ × ℕ × T). word.2) (take k words) (get_or words k item ∷ [])
-      ∙ ap (λ (next : ℕ × ℕ × T). tags_of (take k words) ++ next.2 ∷ []) (sym is)
-
-  read_first : tags_of words ≡ read ++ tags_of (drop (k + 1) words)
-  read_first =
-      ap tags_of (sym (take-append-drop (k + 1) words))
-      ∙ map-append (λ (word : ℕ × ℕ × T). word.2) (take (k + 1) words) (drop (k + 1) words)
-
   first_read : take 1 (tags_of words) ≡ take 1 read
   first_read =
-      let n = ap length read_more ∙ length-append (tags_of (take k words)) (item.2 ∷ []) in
-      ap (take 1) read_first ∙ take-append-le 1 read (tags_of (drop (k + 1) words)) (omega (arith, n))
+      let n = ap length (read_more tag_in words k item lt) ∙ length-append (tags_of (take k words)) (tag_in (get_or words k item) ∷ []) in
+      ap (take 1) (sym (all_read tag_in words k item lt)) ∙ take-append-le 1 read (tags_of (drop (k + 1) words)) (omega (arith, n))
 
   module _ (eq : T → T → Bool) (seen now : List T) (known : now ≡ with_tags eq seen (tags_of (take k words))) where
-    pub tag_came : (grown : List T) → grown ≡ with_tag eq now item.2 → grown ≡ with_tags eq seen read
-    tag_came grown e =
-        e ∙ ap (λ tags. with_tag eq tags item.2) known ∙ sym (with_tags-append eq seen (tags_of (take k words)) (item.2 ∷ []))
-        ∙ ap (with_tags eq seen) (sym read_more)
+    pub word_came : (grown : List T) → grown ≡ with_tag eq now item.2 → grown ≡ with_tags eq seen read
+    word_came = tag_came tag_in words k item lt eq seen now known item.2 tag_is
 
-    pub tag_over : IsEquivalence eq → (limit : ℕ) → limit < length (with_tag eq now item.2) → limit < length (with_tags eq seen (tags_of words))
-    tag_over laws limit over =
-        subst (λ tags. limit < length (with_tags eq seen tags)) (sym read_first)
-        (tags_over eq laws limit seen read (tags_of (drop (k + 1) words)) (subst (λ tags. limit < length tags) (tag_came (with_tag eq now item.2) refl) over))
+    pub word_over : IsEquivalence eq → (limit : ℕ) → limit < length (with_tag eq now item.2) → limit < length (with_tags eq seen (tags_of words))
+    word_over = tag_over tag_in words k item lt eq seen now known item.2 tag_is
 
-    pub tag_fits : IsEquivalence eq → (limit : ℕ) → (limit < length (with_tag eq now item.2) → ⊥) → length (with_tags eq seen (take 1 (tags_of words))) ≤ limit
-    tag_fits laws limit room =
+    pub word_fits : IsEquivalence eq → (limit : ℕ) → (limit < length (with_tag eq now item.2) → ⊥) → length (with_tags eq seen (take 1 (tags_of words))) ≤ limit
+    word_fits laws limit room =
         let fits : length (with_tag eq now item.2) ≤ limit = omega (arith, room) in
         subst (λ tags. length (with_tags eq seen tags) ≤ limit) (sym first_read)
-        (first_fits eq laws limit seen read (subst (λ tags. length tags ≤ limit) (tag_came (with_tag eq now item.2) refl) fits))
+        (first_fits eq laws limit seen read (subst (λ tags. length tags ≤ limit) (word_came (with_tag eq now item.2) refl) fits))
 
 -- ---- a range
 

@@ -5,7 +5,8 @@ use Rattle.monitor_calls.specs.Ends.{job_by}
 use Rattle.tag_intern.specs.declared.table.InternEnd.TheVariants as intern_end
 use Rattle.tag_intern.proofs.TableLemmas.{extends_on}
 use Rattle.word_service.specs.Written.{StandFor, tags_of}
-use Rattle.word_service.proofs.WordLemmas.{first_fits, first_of, not_full, passed_on, stand_on, tags_over, with_tags-append}
+use Rattle.tag_intern.proofs.ComingLemmas.{passed_on, tags_over, with_tags-append}
+use Rattle.word_service.proofs.WordLemmas.{first_fits, first_of, not_full, stand_on}
 use Rattle.word_service.proofs.writing.intern_parts.Goals as goal
 
 pub returns-in_err-words-clause-full : goal.returns-in_err-words-clause-full

@@ -4,7 +4,8 @@ use Rattle.engine_trait.specs.Accounts.{with_tags}
 use Rattle.tag_intern.specs.declared.table.InternEnd.TheVariants as intern_end
 use Rattle.word_service.specs.Written.{tags_of}
 use Rattle.tag_intern.proofs.TableLemmas.{extends_on}
-use Rattle.word_service.proofs.WordLemmas.{never_full, not_full, passed_on, stand_on, tag_came, tag_fits, tag_over, word_written}
+use Rattle.tag_intern.proofs.ComingLemmas.{passed_on}
+use Rattle.word_service.proofs.WordLemmas.{never_full, not_full, stand_on, word_came, word_fits, word_over, word_written}
 use Rattle.word_service.proofs.writing.intern_words.Goals as goal
 
 pub returns-in_err-word-clause-full : goal.returns-in_err-word-clause-full
@@ -15,7 +16,7 @@ returns-in_err-word-clause-full g c e =
     let end = err_from_is_err_and c.from_residual.result c.from_residual.ensures.1 in
     let told = passed_on c.from_residual.result end.0 c.in_err-word.field-0.0 intern_end.Full end.1 end.2 e in
     subst (λ limit. limit < length (with_tags eq before (tags_of c.args.words.now))) c.loop-item.invariant.limit
-    (tag_over c.args.words.now c.loop-item.item-index c.item-item.result c.loop-item-test.true c.item-item.is eq before now.tags c.loop-item.invariant.seen
+    (word_over c.args.words.now c.loop-item.item-index c.item-item.result c.loop-item-test.true c.item-item.is eq before now.tags c.loop-item.invariant.seen
     g.met.T.Tag.Eq.laws now.limit (c.in_err-word.ensures.over.0 told))
 
 pub returns-in_err-word-clause-memory : goal.returns-in_err-word-clause-memory
@@ -26,7 +27,7 @@ returns-in_err-word-clause-memory g c e =
     let end = err_from_is_err_and c.from_residual.result c.from_residual.ensures.1 in
     let told = passed_on c.from_residual.result end.0 c.in_err-word.field-0.0 intern_end.Memory end.1 end.2 e in
     subst (λ limit. length (with_tags eq before (take 1 (tags_of c.args.words.now))) ≤ limit) c.loop-item.invariant.limit
-    (tag_fits c.args.words.now c.loop-item.item-index c.item-item.result c.loop-item-test.true c.item-item.is eq before now.tags c.loop-item.invariant.seen
+    (word_fits c.args.words.now c.loop-item.item-index c.item-item.result c.loop-item-test.true c.item-item.is eq before now.tags c.loop-item.invariant.seen
     g.met.T.Tag.Eq.laws now.limit (λ over. not_full c.in_err-word.field-0.0 told (c.in_err-word.ensures.over.1 over)))
 
 pub returns-in_err-word-clause-some : goal.returns-in_err-word-clause-some
@@ -43,7 +44,7 @@ returns-in_default-clause-memory g c e =
     let before = (g.T.TagTable.state c.args.tags.now).tags in
     let now = g.T.TagTable.state c.loop-item.tags in
     subst (λ limit. length (with_tags eq before (take 1 (tags_of c.args.words.now))) ≤ limit) c.loop-item.invariant.limit
-    (tag_fits c.args.words.now c.loop-item.item-index c.item-item.result c.loop-item-test.true c.item-item.is eq before now.tags c.loop-item.invariant.seen
+    (word_fits c.args.words.now c.loop-item.item-index c.item-item.result c.loop-item-test.true c.item-item.is eq before now.tags c.loop-item.invariant.seen
     g.met.T.Tag.Eq.laws now.limit (λ over. never_full c.in_ok-word.word (c.in_ok-word.ensures.over.1 over)))
 
 pub returns-in_default-clause-some : goal.returns-in_default-clause-some
@@ -55,7 +56,7 @@ loop-item-preserved g c =
     let old = (g.T.TagTable.state c.loop-item.tags).tags in
     let new = (g.T.TagTable.state c.intern.new.self).tags in
     record {
-      seen = tag_came c.args.words.now c.loop-item.item-index c.item-item.result c.loop-item-test.true c.item-item.is g.T.Tag.PartialEq.eq before old c.loop-item.invariant.seen
+      seen = word_came c.args.words.now c.loop-item.item-index c.item-item.result c.loop-item-test.true c.item-item.is g.T.Tag.PartialEq.eq before old c.loop-item.invariant.seen
           new (λ j. (c.in_ok-word.ensures.grown j).tags);
       limit = search rules;
       within = search rules;
