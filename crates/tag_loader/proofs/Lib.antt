@@ -1,4 +1,4 @@
 pub mod BareLemmas
 pub mod MemoryLemmas
 pub mod SortedLemmas
-mod StartLemmas
+pub mod StartLemmas

@@ -109,7 +109,7 @@ fn label_at(image: &Image, address: u32) -> Option<Label>
 /// An image that is asked for the births at one address after another, each no lower than the one before: it goes through
 /// each list once. Contracts see it as the image with the rows that its lists still have.
 #[derive(Drop)]
-pub(crate) struct BirthWalk<'a> {
+pub struct BirthWalk<'a> {
     image: &'a Image,
     compartments: Walk<'a, CompartmentRange>,
     code: Walk<'a, WordRange>,
@@ -130,7 +130,7 @@ impl<'a> Model for BirthWalk<'a> {
 
 impl<'a> BirthWalk<'a> {
     /// A walk through the whole image.
-    pub(crate) fn new(image: &'a Image) -> BirthWalk<'a>
+    pub fn new(image: &'a Image) -> BirthWalk<'a>
         ensures { result ≡ image.now }
     {
         BirthWalk {
@@ -143,7 +143,7 @@ impl<'a> BirthWalk<'a> {
 
     /// What the image says of the word at `address`, and up to where it says so. What is left says the same as before of each
     /// address from this one on.
-    pub(crate) fn run_at(&mut self, address: u32) -> Run<Birth>
+    pub fn run_at(&mut self, address: u32) -> Run<Birth>
         ensures told { (at : ℕ) → address ≤ at → at < result.end →
             birth_of self.old at ≡ result.value }
         ensures some { address < result.end }

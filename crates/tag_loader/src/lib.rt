@@ -11,6 +11,9 @@ mod start;
 mod tests;
 mod walks;
 
-pub use births::birth;
+pub use births::{BirthWalk, birth};
 pub use law::{bare_law, memory_law};
 pub use load::{BareLoad, PlainLoad};
+pub use parts::words_of;
+pub use sorted::Run;
+pub use start::start_under;

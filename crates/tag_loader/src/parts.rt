@@ -11,9 +11,10 @@ use policy_trait::Policy;
 use std::alloc::{AllocError, Global};
 use tag_memory::Hart;
 
-/// The words at the start.
+/// The words of memory at the start: those of the segments at their addresses, and 0 elsewhere. The only error is want of
+/// memory.
 #[tactic(auto, unfolding(crate::specs::Start::memory_of))]
-pub(crate) fn words_of(alloc: Global, image: &Image) -> Result<Vec<u32>, AllocError>
+pub fn words_of(alloc: Global, image: &Image) -> Result<Vec<u32>, AllocError>
     ensures words { IfOk result (λ words. words.items ≡ memory_of image.now) }
     ensures size { IfOk result (λ words. 4 * length words.items ≡ image.now.ram) }
 {

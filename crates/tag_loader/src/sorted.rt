@@ -82,11 +82,13 @@ pub(crate) fn row_at<R: Placed>(rows: &[R], address: u32) -> Option<R>
     first_run(&rows[ended(rows, address)..], address).value
 }
 
-/// What is so from an address on, up to `end`.
+/// What is so from an address on, up to another.
 #[derive(Clone, Copy)]
-pub(crate) struct Run<T> {
-    pub(crate) value: T,
-    pub(crate) end: u64,
+pub struct Run<T> {
+    /// What is so of each of these addresses.
+    pub value: T,
+    /// The first address of which it need not be so; 2^32 where it is so of all.
+    pub end: u64,
 }
 
 /// The `end` of what is so of all addresses.

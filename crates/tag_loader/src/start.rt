@@ -12,7 +12,7 @@ use tag_memory::Ram;
 
 /// The engine at the start of the image under this policy. The only error is want of memory.
 #[tactic(auto, unfolding(crate::specs::Start::start_machine, crate::specs::Start::start_ram))]
-pub(crate) fn start_under<P: Policy>(
+pub fn start_under<P: Policy>(
     alloc: Global,
     policy: P,
     image: &Image,

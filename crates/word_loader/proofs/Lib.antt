@@ -1,0 +1,3 @@
+mod CachedLemmas
+mod NamedLemmas
+mod StartLemmas

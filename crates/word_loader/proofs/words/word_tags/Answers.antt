@@ -1,0 +1,107 @@
+use Rattle.std.proofs.Common.{rules, arith, ◌≡◌, ◌+◌, ◌*◌, ◌/◌, ◌%◌, ◌<◌, ◌∙◌, Some, ap, length, map, min, refl, subst}
+use Rattle.std.specs.Int.{div_ceil}
+use Rattle.std.specs.List.{range_with_len}
+use Rattle.std.proofs.lemmas.Result.{err_from_is_err_and}
+use Rattle.engine_trait.specs.Accounts.{with_tags}
+use Rattle.tag_intern.specs.declared.table.InternEnd.TheVariants as intern_end
+use Rattle.tag_intern.proofs.TableLemmas.{extends_on, extends_same}
+use Rattle.word_loader.specs.Named.{AreWordsOf}
+use Rattle.tag_loader.specs.Start.{start_tag, start_tags}
+use Rattle.tag_intern.proofs.ComingLemmas.{passed_on}
+use Rattle.word_loader.proofs.NamedLemmas.{run_end_is, run_made, run_over, run_seen, words_made}
+use Rattle.word_loader.proofs.StartLemmas.{run_tag}
+use Rattle.word_loader.proofs.words.word_tags.Goals as goal
+
+pub returns-in_err-word-clause-full : goal.returns-in_err-word-clause-full
+unfolding start_tags
+returns-in_err-word-clause-full g c e =
+    let eq = g.P.Tag.PartialEq.eq in
+    let model = g.P.Policy.model in
+    let f = start_tag model c.args.policy.now c.args.image.now in
+    let before = (g.T.TagTable.state c.args.table.now).tags in
+    let now = g.T.TagTable.state c.loop-n.table in
+    let run = c.run_at-run.result in
+    let ram = c.args.image.now.ram in
+    let n = c.loop-n.n in
+    let inside : 4 * n < ram = omega (arith, c.loop-n-test.true, c.ram-count.ensures.value) in
+    let aligned = subst (λ bytes. bytes % 4 ≡ 0) c.ram-count.ensures.value c.ram-count.ensures.aligned in
+    let end_is = c.div_ceil-end.ensures ∙ ap (λ bytes. div_ceil bytes 4) (c.min.ensures ∙ ap (min run.end) (c.from.ensures ∙ c.ram.ensures.value)) in
+    let at = run_end_is n run.end ram c.div_ceil-end.result c.run_at-run.ensures.some inside aligned end_is in
+    let same = run_tag model c.args.policy.now c.args.image.now c.loop-n.births n run.end c.div_ceil-end.result run.value c.start_word.result
+    c.loop-n.invariant.rest c.run_at-run.ensures.told at.low c.start_word.ensures in
+    let end = err_from_is_err_and c.from_residual.result c.from_residual.ensures.1 in
+    let told = passed_on c.from_residual.result end.0 c.in_err-word.field-0.0 intern_end.Full end.1 end.2 e in
+    subst (λ limit. limit < length (with_tags eq before (map f (range_with_len 0 (ram / 4))))) c.loop-n.invariant.limit
+    (run_over f eq g.met.P.Tag.Eq.laws c.start_word.result before now.tags n c.div_ceil-end.result at.some c.loop-n.invariant.seen same now.limit (ram / 4)
+    (let most = at.most in omega (arith, most)) (c.in_err-word.ensures.over.0 told))
+
+pub returns-in_default-resize-clause-extends : goal.returns-in_default-resize-clause-extends
+returns-in_default-resize-clause-extends g c =
+    extends_on (g.T.TagTable.state c.args.table.now).tags (g.T.TagTable.state c.loop-n.table).tags (g.T.TagTable.state c.intern.new.self).tags
+    c.loop-n.invariant.extends c.intern.ensures.extends
+
+pub loop-n-init : goal.loop-n-init
+loop-n-init g c = record {
+  seen = refl;
+  limit = refl;
+  extends = extends_same (g.T.TagTable.state c.args.table.now).tags;
+  made = λ k d lt. absurd (omega (arith, lt));
+  size = ap length c.in-Ok.ensures.items;
+  most = omega arith;
+  rest = λ at least. search rules;
+}
+
+pub loop-n-preserved : goal.loop-n-preserved
+loop-n-preserved g c =
+    let eq = g.P.Tag.PartialEq.eq in
+    let model = g.P.Policy.model in
+    let f = start_tag model c.args.policy.now c.args.image.now in
+    let before = (g.T.TagTable.state c.args.table.now).tags in
+    let old = (g.T.TagTable.state c.loop-n.table).tags in
+    let new = (g.T.TagTable.state c.intern.new.self).tags in
+    let run = c.run_at-run.result in
+    let ram = c.args.image.now.ram in
+    let n = c.loop-n.n in
+    let past = c.div_ceil-end.result in
+    let inside : 4 * n < ram = omega (arith, c.loop-n-test.true, c.ram-count.ensures.value) in
+    let aligned = subst (λ bytes. bytes % 4 ≡ 0) c.ram-count.ensures.value c.ram-count.ensures.aligned in
+    let end_is = c.div_ceil-end.ensures ∙ ap (λ bytes. div_ceil bytes 4) (c.min.ensures ∙ ap (min run.end) (c.from.ensures ∙ c.ram.ensures.value)) in
+    let at = run_end_is n run.end ram past c.run_at-run.ensures.some inside aligned end_is in
+    let some = at.some in
+    let most = at.most in
+    let same = run_tag model c.args.policy.now c.args.image.now c.loop-n.births n run.end past run.value c.start_word.result
+    c.loop-n.invariant.rest c.run_at-run.ensures.told at.low c.start_word.ensures in
+    record {
+      seen = run_seen f eq g.met.P.Tag.Eq.laws c.start_word.result before old n past some c.loop-n.invariant.seen same new (λ j. (c.in_ok-word.ensures.grown j).tags);
+      limit = search rules;
+      extends = extends_on before old new c.loop-n.invariant.extends c.intern.ensures.extends;
+      made = run_made f old new c.intern.ensures.extends c.loop-n.words.items c.resize.new.self.items n past c.in_ok-word.word c.start_word.result
+          c.loop-n.invariant.made (λ k d lt below. c.in-Ok-resize.ensures.by_index.0 k d lt (omega (arith, below, c.loop-n.words.ok)))
+          (λ k d least lt. c.in-Ok-resize.ensures.by_index.1 k d refl (omega (arith, least, c.loop-n.words.ok)) lt)
+          c.in_ok-word.ensures.word same c.loop-n.invariant.size;
+      size = search rules;
+      most = omega (arith, most, c.ram-count.ensures.value);
+      rest = λ at least. c.run_at-run.ensures.later at (omega (arith, least, some)) ∙ c.loop-n.invariant.rest at (omega (arith, least, some));
+    }
+
+pub returns-clause-seen : goal.returns-clause-seen
+unfolding start_tags
+returns-clause-seen g c =
+    let before = (g.T.TagTable.state c.args.table.now).tags in
+    let f = start_tag g.P.Policy.model c.args.policy.now c.args.image.now in
+    let all : c.loop-n.n ≡ c.args.image.now.ram / 4 = omega (arith, c.ram-count.ensures.value, c.loop-n.invariant.most, c.loop-n-test.false) in
+    c.loop-n.invariant.seen ∙ ap (λ count. with_tags g.P.Tag.PartialEq.eq before (map f (range_with_len 0 count))) all
+
+pub returns-clause-words : goal.returns-clause-words
+unfolding start_tags
+returns-clause-words g c =
+    let f = start_tag g.P.Policy.model c.args.policy.now c.args.image.now in
+    let now = (g.T.TagTable.state c.loop-n.table).tags in
+    let long : length c.loop-n.words.items ≡ c.args.image.now.ram / 4 =
+    omega (arith, c.ram-count.ensures.value, c.loop-n.invariant.most, c.loop-n-test.false, c.loop-n.invariant.size) in
+    subst (λ count. AreWordsOf now (map f (range_with_len 0 count)) c.loop-n.words.items) long
+    (words_made f now 0 c.loop-n.words.items (λ k d lt. c.loop-n.invariant.made k d (omega (arith, lt, c.loop-n.invariant.size)) ∙ (let at : k ≡ 0 + k = omega arith in ap (λ n. Some (f n)) at)))
+
+pub returns-clause-size : goal.returns-clause-size
+returns-clause-size g c =
+    omega (arith, c.ram-count.ensures.value, c.ram-count.ensures.aligned, c.loop-n.invariant.most, c.loop-n-test.false, c.loop-n.invariant.size)

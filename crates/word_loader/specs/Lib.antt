@@ -1,0 +1,2 @@
+pub mod CachedStart
+pub mod Named
