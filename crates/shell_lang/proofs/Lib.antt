@@ -1,0 +1,4 @@
+pub mod NumberLemmas
+mod Rows
+pub mod StreamLemmas
+pub mod WordLemmas
