@@ -1,5 +1,5 @@
 -- The end of a run: what was put until mid, the last line and the status.
-use Rattle.std.proofs.Common.{◌≡◌, ℕ, true, false, List, [], ◌∷◌, codes, Option, Result, Ok, Err, refl, ap, sym, subst, ◌∙◌}
+use Rattle.std.proofs.Common.{◌≡◌, ℕ, true, false, List, [], ◌∷◌, codes, Option, Some, Result, Ok, Err, refl, ap, sym, subst, ◌∙◌}
 use Rattle.host_io.specs.Causes.{PutCause}
 use Rattle.host_io.specs.Fronts.{TakesAll, TakesFront}
 use Rattle.host_io.specs.Pieces.{Puts, PutsAll, PutsFront, Taken, err}
@@ -9,10 +9,11 @@ use Rattle.host_io.specs.declared.traits.sink.PutEnd.TheVariants as put_end
 use Rattle.host_io.proofs.PieceLemmas.{front_of_more_puts, put_on_err, puts_then_all, puts_then_front}
 use Rattle.turn_steps.specs.declared.stop.Stop.{Stop}
 use Rattle.engine_trait.specs.declared.ends.Halt.{Halt}
+use Rattle.engine_trait.specs.declared.ends.Halt.TheVariants as halt
 use Rattle.rounds.specs.Course.{Course, hart_stops}
 use Rattle.rounds.specs.Shown.{pieces_of}
 use Rattle.tag_text.specs.Texts.{line}
-use Rattle.pump_cli.specs.Endings.{has_any, is_out, last_pieces, outcome_of_course, status_of}
+use Rattle.pump_cli.specs.Endings.{has_any, is_out, last_pieces, out_at_start, outcome_of_course, status_of}
 use Rattle.pump_cli.specs.Codes.{status_of_refusal}
 use Rattle.pump_cli.specs.Cuts.{cut_of_put}
 use Rattle.pump_cli.specs.Early.{Tells}
@@ -23,6 +24,7 @@ use Rattle.pump_cli.specs.declared.refusal.Refusal.{Refusal}
 use Rattle.pump_cli.specs.declared.cut.Cut.{Cut}
 use Rattle.pump_cli.specs.declared.ending.Kind.TheVariants.{Ready}
 use Rattle.pump_cli.specs.declared.status.Status.{Status}
+use Rattle.pump_cli.specs.declared.status.Status.TheVariants.{TagsOut}
 
 abbrev put_faults : ℕ → ℕ → PutFaults
 put_faults on_out_count on_err_count = record { out = on_out_count; err = on_err_count }
@@ -74,6 +76,22 @@ module _ {S T : Type 0} (course : Course S T) (before after : Taken) where
       puts = puts_then_all before mid after (pieces_of course.events) _ puts (subst (PutsAll mid after) last_are last);
       ends = is ∙ ap (λ (w : Option Halt). status_of w stops) why_is ∙ ap (status_of course.standing.account.halt) stops_are;
     }
+
+-- ---- out of tag words at the start
+
+module _ (before after : Taken) (stops : List (Option Stop)) where
+  -- cut while that was told
+  pub start_cut : (result : Result Status Cut) (cut : Cut) → result ≡ Err cut → PutsFront before after (last_pieces (Some halt.TagWords) stops)
+      → Does out_at_start before after result
+  start_cut result cut is puts =
+      subst (Does out_at_start before after) (sym is) (record {
+        puts = subst (PutsFront before after) (last_is_out (Some halt.TagWords) stops refl) puts;
+        ends = tt;
+      })
+
+  -- told as a whole
+  pub start_told : PutsAll before after (last_pieces (Some halt.TagWords) stops) → Does out_at_start before after (Ok TagsOut)
+  start_told puts = record { puts = subst (PutsAll before after) (last_is_out (Some halt.TagWords) stops refl) puts; ends = refl }
 
 -- ---- refusals
 

@@ -11,9 +11,8 @@ use Rattle.policy_choice.specs.All.{AllState, AllTag, all, all_eq}
 use Rattle.rounds.proofs.RunLemmas.{rounds_are_run}
 use Rattle.run_props.proofs.RunLemmas.{run_is_safe}
 use Rattle.run_props.specs.Safe.{IsSafe}
-use Rattle.tag_loader.specs.Loads.{start_of}
 use Rattle.pump_line.specs.Task.{RunTask, Task, run, task_of}
-use Rattle.pump_cli.specs.Program.{course_of_run}
+use Rattle.pump_cli.specs.Program.{course_of_run, start_of_run}
 use Rattle.pump_cli.specs.Reading.{file_image, file_limit, file_read, image_or_refusal, input_read}
 use Rattle.pump_cli.specs.Runs.{IsSafeRun, TellBytes, run_in, run_of_fed, run_of_file, run_of_image, run_of_input, run_of_task, run_of_words}
 use Rattle.pump_cli.specs.declared.refusal.Refusal.{Refusal}
@@ -45,7 +44,7 @@ file_is_image bytes g are_bytes e = (file_is_of bytes g are_bytes (read_within (
 safe_course : (task : RunTask) (g : Picture) (fed : List ℕ) → IsImage g → IsSafe task.choice g (course_of_run task g fed).events
 safe_course task g fed is =
     subst (λ (trace : Trace AllState AllTag). IsSafe task.choice g trace.events)
-    (sym (rounds_are_run all_eq all task.turns 0 (start_of task.choice g) fed))
+    (sym (rounds_are_run all_eq all task.turns 0 (start_of_run task g) fed))
     (run_is_safe task.choice g fed (map turn (course_of_run task g fed).order) is)
 
 safe_fed : (task : RunTask) (g : Picture) (fed : Result (List ℕ) Refusal) → IsImage g → IfSome (run_of_fed task g fed) IsSafeRun

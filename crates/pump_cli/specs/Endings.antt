@@ -62,3 +62,7 @@ outcome_of_course course =
     let halt = course.standing.account.halt in
     let stops = hart_stops course.standing.machine.core in
     record { pieces = pieces_of course.events ++ last_pieces halt stops; status = status_of halt stops }
+
+-- a run whose start needs more words than there may be: no turn is made
+abbrev pub out_at_start : Outcome
+out_at_start = record { pieces = err (line (codes "tags out")) ∷ []; status = TagsOut }

@@ -1,11 +1,15 @@
 -- The program: what it writes and its status, from the words, what the files hold and what the input gives.
-use Rattle.std.specs.Prelude.{ℕ, List, [], ◌∷◌, Option, Some, None, Result, Ok, Err}
+use Rattle.std.specs.Prelude.{ℕ, ◌==◌, ◌≤◌, List, [], ◌∷◌, Option, Some, None, Result, Ok, Err, if◌then◌else◌}
 use Rattle.image_format.specs.Picture.{Picture}
 use Rattle.host_io.specs.Pieces.{err}
 use Rattle.tag_text.specs.Texts.{line}
+use Rattle.engine_trait.specs.Accounts.{Account, is_over, plain_account}
+use Rattle.engine_trait.specs.Standing.{Standing}
+use Rattle.engine_trait.specs.declared.ends.Halt.TheVariants as halt
 use Rattle.policy_choice.specs.All.{AllState, AllTag, all, all_eq}
 use Rattle.rounds.specs.Course.{Course, rounds}
 use Rattle.tag_loader.specs.Loads.{start_of}
+use Rattle.pump_loader.specs.Loads.{cached_start_of}
 use Rattle.pump_line.specs.Task.{RunTask, Task, run, task_of}
 use Rattle.pump_cli.specs.Endings.{Outcome, outcome_of_course}
 use Rattle.pump_cli.specs.Codes.{status_of_refusal}
@@ -20,9 +24,26 @@ refused refusal = record { pieces = err (line (refusal_text refusal)) ∷ []; st
 
 -- ---- `run`
 
--- one round robin from the image's start under the chosen policies, on a feed of these bytes
+-- an account that is over its limit at the start is out of tag words from the start
+abbrev pub started_account : {T : Type 0} → Account T → Account T
+started_account account = if is_over account then record account { halt = Some halt.TagWords } else account
+
+-- an engine whose start needs more words than there may be is out of them from the start
+abbrev pub started : {S T : Type 0} → Standing S T → Standing S T
+started e = record { machine = e.machine; account = started_account e.account }
+
+-- with a cache of 0 no rules are kept, and no tag has a word
+abbrev pub account_of_run : RunTask → Picture → Account AllTag
+account_of_run task picture =
+    started_account (if task.cache == 0 then plain_account else (cached_start_of task.choice task.cache task.tags picture).account)
+
+-- the image's start under the chosen policies, whatever is kept
+abbrev pub start_of_run : RunTask → Picture → Standing AllState AllTag
+start_of_run task picture = record { machine = (start_of task.choice picture).machine; account = account_of_run task picture }
+
+-- one round robin from there, on a feed of these bytes
 abbrev pub course_of_run : RunTask → Picture → List ℕ → Course AllState AllTag
-course_of_run task picture fed = rounds all_eq all task.turns 0 (start_of task.choice picture) fed
+course_of_run task picture fed = rounds all_eq all task.turns 0 (start_of_run task picture) fed
 
 unfoldable pub outcome_of_run : RunTask → Picture → List ℕ → Outcome
 outcome_of_run task picture fed = outcome_of_course (course_of_run task picture fed)
@@ -48,6 +69,10 @@ outcome_of_file task None input = None
 outcome_of_file task (Some bytes) input = outcome_of_image task (file_read bytes) input
 
 -- ---- the whole
+
+-- some tag may have a word, as in every task that words ask for
+abbrev pub AllowsTags : Task → Type 0
+AllowsTags (run task) = 1 ≤ task.tags
 
 -- a case for each subcommand
 abbrev pub outcome_of_task : Task → (List ℕ → Option (List ℕ)) → Option (List ℕ) → Option Outcome

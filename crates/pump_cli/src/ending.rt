@@ -5,7 +5,7 @@ ghost use Rattle.host_io.specs.Causes.{PutCause};
 ghost use Rattle.host_io.specs.Pieces.{Puts};
 ghost use Rattle.rounds.specs.Course.{rounds};
 ghost use Rattle.pump_cli.specs.Codes.{IsOfRun};
-ghost use Rattle.pump_cli.specs.Endings.{has_any, is_of, is_out, last_pieces, outcome_of_course, status_of, status_of_stops};
+ghost use Rattle.pump_cli.specs.Endings.{has_any, is_of, is_out, last_pieces, out_at_start, outcome_of_course, status_of, status_of_stops};
 ghost use Rattle.pump_cli.specs.Facts.{Does, PutsFaultBy};
 
 use crate::cut::Cut;
@@ -108,6 +108,20 @@ fn tell_last<L: Sink>(halt: Option<Halt>, stops: &[Option<Stop>], err: &mut L) -
         return err.put(b"turns spent\n");
     }
     Ok(())
+}
+
+/// Tells that an engine is out of tag words at its start, which ends its run.
+pub(crate) fn end_at_start<L: Sink>(err: &mut L) -> Result<Status, Cut>
+    ensures does { (out : Option (List ℕ)) → Does out_at_start
+        (record { out = out; err = L.taken err.old })
+        (record { out = out; err = L.taken err.new }) result }
+    ensures faults { (out : ℕ) → PutsFaultBy
+        (record { out = out; err = L.faults err.old })
+        (record { out = out; err = L.faults err.new }) result }
+    ensures kind { IfOk result IsOfRun }
+{
+    tell_last(Some(Halt::TagWords), &[], err)?;
+    Ok(Status::TagsOut)
 }
 
 /// Runs an engine for at most so many turns, and tells how it ended.

@@ -139,7 +139,7 @@ const OVERRUN: Program<'static> = Program {
 };
 
 /// The input overwrites the address to return to.
-const HIJACK: Program<'static> = Program {
+pub(crate) const HIJACK: Program<'static> = Program {
     entries: &[0],
     ram: 256,
     lists: &[1, 0, 28, 2, 8, 2, 108, 1, 1, 1, 2, 0],
@@ -185,7 +185,7 @@ fn the_examples_do_what_they_tell(rt: HostRuntime) -> Result<(), Fail> {
     Ok(())
 }
 
-const EXAMPLES: [Run<'static>; 8] = [
+pub(crate) const EXAMPLES: [Run<'static>; 8] = [
     Run {
         options: &[],
         program: FILTER,
@@ -277,7 +277,7 @@ fn attacks_do_their_harm_or_are_stopped(rt: HostRuntime) -> Result<(), Fail> {
 }
 
 /// Each attack without its policy and under it, and good input under it.
-const ATTACKS: [Run<'static>; 6] = [
+pub(crate) const ATTACKS: [Run<'static>; 6] = [
     Run {
         options: &[],
         program: OVERRUN,

@@ -1,13 +1,18 @@
 //! The program `pump`: runs an image of a tagged RISC-V machine and tells how it ended.
 #![tactic(auto)]
 
+#[cfg(test)]
+mod attack_tests;
 mod cut;
 mod ending;
 #[cfg(test)]
 mod example_tests;
+#[cfg(test)]
+mod limit_tests;
 mod program;
 mod reading;
 mod refusal;
+mod runs;
 mod status;
 #[cfg(test)]
 mod tests;

@@ -1,81 +1,22 @@
 //! The program, from the words, the files, the input and the two sinks to its status.
 
-ghost use Rattle.std.specs.Prelude.{IfOk, IfSome, Some};
-ghost use Rattle.rounds.specs.Course.{rounds};
+ghost use Rattle.std.specs.Prelude.{◌≤◌, IfSome, Some};
 ghost use Rattle.pump_line.specs.Task.{run, task_of};
 ghost use Rattle.pump_line.specs.Told.{run_told, texts_of, told};
-ghost use Rattle.pump_cli.specs.Codes.{IsOfRun};
-ghost use Rattle.pump_cli.specs.Endings.{outcome_of_course};
-ghost use Rattle.pump_cli.specs.Facts.{Does, PutsFaultBy, status_in};
+ghost use Rattle.pump_cli.specs.Facts.{status_in};
 ghost use Rattle.pump_cli.specs.Outsides.{outside};
-ghost use Rattle.pump_cli.specs.Program.{outcome_of_file, outcome_of_run, outcome_of_task, program};
+ghost use Rattle.pump_cli.specs.Program.{AllowsTags, outcome_of_file, outcome_of_task, program};
 ghost use Rattle.pump_cli.specs.Runs.{IsSafeRun, TellBytes, run_in};
 ghost use Rattle.pump_cli.specs.Theorem.{Answers};
 
 use crate::cut::Cut;
-use crate::ending::run_engine;
 use crate::reading::{load_image, read_input};
 use crate::refusal::{Refusal, end_early, refuse};
+use crate::runs::run_image;
 use crate::status::Status;
-use engine_trait::{Feed, Loader};
 use host_io::{Files, Sink, Source};
-use image_format::Image;
 use pump_line::{RunTask, Task, WordsEnd, read_task};
 use std::alloc::Global;
-use tag_loader::{BareLoad, PlainLoad};
-
-/// Runs what a loader starts, on these bytes of input. It stays a call, so that each kind of engine has a loop of its own.
-#[inline(never)]
-fn run_load<D: Loader, K: Sink, L: Sink>(
-    turns: u64,
-    loader: &D,
-    fed: Vec<u8>,
-    out: &mut K,
-    err: &mut L,
-) -> Result<Status, Cut>
-where
-    D::E: Drop,
-    ensures does { Does (outcome_of_course
-        (rounds D.E.P.Tag.eq D.E.P.model turns 0 (D.start loader.now) fed.items))
-        (record { out = K.taken out.old; err = L.taken err.old })
-        (record { out = K.taken out.new; err = L.taken err.new }) result }
-    ensures faults { PutsFaultBy
-        (record { out = K.faults out.old; err = L.faults err.old })
-        (record { out = K.faults out.new; err = L.faults err.new }) result }
-    ensures kind { IfOk result IsOfRun }
-{
-    let Ok(mut engine) = loader.load() else {
-        return Err(Cut::Memory);
-    };
-    let mut feed = Feed::of(fed);
-    run_engine(turns, &mut engine, &mut feed, out, err)
-}
-
-/// Runs an image from its start on these bytes of input. Where no policy is chosen the engine is one whose tags have no
-/// size: it shows the same.
-#[tactic(auto, unfolding(crate::specs::Program::outcome_of_run))]
-fn run_image<K: Sink, L: Sink>(
-    alloc: Global,
-    task: RunTask<'_>,
-    image: &Image,
-    fed: Vec<u8>,
-    out: &mut K,
-    err: &mut L,
-) -> Result<Status, Cut>
-    ensures does { Does (outcome_of_run (run_told task.entry) image.now fed.items)
-        (record { out = K.taken out.old; err = L.taken err.old })
-        (record { out = K.taken out.new; err = L.taken err.new }) result }
-    ensures faults { PutsFaultBy
-        (record { out = K.faults out.old; err = L.faults err.old })
-        (record { out = K.faults out.new; err = L.faults err.new }) result }
-    ensures kind { IfOk result IsOfRun }
-{
-    if task.choice.is_none() {
-        return run_load(task.turns, &BareLoad::new(alloc, image), fed, out, err);
-    }
-    let loader = PlainLoad::new(alloc, image, task.choice);
-    run_load(task.turns, &loader, fed, out, err)
-}
 
 /// Loads the image, reads the whole input, and runs the image on it.
 fn run_task<F: Files, S: Source, K: Sink, L: Sink>(
@@ -86,6 +27,7 @@ fn run_task<F: Files, S: Source, K: Sink, L: Sink>(
     out: &mut K,
     err: &mut L,
 ) -> Result<Status, Cut>
+    requires { 1 ≤ task.tags }
     ensures { Answers
         (outcome_of_file (run_told task.entry) (F.held files.old task.entry.image.now)
         (S.left input.old))
@@ -115,6 +57,7 @@ fn do_task<F: Files, S: Source, K: Sink, L: Sink>(
     out: &mut K,
     err: &mut L,
 ) -> Result<Status, Cut>
+    requires { AllowsTags (told task) }
     ensures { Answers
         (outcome_of_task (told task.entry) (F.held files.old) (S.left input.old))
         (Some (told task.entry)) (status_in result)
@@ -156,7 +99,9 @@ fn run_words<F: Files, S: Source, K: Sink, L: Sink>(
 /// with. The first word is the program's name. The input is read only once the image is taken, and then as a whole.
 ///
 /// Without fault and want of memory the bytes and the status are those of the machine that asks the chosen policies at
-/// every turn of every hart, on the whole input. `Answers` (specs/Theorem.antt) has the whole promise, fact by fact.
+/// every turn of every hart, on the whole input, however many rules are kept; where some may be kept, its run ends at the
+/// turn that would give words to more tags than may have them. `Answers` (specs/Theorem.antt) has the whole promise, fact by
+/// fact.
 ///
 /// In that run the sentence of each chosen policy holds (`safe`): every unsealing used its key, every indirect jump is a listed
 /// edge, every store lies in its compartment's permitted words, every heap access in its pointer's live block.

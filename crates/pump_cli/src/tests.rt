@@ -141,7 +141,7 @@ fn check_image<R: Abort + AllocGlobal>(
     check(rt, &["pump", "run", "image"], outside, expected, left)
 }
 
-fn refused(err: &[u8], status: Status) -> Expected<'_> {
+pub(crate) fn refused(err: &[u8], status: Status) -> Expected<'_> {
     Expected {
         out: b"",
         err,
@@ -215,19 +215,20 @@ pub(crate) struct Program<'a> {
     pub(crate) words: &'a [u32],
 }
 
-/// The file of a program's image.
-fn image_of(alloc: Global, program: Program<'_>) -> Result<Vec<u8>, AllocError> {
-    let harts = u16::try_from(program.entries.len()).unwrap_or(0);
-    let count = u32::try_from(program.words.len()).unwrap_or(0);
+/// The file of an image with these sizes: the bytes of memory, and the base and the bytes of the heap region. Its one segment
+/// has these words at 0, and its other lists have these counts and rows.
+pub(crate) fn file_of<'a>(
+    alloc: Global,
+    sizes: [u32; 3],
+    entries: &'a [u32],
+    words: &'a [u32],
+    lists: &'a [u32],
+) -> Result<Vec<u8>, AllocError> {
+    let harts = u16::try_from(entries.len()).unwrap_or(0);
+    let count = u32::try_from(words.len()).unwrap_or(0);
     let mut bytes = b"PUMP\x01\x00".to_vec(alloc)?;
     bytes.extend_from_slice(&harts.to_le_bytes())?;
-    let fields: [&[u32]; 5] = [
-        &[program.ram, 0, 0],
-        program.entries,
-        &[1, 0, count],
-        program.words,
-        program.lists,
-    ];
+    let fields: [&[u32]; 5] = [&sizes, entries, &[1, 0, count], words, lists];
     for field in fields {
         for word in field {
             bytes.extend_from_slice(&word.to_le_bytes())?;
@@ -245,30 +246,55 @@ pub(crate) struct Run<'a> {
     pub(crate) expected: Expected<'a>,
 }
 
-pub(crate) fn check_run<R: Abort + AllocGlobal>(rt: &R, run: Run<'_>) -> Result<(), Fail> {
-    let image = image_of(rt.alloc(), run.program)?;
+/// The file of a program's image.
+fn image_of(alloc: Global, program: Program<'_>) -> Result<Vec<u8>, AllocError> {
+    let sizes = [program.ram, 0, 0];
+    file_of(alloc, sizes, program.entries, program.words, program.lists)
+}
+
+/// Runs the file as an image with these options and this input, and compares what it writes and its status.
+pub(crate) fn check_file<R: Abort + AllocGlobal>(
+    rt: &R,
+    image: &[u8],
+    options: &[&str],
+    input: &[u8],
+    expected: Expected<'_>,
+) -> Result<(), Fail> {
     let mut words = vec![in rt.alloc(); "pump", "run", "image"]?;
-    words.extend_from_slice(run.options)?;
+    words.extend_from_slice(options)?;
     let outside = Outside {
-        image: &image,
-        input: run.input,
+        image,
+        input,
         failing_reads: &[],
         failing_puts: &[],
         failing_tells: &[],
     };
-    check(rt, &words, outside, run.expected, 0)
+    check(rt, &words, outside, expected, 0)
 }
 
-/// Runs each program of one hart with 256 bytes of memory under the policy, and compares what standard error got, and the
+pub(crate) fn check_run<R: Abort + AllocGlobal>(rt: &R, run: Run<'_>) -> Result<(), Fail> {
+    let sizes = [run.program.ram, 0, 0];
+    let program = run.program;
+    let image = file_of(
+        rt.alloc(),
+        sizes,
+        program.entries,
+        program.words,
+        program.lists,
+    )?;
+    check_file(rt, &image, run.options, run.input, run.expected)
+}
+
+/// Runs each program of one hart with 256 bytes of memory with the options, and compares what standard error got, and the
 /// status.
-fn check_all<R: Abort + AllocGlobal>(
+pub(crate) fn check_all<'a, R: Abort + AllocGlobal>(
     rt: &R,
-    policy: &str,
-    table: &[(&[u32], &[u8], Status)],
+    options: &'a [&'a str],
+    table: &'a [(&'a [u32], &'a [u8], Status)],
 ) -> Result<(), Fail> {
     for (words, err, status) in table {
         let run = Run {
-            options: &["--policy", policy],
+            options,
             program: Program {
                 entries: &[0],
                 ram: 256,
@@ -285,7 +311,7 @@ fn check_all<R: Abort + AllocGlobal>(
 
 #[test]
 fn faults_are_told(rt: HostRuntime) -> Result<(), Fail> {
-    check_all(&rt, "none", &FAULTS)
+    check_all(&rt, &["--policy", "none"], &FAULTS)
 }
 
 /// A shift with bit 5 of its amount; a FENCE, and one with another f3; a branch to 2 that is not taken, up to the word at 8,
@@ -330,7 +356,7 @@ const FAULTS: [(&[u32], &[u8], Status); 7] = [
 
 #[test]
 fn ends_are_told(rt: HostRuntime) -> Result<(), Fail> {
-    check_all(&rt, "none", &ENDS)
+    check_all(&rt, &["--policy", "none"], &ENDS)
 }
 
 /// An exit with 7; a loop; a jump by x5 with bit 0 cleared to 10, where x5, which is 8 then, is the exit's code.
@@ -362,12 +388,12 @@ const ENDS: [(&[u32], &[u8], Status); 3] = [
 
 #[test]
 fn sealing_stops_what_it_is_to_stop(rt: HostRuntime) -> Result<(), Fail> {
-    check_all(&rt, "seal", &SEALED)
+    check_all(&rt, &["--policy", "seal"], &SEALED)
 }
 
 /// A sealed value: in a sum; moved, which is allowed, up to the zero word behind; stored as a word, which is allowed, and
 /// a byte put into that word; unsealed with another key than its own.
-const SEALED: [(&[u32], &[u8], Status); 4] = [
+pub(crate) const SEALED: [(&[u32], &[u8], Status); 4] = [
     (
         &[
             0x0100_0893,
@@ -437,7 +463,7 @@ fn compartments_and_control_flow_are_kept(rt: HostRuntime) -> Result<(), Fail> {
 
 /// A jump by register to a label, along an edge and without it; a store to another compartment's word, which control flow
 /// refuses too; and a compartment more than there can be.
-const KEPT: [Run<'static>; 4] = [
+pub(crate) const KEPT: [Run<'static>; 4] = [
     Run {
         options: &["--policy", "flow"],
         program: Program {

@@ -19,8 +19,13 @@ on_rows = tt
 abbrev line : List Text → List Text
 line words = codes "pump" ∷ words
 
+-- a run that keeps the most rules, and the most tags with words, that a line gives which says nothing of them
 abbrev run_of : Text → Choice → ℕ → Task
-run_of image choice turns = run (record { image = image; choice = choice; turns = turns })
+run_of image choice turns = run (record { image = image; choice = choice; cache = 1024; tags = 65536; turns = turns })
+
+-- a run of no policy that keeps so many rules, and so many tags with words
+abbrev run_keeping : Text → ℕ → ℕ → Task
+run_keeping image cache tags = run (record { image = image; choice = no_policy; cache = cache; tags = tags; turns = 1000000 })
 
 abbrev sealing_alone : Choice
 sealing_alone = record no_policy { seal = true }
@@ -87,6 +92,41 @@ most_turns : task_of (line (codes "run" ∷ codes "a.img" ∷ codes "--turns" �
 unfolding on_rows
 most_turns = refl
 
+-- no rule is kept
+no_cache : task_of (line (codes "run" ∷ codes "a.img" ∷ codes "--cache" ∷ codes "0" ∷ [])) ≡ Some (run_keeping (codes "a.img") 0 65536)
+unfolding on_rows
+no_cache = refl
+
+-- the most kept rules
+most_cache : task_of (line (codes "run" ∷ codes "a.img" ∷ codes "--cache" ∷ codes "65536" ∷ [])) ≡ Some (run_keeping (codes "a.img") 65536 65536)
+unfolding on_rows
+most_cache = refl
+
+-- kept rules behind an equals sign
+cache_with_sign : task_of (line (codes "run" ∷ codes "a.img" ∷ codes "--cache=5" ∷ [])) ≡ Some (run_keeping (codes "a.img") 5 65536)
+unfolding on_rows
+cache_with_sign = refl
+
+-- the fewest tags with words
+least_tags : task_of (line (codes "run" ∷ codes "a.img" ∷ codes "--tags" ∷ codes "1" ∷ [])) ≡ Some (run_keeping (codes "a.img") 1024 1)
+unfolding on_rows
+least_tags = refl
+
+-- the most tags with words
+most_tags : task_of (line (codes "run" ∷ codes "a.img" ∷ codes "--tags" ∷ codes "1048576" ∷ [])) ≡ Some (run_keeping (codes "a.img") 1024 1048576)
+unfolding on_rows
+most_tags = refl
+
+-- kept rules before tags
+cache_before_tags : task_of (line (codes "run" ∷ codes "a.img" ∷ codes "--cache" ∷ codes "5" ∷ codes "--tags" ∷ codes "6" ∷ [])) ≡ Some (run_keeping (codes "a.img") 5 6)
+unfolding on_rows
+cache_before_tags = refl
+
+-- tags before kept rules
+tags_before_cache : task_of (line (codes "run" ∷ codes "--tags" ∷ codes "6" ∷ codes "a.img" ∷ codes "--cache" ∷ codes "5" ∷ [])) ≡ Some (run_keeping (codes "a.img") 5 6)
+unfolding on_rows
+tags_before_cache = refl
+
 -- ten digits with zeros before
 leading_zeros : task_of (line (codes "run" ∷ codes "a.img" ∷ codes "--turns" ∷ codes "0000000007" ∷ [])) ≡ Some (run_of (codes "a.img") no_policy 7)
 unfolding on_rows
@@ -149,8 +189,18 @@ turns_twice : faults_of (line (codes "run" ∷ codes "--turns" ∷ codes "5" ∷
 unfolding on_rows
 turns_twice = refl
 
+-- kept rules named twice
+cache_twice : faults_of (line (codes "run" ∷ codes "a.img" ∷ codes "--cache" ∷ codes "5" ∷ codes "--cache" ∷ codes "5" ∷ [])) ≡ ArgumentConflict ∷ []
+unfolding on_rows
+cache_twice = refl
+
+-- tags named twice
+tags_twice : faults_of (line (codes "run" ∷ codes "a.img" ∷ codes "--tags" ∷ codes "5" ∷ codes "--tags" ∷ codes "6" ∷ [])) ≡ ArgumentConflict ∷ []
+unfolding on_rows
+tags_twice = refl
+
 -- an option of no meaning
-unknown_option : faults_of (line (codes "run" ∷ codes "a.img" ∷ codes "--cache" ∷ codes "5" ∷ [])) ≡ UnknownArgument ∷ []
+unknown_option : faults_of (line (codes "run" ∷ codes "a.img" ∷ codes "--rules" ∷ codes "5" ∷ [])) ≡ UnknownArgument ∷ []
 unfolding on_rows
 unknown_option = refl
 
@@ -178,6 +228,11 @@ option_for_value = refl
 negative_turns : faults_of (line (codes "run" ∷ codes "a.img" ∷ codes "--turns" ∷ codes "-5" ∷ [])) ≡ UnknownArgument ∷ []
 unfolding on_rows
 negative_turns = refl
+
+-- the same for kept rules
+negative_cache : faults_of (line (codes "run" ∷ codes "a.img" ∷ codes "--cache" ∷ codes "-1" ∷ [])) ≡ UnknownArgument ∷ []
+unfolding on_rows
+negative_cache = refl
 
 -- an option before the subcommand
 option_before_run : faults_of (line (codes "--policy" ∷ codes "seal" ∷ codes "run" ∷ codes "a.img" ∷ [])) ≡ UnknownArgument ∷ []
@@ -250,6 +305,21 @@ no_turns = (refl, refl)
 too_many_turns : (faults_of (line (codes "run" ∷ codes "a.img" ∷ codes "--turns" ∷ codes "1000000001" ∷ [])) ≡ []) × (task_of (line (codes "run" ∷ codes "a.img" ∷ codes "--turns" ∷ codes "1000000001" ∷ [])) ≡ None)
 unfolding on_rows
 too_many_turns = (refl, refl)
+
+-- one kept rule more than the most
+too_large_cache : (faults_of (line (codes "run" ∷ codes "a.img" ∷ codes "--cache" ∷ codes "65537" ∷ [])) ≡ []) × (task_of (line (codes "run" ∷ codes "a.img" ∷ codes "--cache" ∷ codes "65537" ∷ [])) ≡ None)
+unfolding on_rows
+too_large_cache = (refl, refl)
+
+-- no tag at all
+no_tags : (faults_of (line (codes "run" ∷ codes "a.img" ∷ codes "--tags" ∷ codes "0" ∷ [])) ≡ []) × (task_of (line (codes "run" ∷ codes "a.img" ∷ codes "--tags" ∷ codes "0" ∷ [])) ≡ None)
+unfolding on_rows
+no_tags = (refl, refl)
+
+-- one tag more than the most
+too_many_tags : (faults_of (line (codes "run" ∷ codes "a.img" ∷ codes "--tags" ∷ codes "1048577" ∷ [])) ≡ []) × (task_of (line (codes "run" ∷ codes "a.img" ∷ codes "--tags" ∷ codes "1048577" ∷ [])) ≡ None)
+unfolding on_rows
+too_many_tags = (refl, refl)
 
 -- eleven digits
 eleven_digits : (faults_of (line (codes "run" ∷ codes "a.img" ∷ codes "--turns" ∷ codes "00000000007" ∷ [])) ≡ []) × (task_of (line (codes "run" ∷ codes "a.img" ∷ codes "--turns" ∷ codes "00000000007" ∷ [])) ≡ None)

@@ -18,7 +18,9 @@ subcommand_shape name operands options =
     record (new_shape name) { rules = map operand_rule operands ++ map option_rule options }
 
 unfoldable pub run_shape : Shape
-run_shape = subcommand_shape (codes "run") (codes "image" ∷ []) (codes "policy" ∷ codes "turns" ∷ [])
+run_shape =
+    subcommand_shape (codes "run") (codes "image" ∷ [])
+    (codes "policy" ∷ codes "cache" ∷ codes "tags" ∷ codes "turns" ∷ [])
 
 -- `pump SUBCOMMAND ..`, with no help and no version
 unfoldable pub pump_app : App

@@ -8,6 +8,8 @@ use Rattle.pump_line.specs.Line.{faults_of, match_of}
 pub record RunRequest : Type 0 where
   pub image : Text
   pub policy : Option Text
+  pub cache : Option Text
+  pub tags : Option Text
   pub turns : Option Text
 
 -- what a line asks for, a case for each subcommand
@@ -18,6 +20,8 @@ unfoldable pub run_in : List Row → Option RunRequest
 run_in rows = option_map (λ image. record {
   image = image;
   policy = first_of (codes "policy") rows;
+  cache = first_of (codes "cache") rows;
+  tags = first_of (codes "tags") rows;
   turns = first_of (codes "turns") rows;
 }) (first_of (codes "image") rows)
 

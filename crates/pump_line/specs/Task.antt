@@ -8,10 +8,15 @@ use Rattle.policy_choice.specs.Choice.{choice_of, no_policy}
 use Rattle.policy_choice.specs.declared.choice.Choice.{Choice}
 use Rattle.pump_line.specs.Request.{Request, RunRequest, request_of, run_asked}
 
--- a `run`: the image's name, the policies that are chosen, and the most turns
+-- a `run`: the image's name, the policies that are chosen, and its limits
 pub record RunTask : Type 0 where
   pub image : Text
   pub choice : Choice
+  -- the most rules that are kept
+  pub cache : ℕ
+  -- the most tags that may have words
+  pub tags : ℕ
+  -- the most turns
   pub turns : ℕ
 
 -- what `pump` is asked to do, a case for each subcommand
@@ -35,6 +40,33 @@ abbrev pub number_within : ℕ → ℕ → Text → Option ℕ
 number_within least most text =
     option_and_then (λ n. if nat_le least n && nat_le n most then Some n else None) (number_of text)
 
+-- the value of an option with a number, `default` where it is not on the line
+abbrev pub number_or : ℕ → ℕ → ℕ → Option Text → Option ℕ
+number_or default least most None = Some default
+number_or default least most (Some text) = number_within least most text
+
+-- the most rules that are kept where the option is not on the line
+abbrev pub default_cache : ℕ
+default_cache = 1024
+
+-- the most kept rules that the option can name
+abbrev pub most_cache : ℕ
+most_cache = 65536
+
+abbrev pub cache_of : Option Text → Option ℕ
+cache_of = number_or default_cache 0 most_cache
+
+-- the most tags that may have words where the option is not on the line
+abbrev pub default_tags : ℕ
+default_tags = 65536
+
+-- the most tags that the option can name
+abbrev pub most_tags : ℕ
+most_tags = 1048576
+
+abbrev pub tags_of : Option Text → Option ℕ
+tags_of = number_or default_tags 1 most_tags
+
 -- the most turns where the option is not on the line
 abbrev pub default_turns : ℕ
 default_turns = 1000000
@@ -44,18 +76,24 @@ abbrev pub most_turns : ℕ
 most_turns = 1000000000
 
 abbrev pub turns_of : Option Text → Option ℕ
-turns_of None = Some default_turns
-turns_of (Some text) = number_within 1 most_turns text
+turns_of = number_or default_turns 1 most_turns
 
-abbrev pub task_with : Text → Option Choice → Option ℕ → Option RunTask
-task_with image choice turns = option_and_then (λ chosen. option_map (λ limit. record {
-  image = image;
-  choice = chosen;
-  turns = limit;
-}) turns) choice
+-- the task with these values; `None` where one is bad
+abbrev pub task_with : Text → Option Choice → Option ℕ → Option ℕ → Option ℕ → Option RunTask
+task_with image choice cache tags turns =
+    option_and_then (λ chosen. option_and_then (λ rule_limit.
+    option_and_then (λ tag_limit. option_map (λ turn_limit. record {
+      image = image;
+      choice = chosen;
+      cache = rule_limit;
+      tags = tag_limit;
+      turns = turn_limit;
+    }) turns) tags) cache) choice
 
 unfoldable pub run_task_in : RunRequest → Option RunTask
-run_task_in request = task_with request.image (choice_in request.policy) (turns_of request.turns)
+run_task_in request =
+    task_with request.image (choice_in request.policy) (cache_of request.cache) (tags_of request.tags)
+    (turns_of request.turns)
 
 abbrev pub task_in : Request → Option Task
 task_in (run_asked request) = option_map run (run_task_in request)

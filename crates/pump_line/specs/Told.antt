@@ -14,7 +14,13 @@ abbrev pub lent : Option (Bor (List ℕ)) → Option (List ℕ)
 lent = option_map (λ text. text.now)
 
 abbrev pub run_told : RunWords → RunTask
-run_told task = record { image = task.image.now; choice = task.choice; turns = task.turns }
+run_told task = record {
+  image = task.image.now;
+  choice = task.choice;
+  cache = task.cache;
+  tags = task.tags;
+  turns = task.turns;
+}
 
 abbrev pub told : TaskWords → Task
 told (Run task) = run (run_told task)

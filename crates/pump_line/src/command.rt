@@ -33,7 +33,12 @@ fn leaf_command<'a>(
 pub(crate) fn pump_command<'a>(alloc: Global) -> Result<Command<'a>, AllocError>
     ensures { IfOk result (λ c. app_of c ≡ pump_app) }
 {
-    let run_leaf = leaf_command(alloc, "run", &["image"], &["policy", "turns"])?;
+    let run_leaf = leaf_command(
+        alloc,
+        "run",
+        &["image"],
+        &["policy", "cache", "tags", "turns"],
+    )?;
     let pump = Command::new(alloc, "pump")
         .disable_help_flag(true)
         .disable_help_subcommand(true)

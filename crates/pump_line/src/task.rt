@@ -7,7 +7,7 @@ ghost use Rattle.pump_line.specs.Task.{run_task_in, task_in, task_of};
 ghost use Rattle.pump_line.specs.Told.{lent, run_told, texts_of, told};
 
 use crate::command::pump_command;
-use crate::values::{choice_from, read_turns};
+use crate::values::{choice_from, read_cache, read_tags, read_turns};
 use clap::error::ErrorKind;
 use clap::{ArgMatches, Error};
 use policy_choice::Choice;
@@ -27,6 +27,10 @@ pub struct RunTask<'a> {
     pub image: &'a str,
     /// The policies that are chosen.
     pub choice: Choice,
+    /// The most rules that are kept: 0 to 65,536.
+    pub cache: u32,
+    /// The most tags that may have words: 1 to 1,048,576.
+    pub tags: u32,
     /// The most turns: 1 to 1,000,000,000.
     pub turns: u64,
 }
@@ -65,10 +69,14 @@ fn run_task<'a>(matches: &ArgMatches<'a>) -> Option<RunTask<'a>>
 {
     let image = text_of(matches, "image")?;
     let choice = choice_from(text_of(matches, "policy"))?;
+    let cache = read_cache(text_of(matches, "cache"))?;
+    let tags = read_tags(text_of(matches, "tags"))?;
     let turns = read_turns(text_of(matches, "turns"))?;
     Some(RunTask {
         image,
         choice,
+        cache,
+        tags,
         turns,
     })
 }
@@ -105,10 +113,12 @@ fn end_of(error: &Error) -> WordsEnd
     }
 }
 
-/// What the words ask for, the first being the program's name: `run IMAGE [--policy LIST] [--turns N]`, the options before or
-/// after the image, each at most once, LIST `none`, or names among `seal`, `comp`, `flow` and `heap` with commas between,
-/// none twice, N 1 to 10 decimal digits that write 1 to 1,000,000,000. This is the project's own command line; `clap` judges
-/// its form. Any other words are `Bad`. A line in want of memory may end as `Memory`.
+/// What the words ask for, the first being the program's name:
+/// `run IMAGE [--policy LIST] [--cache N] [--tags N] [--turns N]`, the options in any order before or after the image, each
+/// at most once. LIST is `none`, or names among `seal`, `comp`, `flow` and `heap` with commas between, none twice. N is 1 to
+/// 10 decimal digits that write 0 to 65,536 for `--cache`, 1 to 1,048,576 for `--tags` and 1 to 1,000,000,000 for
+/// `--turns`. This is the project's own command line; `clap` judges its form. Any other words are `Bad`. A line in want of
+/// memory may end as `Memory`.
 pub fn read_task<'a>(alloc: Global, words: &'a Vec<String>) -> Result<Task<'a>, WordsEnd>
     ensures task { IfOk result (λ t. task_of (texts_of words.now.items) ≡ Some (told t)) }
     ensures bad { IfErr result (λ e. e ≡ WordsEnd.Bad → task_of (texts_of words.now.items) ≡ None) }

@@ -23,7 +23,12 @@ const COMP: Named = (false, true, false, false);
 
 const ALL: Named = (true, true, true, true);
 
-fn is_run(read: Result<Task<'_>, WordsEnd>, image: &str, named: Named, turns: u64) -> bool {
+/// The most kept rules, the most tags with words and the most turns.
+type Limits = (u32, u32, u64);
+
+const DEFAULTS: Limits = (1_024, 65_536, 1_000_000);
+
+fn is_run(read: Result<Task<'_>, WordsEnd>, image: &str, named: Named, limits: Limits) -> bool {
     let (seal, comp, flow, heap) = named;
     let choice = Choice {
         seal,
@@ -33,64 +38,112 @@ fn is_run(read: Result<Task<'_>, WordsEnd>, image: &str, named: Named, turns: u6
     };
     match read {
         Ok(Task::Run(task)) => {
-            task.image == image && task.choice == choice && task.turns == turns
+            task.image == image
+                && task.choice == choice
+                && (task.cache, task.tags, task.turns) == limits
         }
         Err(_) => false,
     }
 }
 
-/// Lines as `run IMAGE [--policy LIST] [--turns N]`, each with the image, the policies and the turns that it asks for.
-const LINES: [(&[&str], (&str, Named, u64)); 14] = [
-    (&["run", "a.img"], ("a.img", NONE, 1_000_000)),
+/// Lines as `run IMAGE [--policy LIST] [--cache N] [--tags N] [--turns N]`, each with the image, the policies and the limits
+/// that it asks for.
+const LINES: [(&[&str], (&str, Named, Limits)); 22] = [
+    (&["run", "a.img"], ("a.img", NONE, DEFAULTS)),
     (
         &["run", "a.img", "--policy", "none"],
-        ("a.img", NONE, 1_000_000),
+        ("a.img", NONE, DEFAULTS),
     ),
     (
         &["run", "a.img", "--policy", "seal"],
-        ("a.img", SEAL, 1_000_000),
+        ("a.img", SEAL, DEFAULTS),
     ),
     (
         &["run", "a.img", "--policy=seal"],
-        ("a.img", SEAL, 1_000_000),
+        ("a.img", SEAL, DEFAULTS),
     ),
     (
         &["run", "--policy", "seal", "a.img"],
-        ("a.img", SEAL, 1_000_000),
+        ("a.img", SEAL, DEFAULTS),
     ),
     (
         &["run", "--turns", "5", "a.img", "--policy", "seal"],
-        ("a.img", SEAL, 5),
+        ("a.img", SEAL, (1_024, 65_536, 5)),
     ),
     (
         &["run", "a.img", "--policy", "comp"],
-        ("a.img", COMP, 1_000_000),
+        ("a.img", COMP, DEFAULTS),
     ),
     (
         &["run", "a.img", "--policy", "heap,flow,seal,comp"],
-        ("a.img", ALL, 1_000_000),
+        ("a.img", ALL, DEFAULTS),
     ),
-    (&["run", "a.img", "--turns", "1"], ("a.img", NONE, 1)),
-    (&["run", "a.img", "--turns=5"], ("a.img", NONE, 5)),
+    (
+        &["run", "a.img", "--turns", "1"],
+        ("a.img", NONE, (1_024, 65_536, 1)),
+    ),
+    (
+        &["run", "a.img", "--turns=5"],
+        ("a.img", NONE, (1_024, 65_536, 5)),
+    ),
     (
         &["run", "a.img", "--turns", "1000000000"],
-        ("a.img", NONE, 1_000_000_000),
+        ("a.img", NONE, (1_024, 65_536, 1_000_000_000)),
     ),
     (
         &["run", "a.img", "--turns", "0000000007"],
-        ("a.img", NONE, 7),
+        ("a.img", NONE, (1_024, 65_536, 7)),
     ),
-    (&["run", "run"], ("run", NONE, 1_000_000)),
-    (&["run", "--", "-a.img"], ("-a.img", NONE, 1_000_000)),
+    (
+        &["run", "a.img", "--cache", "0"],
+        ("a.img", NONE, (0, 65_536, 1_000_000)),
+    ),
+    (
+        &["run", "a.img", "--cache", "65536"],
+        ("a.img", NONE, (65_536, 65_536, 1_000_000)),
+    ),
+    (
+        &["run", "a.img", "--cache=5"],
+        ("a.img", NONE, (5, 65_536, 1_000_000)),
+    ),
+    (
+        &["run", "a.img", "--tags", "1"],
+        ("a.img", NONE, (1_024, 1, 1_000_000)),
+    ),
+    (
+        &["run", "a.img", "--tags", "1048576"],
+        ("a.img", NONE, (1_024, 1_048_576, 1_000_000)),
+    ),
+    (
+        &["run", "a.img", "--cache", "5", "--tags", "6"],
+        ("a.img", NONE, (5, 6, 1_000_000)),
+    ),
+    (
+        &["run", "--tags", "6", "a.img", "--cache", "5"],
+        ("a.img", NONE, (5, 6, 1_000_000)),
+    ),
+    (
+        &[
+            "run",
+            "a.img",
+            "--turns=7",
+            "--tags=6",
+            "--cache=5",
+            "--policy=comp",
+        ],
+        ("a.img", COMP, (5, 6, 7)),
+    ),
+    (&["run", "run"], ("run", NONE, DEFAULTS)),
+    (&["run", "--", "-a.img"], ("-a.img", NONE, DEFAULTS)),
 ];
 
 #[test]
 fn each_line_asks_for_its_run(rt: HostRuntime) -> Result<(), Fail> {
     for (words, want) in LINES {
         let line = words_of(rt.alloc(), words)?;
-        let (image, named, turns) = want;
+        let (image, named, limits) = want;
         let read = read_task(rt.alloc(), &line);
-        assert!(rt; is_run(read, image, named, turns), "{words:?}");
+        assert!(rt; is_run(read, image, named, limits), "{words:?}");
     }
     Ok(())
 }
@@ -99,7 +152,7 @@ fn each_line_asks_for_its_run(rt: HostRuntime) -> Result<(), Fail> {
 #[test]
 fn every_other_line_is_bad(rt: HostRuntime) -> Result<(), Fail> {
     match_law();
-    let lines: [&[&str]; 23] = [
+    let lines: [&[&str]; 31] = [
         &[],
         &["run"],
         &["walk", "a.img"],
@@ -109,7 +162,7 @@ fn every_other_line_is_bad(rt: HostRuntime) -> Result<(), Fail> {
         &["--version"],
         &["run", "a.img", "b.img"],
         &["run", "a.img", "--help"],
-        &["run", "a.img", "--cache", "5"],
+        &["run", "a.img", "--rules", "5"],
         &["run", "a.img", "-p", "seal"],
         &["run", "a.img", "--policy"],
         &["run", "a.img", "--policy", "seal", "--policy", "seal"],
@@ -123,6 +176,14 @@ fn every_other_line_is_bad(rt: HostRuntime) -> Result<(), Fail> {
         &["run", "a.img", "--turns", "+5"],
         &["run", "a.img", "--turns", "0x5"],
         &["run", "a.img", "--turns", ""],
+        &["run", "a.img", "--cache", "65537"],
+        &["run", "a.img", "--cache", "5", "--cache", "5"],
+        &["run", "a.img", "--cache", ""],
+        &["run", "a.img", "--cache", "-1"],
+        &["run", "a.img", "--cache", "00000000005"],
+        &["run", "a.img", "--tags", "0"],
+        &["run", "a.img", "--tags", "1048577"],
+        &["run", "a.img", "--tags", "0x5"],
     ];
     for words in lines {
         let line = words_of(rt.alloc(), words)?;

@@ -1,27 +1,50 @@
 //! The values of options.
 
 ghost use Rattle.std.specs.Prelude.{◌≡◌};
-ghost use Rattle.pump_line.specs.Task.{choice_in, number_within, turns_of};
+ghost use Rattle.pump_line.specs.Task.{cache_of, choice_in, number_or, number_within, tags_of, turns_of};
 ghost use Rattle.pump_line.specs.Told.{lent};
 
 use policy_choice::{Choice, read_choice};
 use pump_words::read_number;
 
+/// The most rules that a run keeps whose line says nothing of them.
+const DEFAULT_CACHE: u32 = 1_024;
+
+/// The most kept rules that a line can ask for.
+const MOST_CACHE: u32 = 65_536;
+
+/// The most tags that may have words in a run whose line says nothing of them.
+const DEFAULT_TAGS: u32 = 65_536;
+
+/// The most tags with words that a line can ask for.
+const MOST_TAGS: u32 = 1_048_576;
+
 /// The most turns of a run whose line says nothing of them.
-const DEFAULT_TURNS: u64 = 1_000_000;
+const DEFAULT_TURNS: u32 = 1_000_000;
 
 /// The most turns that a line can ask for.
-const MOST_TURNS: u64 = 1_000_000_000;
+const MOST_TURNS: u32 = 1_000_000_000;
 
 /// The number from `least` to `most` that the text writes in 1 to 10 decimal digits; `None` for any other text.
-fn read_number_within(text: &str, least: u64, most: u64) -> Option<u64>
+fn read_number_within(text: &str, least: u32, most: u32) -> Option<u32>
     ensures { result ≡ number_within least most text.now }
 {
     let number = read_number(text.as_bytes())?;
-    if number < least || number > most {
+    if number < u64::from(least) || number > u64::from(most) {
         return None;
     }
-    Some(number)
+    Some(number as u32)
+}
+
+/// The number from `least` to `most` that is an option's value: `default` where the option isn't on the line; `None` for any
+/// other text.
+fn read_number_or(text: Option<&str>, default: u32, least: u32, most: u32) -> Option<u32>
+    ensures { result ≡ number_or default least most (lent text.entry) }
+{
+    match text {
+        None => Some(default),
+        Some(text) => read_number_within(text, least, most),
+    }
 }
 
 /// The policies that are chosen, from the value of `--policy`: none where the option isn't on the line; `None` for a bad
@@ -35,13 +58,26 @@ pub(crate) fn choice_from(list: Option<&str>) -> Option<Choice>
     }
 }
 
+/// The most rules that are kept, from the value of `--cache`: 1,024 where the option isn't on the line; `None` for a text
+/// that is no number from 0 to 65,536.
+pub(crate) fn read_cache(text: Option<&str>) -> Option<u32>
+    ensures { result ≡ cache_of (lent text.entry) }
+{
+    read_number_or(text, DEFAULT_CACHE, 0, MOST_CACHE)
+}
+
+/// The most tags that may have words, from the value of `--tags`: 65,536 where the option isn't on the line; `None` for a
+/// text that is no number from 1 to 1,048,576.
+pub(crate) fn read_tags(text: Option<&str>) -> Option<u32>
+    ensures { result ≡ tags_of (lent text.entry) }
+{
+    read_number_or(text, DEFAULT_TAGS, 1, MOST_TAGS)
+}
+
 /// The most turns, from the value of `--turns`: 1,000,000 where the option isn't on the line; `None` for a text that is no
 /// number from 1 to 1,000,000,000.
 pub(crate) fn read_turns(text: Option<&str>) -> Option<u64>
     ensures { result ≡ turns_of (lent text.entry) }
 {
-    match text {
-        None => Some(DEFAULT_TURNS),
-        Some(text) => read_number_within(text, 1, MOST_TURNS),
-    }
+    read_number_or(text, DEFAULT_TURNS, 1, MOST_TURNS).map(u64::from)
 }

@@ -1,0 +1,23 @@
+use Rattle.std.proofs.Common.{ap, subst}
+use Rattle.policy_choice.specs.All.{AllState, AllTag, all, all_eq}
+use Rattle.engine_trait.specs.Standing.{Standing}
+use Rattle.rounds.specs.Course.{rounds}
+use Rattle.pump_line.specs.Told.{run_told}
+use Rattle.pump_loader.specs.Loads.{cached_start_of_load}
+use Rattle.pump_cli.specs.Endings.{Outcome, outcome_of_course}
+use Rattle.pump_cli.specs.Facts.{Does}
+use Rattle.pump_cli.specs.Program.{started}
+use Rattle.pump_cli.proofs.Starts.{cached_outcome}
+use Rattle.pump_cli.proofs.runs.run_cached.Goals as goal
+
+pub returns-clause-does : goal.returns-clause-does
+returns-clause-does g c =
+    subst (λ (due : Outcome). DoesAs due) (cached_outcome (run_told c.args.task) c.args.image.now c.args.fed.items c.requires.rules)
+    (subst (λ (start : Standing AllState AllTag). DoesAs (outcome_of_course (rounds all_eq all c.args.task.turns 0 (started start) c.args.fed.items)))
+    (ap cached_start_of_load c.new-loader.ensures) c.run_load.ensures.does)
+  where
+    DoesAs : Outcome → Type 0
+    DoesAs due =
+        Does due
+        (record { out = g.K.Sink.taken c.args.out.now; err = g.L.Sink.taken c.args.err.now })
+        (record { out = g.K.Sink.taken c.run_load.new.out; err = g.L.Sink.taken c.run_load.new.err }) c.run_load.result
