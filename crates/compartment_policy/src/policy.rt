@@ -64,6 +64,7 @@ impl Policy for Compartments {
         CompartmentTag::Plain
     }
 
+    #[inline(always)]
     fn rule(
         &self,
         group: Group,

@@ -107,10 +107,10 @@ pub trait Engine {
 }
 
 /// A start that can be made again and again.
-pub trait Loader {
+pub trait Loader: Drop {
     ghost use Rattle.engine_trait.specs.Standing.{Standing};
 
-    type E: Engine;
+    type E: Engine + Drop;
 
     ghost start: { Self → Standing Self.E.P Self.E.P.Tag };
 

@@ -89,6 +89,7 @@ impl Policy for Flow {
         FlowTag::Plain
     }
 
+    #[inline(always)]
     fn rule(&self, group: Group, inputs: Ins<FlowTag>) -> Result<Outs<FlowTag>, Refused>
         ensures { result ≡ flow.rule self.now group inputs }
     {

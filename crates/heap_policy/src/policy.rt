@@ -122,6 +122,7 @@ impl Policy for Heap {
         HeapTag::Val
     }
 
+    #[inline(always)]
     fn rule(&self, group: Group, inputs: Ins<HeapTag>) -> Result<Outs<HeapTag>, Refused>
         ensures { result ≡ heap.rule self.now group inputs }
     {

@@ -188,6 +188,7 @@ impl<P: Policy, Q: Policy> Policy for Both<P, Q> {
         (self.left.plain(), self.right.plain())
     }
 
+    #[inline(always)]
     fn rule(
         &self,
         group: Group,

@@ -82,6 +82,7 @@ impl<P: Policy> Policy for Maybe<P> {
         }
     }
 
+    #[inline(always)]
     fn rule(
         &self,
         group: Group,

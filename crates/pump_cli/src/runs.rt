@@ -30,8 +30,6 @@ fn run_load<D: Loader, K: Sink, L: Sink>(
     out: &mut K,
     err: &mut L,
 ) -> Result<Status, Cut>
-where
-    D::E: Drop,
     ensures does { Does (outcome_of_course
         (rounds D.E.P.Tag.eq D.E.P.model turns 0 (started (D.start loader.now)) fed.items))
         (record { out = K.taken out.old; err = L.taken err.old })

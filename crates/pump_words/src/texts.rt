@@ -4,7 +4,7 @@ ghost use Rattle.std.specs.Prelude.{◌≡◌, ◌+◌, ◌≤◌, ◌++◌, len
 ghost use Rattle.std.specs.Fmt.{decimal};
 ghost use Rattle.std.specs.Str.Parse.{digits_value};
 ghost use Rattle.arrayvec.specs.ArrayVec.{array_vec_len};
-ghost use Rattle.pump_words.specs.Texts.{hex8_text};
+ghost use Rattle.pump_words.specs.Texts.{hex2_text, hex8_text};
 
 use arrayvec::ArrayVec;
 
@@ -22,6 +22,16 @@ pub fn write_text(line: &mut Line, text: &[u8])
     for byte in text {
         line.push(*byte);
     }
+}
+
+/// Appends a byte as two hexadecimal digits in upper case.
+pub fn hex2(line: &mut Line, byte: u8)
+    requires room { array_vec_len line.old + 2 ≤ 512 }
+    ensures text { line.new.items ≡ line.old.items ++ hex2_text byte }
+    ensures len { array_vec_len line.new ≡ array_vec_len line.old + 2 }
+{
+    line.push(HEX_DIGITS[(byte / 16) as usize]);
+    line.push(HEX_DIGITS[(byte % 16) as usize]);
 }
 
 /// Appends a word as eight hexadecimal digits in upper case.

@@ -8,5 +8,6 @@ mod stops;
 mod telling;
 
 pub use law::{mirror_law, rounds_law};
+pub use order::next_turn;
 pub use running::{RoundsEnd, make_rounds};
 pub use stops::stops_of;

@@ -49,7 +49,7 @@ fn unless_stopped<E: Engine>(engine: &E, next: Option<u32>) -> Option<u32>
 /// The hart whose turn is next, from one on. None is where the engine as a whole is stopped, or no
 /// hart is ready.
 #[tactic(auto, unfolding(crate::specs::Course::next_turn))]
-pub(crate) fn next_turn<E: Engine>(engine: &E, from: u32) -> Option<u32>
+pub fn next_turn<E: Engine>(engine: &E, from: u32) -> Option<u32>
     ensures { result ≡ next_turn (E.standing engine.now) from }
 {
     unless_stopped(engine, next_hart(engine, from))

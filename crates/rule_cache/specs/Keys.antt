@@ -1,5 +1,5 @@
 -- Keys of kept rules: when two are the same, and the number that a key is hashed by.
-use Rattle.std.specs.Prelude.{ℕ, ◌+◌, ◌*◌, Bool}
+use Rattle.std.specs.Prelude.{ℕ, ◌+◌, ◌*◌, ◌%◌, Bool}
 use Rattle.rv_decode.specs.declared.groups.Group.{Group}
 use Rattle.rv_decode.specs.declared.groups.Group.TheVariants as group
 use Rattle.rule_cache.specs.contracts.key.KeyPartialEq.TheImpl.{eq-value}
@@ -32,8 +32,12 @@ group_number group.Get = 18
 group_number group.Break = 19
 group_number group.Call = 20
 
--- the words and the group as digits of one number, to the base of 2^22: keys of smaller words have different numbers
+-- the words and the group as digits of two halves of one number, to the base of 2^21: keys of smaller words have
+-- different numbers
+abbrev digit : ℕ → ℕ
+digit word = word % 2097152
+
 abbrev pub key_number : Key → ℕ
 key_number key =
-    ((group_number key.group * 4194304 + key.words.tm) * 4194304 + key.words.t2) * 73786976294838206464
-    + ((key.words.t1 * 4194304 + key.words.ci) * 4194304 + key.words.pc)
+    ((group_number key.group * 2097152 + digit key.words.tm) * 2097152 + digit key.words.t2) * 18446744073709551616
+    + ((digit key.words.t1 * 2097152 + digit key.words.ci) * 2097152 + digit key.words.pc)

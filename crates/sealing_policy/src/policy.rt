@@ -60,6 +60,7 @@ impl Policy for Sealing {
         SealTag::Data
     }
 
+    #[inline(always)]
     fn rule(&self, group: Group, inputs: Ins<SealTag>) -> Result<Outs<SealTag>, Refused>
         ensures { result ≡ sealing.rule self.now group inputs }
     {

@@ -10,12 +10,12 @@ use Rattle.policy_trait.specs.Maps.{answer_by}
 use Rattle.policy_trait.specs.declared.services.Answer.{Answer}
 use Rattle.engine_trait.specs.Accounts.{with_tag, with_tags}
 use Rattle.engine_trait.specs.Maps.{words_by}
-use Rattle.tag_intern.specs.Table.{Extends}
+use Rattle.tag_intern.specs.Table.{Extends, TableState, interned}
 use Rattle.tag_intern.specs.Words.{tag_at}
 use Rattle.tag_intern.specs.declared.table.InternEnd.{InternEnd}
 use Rattle.tag_intern.specs.declared.table.InternEnd.TheVariants as intern_end
 use Rattle.tag_intern.proofs.ComingLemmas.{all_read, read_more, tag_came, tag_over, with_tags-append}
-use Rattle.tag_intern.proofs.TableLemmas.{extends_with_tags, longer, same_words}
+use Rattle.tag_intern.proofs.TableLemmas.{extends_with_tags, longer, same_words, with_word}
 use Rattle.word_service.specs.Written.{AnswerStandsFor, IsAnswerBelow, IsWordBelow, StandFor, tags_of}
 
 -- ---- an error that is passed on
@@ -43,6 +43,16 @@ module _ {T : Type 0} (eq : T → T → Bool) (laws : IsEquivalence eq) (limit :
       let all = sym (with_tags-append eq seen (take 1 tags) (drop 1 tags)) ∙ ap (with_tags eq seen) (take-append-drop 1 tags) in
       let more = subst (λ grown. length (with_tags eq seen (take 1 tags)) ≤ length grown) all n in
       omega (arith, more, fits)
+
+-- a tag that has a word comes
+module _ {T : Type 0} (eq : T → T → Bool) (laws : IsEquivalence eq) (table : TableState T) (word : ℕ) (tag : T) (known : slice_get table.tags word ≡ Some tag) where
+  pub known_stays : table ≡ interned eq table tag
+  known_stays = λ j. record table { tags = sym (with_word eq laws table.tags tag word known) j }
+
+  pub known_fits : length table.tags ≤ table.limit → table.limit < length (with_tag eq table.tags tag) → ⊥
+  known_fits within over =
+      let same : length (with_tag eq table.tags tag) ≡ length table.tags = ap length (with_word eq laws table.tags tag word known) in
+      omega (arith, same, within, over)
 
 -- the first tag of a range with words is the first of all
 module _ {T : Type 0} where

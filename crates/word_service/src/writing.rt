@@ -1,13 +1,13 @@
 //! The words of what a service writes.
 
-ghost use Rattle.std.specs.Prelude.{◌≡◌, ℕ, ◌<◌, ◌≤◌, ◌↔◌, Err, IfOk, OnErr, OnOk, length, option_map, take};
+ghost use Rattle.std.specs.Prelude.{◌≡◌, ℕ, ◌<◌, ◌≤◌, ◌↔◌, Err, IfOk, IfSome, OnErr, OnOk, Some, length, option_map, slice_get, take};
 ghost use Rattle.std.specs.List.{All};
 ghost use Rattle.policy_trait.specs.Maps.{answer_by};
 ghost use Rattle.tag_memory.specs.Ram.{IsPlace};
 ghost use Rattle.monitor_calls.specs.Ends.{job_by};
-ghost use Rattle.engine_trait.specs.Accounts.{answer_tags, with_tags, written_tags};
+ghost use Rattle.engine_trait.specs.Accounts.{answer_tags, with_tag, with_tags, written_tags};
 ghost use Rattle.engine_trait.specs.Maps.{words_by};
-ghost use Rattle.tag_intern.specs.Table.{Extends};
+ghost use Rattle.tag_intern.specs.Table.{Extends, interned};
 ghost use Rattle.tag_intern.specs.Words.{tag_at};
 ghost use Rattle.word_service.specs.Written.{AnswerStandsFor, IsAnswerBelow, IsWordBelow, StandFor, tags_of};
 
@@ -123,14 +123,38 @@ fn intern_words<T: TagTable>(
     ensures some { result ≡ Err InternEnd.Memory → 1 ≤ length words.now }
 {
     let mut written = Vec::new(alloc);
+    let mut last = None;
     for item in words {
         let (address, value, tag) = *item;
-        let word = tags.intern(tag)?;
+        let word = next_word(tags, last, tag)?;
         let Ok(()) = written.push((address, value, word)) else {
             return Err(InternEnd::Memory);
         };
+        last = Some((tag, word));
     }
     Ok(written)
+}
+
+/// Gives a word to the tag that comes next. The words of a range mostly have one tag, so that the tag that came last is
+/// compared before the table is asked.
+fn next_word<T: TagTable>(
+    tags: &mut T,
+    last: Option<(T::Tag, u32)>,
+    tag: T::Tag,
+) -> Result<u32, InternEnd>
+    requires last { IfSome last (λ known. slice_get (T.state tags.old).tags known.1 ≡ Some known.0) }
+    ensures word { IfOk result (λ word. slice_get (T.state tags.new).tags word ≡ Some tag) }
+    ensures grown { OnOk result (T.state tags.new ≡ interned T.Tag.eq (T.state tags.old) tag) }
+    ensures over { (result ≡ Err InternEnd.Full)
+        ↔ ((T.state tags.old).limit < length (with_tag T.Tag.eq (T.state tags.old).tags tag)) }
+    ensures refused { OnErr result (T.state tags.new ≡ T.state tags.old) }
+    ensures extends { Extends (T.state tags.old).tags (T.state tags.new).tags }
+{
+    let _len = tags.len(); // for the proof: there are no more tags than may be
+    match last {
+        Some((before, word)) if before == tag => Ok(word),
+        _ => tags.intern(tag),
+    }
 }
 
 /// Gives a word to the tag of an answer, if there is one.

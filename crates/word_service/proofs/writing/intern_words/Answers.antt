@@ -36,7 +36,7 @@ returns-in_err-word-clause-some g c e = omega (arith, c.loop-item-test.true)
 pub returns-in_default-clause-extends : goal.returns-in_default-clause-extends
 returns-in_default-clause-extends g c =
     let before = g.T.TagTable.state c.args.tags.now in
-    extends_on before.tags (g.T.TagTable.state c.loop-item.tags).tags (g.T.TagTable.state c.intern.new.self).tags c.loop-item.invariant.extends c.intern.ensures.extends
+    extends_on before.tags (g.T.TagTable.state c.loop-item.tags).tags (g.T.TagTable.state c.next_word.new.tags).tags c.loop-item.invariant.extends c.next_word.ensures.extends
 
 pub returns-in_default-clause-memory : goal.returns-in_default-clause-memory
 returns-in_default-clause-memory g c e =
@@ -54,14 +54,15 @@ pub loop-item-preserved : goal.loop-item-preserved
 loop-item-preserved g c =
     let before = (g.T.TagTable.state c.args.tags.now).tags in
     let old = (g.T.TagTable.state c.loop-item.tags).tags in
-    let new = (g.T.TagTable.state c.intern.new.self).tags in
+    let new = (g.T.TagTable.state c.next_word.new.tags).tags in
     record {
       seen = word_came c.args.words.now c.loop-item.item-index c.item-item.result c.loop-item-test.true c.item-item.is g.T.Tag.PartialEq.eq before old c.loop-item.invariant.seen
           new (λ j. (c.in_ok-word.ensures.grown j).tags);
       limit = search rules;
       within = search rules;
-      extends = extends_on before old new c.loop-item.invariant.extends c.intern.ensures.extends;
+      extends = extends_on before old new c.loop-item.invariant.extends c.next_word.ensures.extends;
+      last = search rules;
       words = word_written new c.loop-item.written.items c.push.new.self.items c.args.words.now c.loop-item.item-index c.item-item.result c.in_ok-word.word
           c.loop-item-test.true c.item-item.is c.in_ok-word.ensures.word c.in-Ok.ensures.items
-          (stand_on old new c.intern.ensures.extends c.loop-item.written.items _ c.loop-item.invariant.words);
+          (stand_on old new c.next_word.ensures.extends c.loop-item.written.items _ c.loop-item.invariant.words);
     }

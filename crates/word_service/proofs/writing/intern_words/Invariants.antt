@@ -1,4 +1,4 @@
-use Rattle.std.proofs.Common.{◌≡◌, ◌≤◌, length, take}
+use Rattle.std.proofs.Common.{◌≡◌, ◌≤◌, IfSome, Some, length, slice_get, take}
 use Rattle.engine_trait.specs.Accounts.{with_tags}
 use Rattle.tag_intern.specs.Table.{Extends}
 use Rattle.word_service.specs.Written.{StandFor, tags_of}
@@ -13,5 +13,6 @@ invariant-loop-item g l =
       limit : now.limit ≡ before.limit;
       within : length now.tags ≤ now.limit;
       extends : Extends before.tags now.tags;
+      last : IfSome l.last (λ known. slice_get now.tags known.1 ≡ Some known.0);
       words : StandFor now.tags l.written.items (take l.item-index l.words);
     }
