@@ -1,0 +1,3 @@
+mod BarLemmas
+mod PieceLemmas
+pub mod TextLemmas

@@ -1,0 +1,3 @@
+pub mod ListingLemmas
+pub mod RunLemmas
+pub mod SessionLemmas

@@ -1,0 +1,6 @@
+pub mod Lines
+pub mod Listings
+pub mod Replies
+pub mod Runs
+pub mod Session
+pub mod Shown

@@ -1,0 +1,129 @@
+-- What a session replies to a command, and what becomes of it.
+use Rattle.std.specs.Prelude.{◌≡◌, ℕ, ◌/◌, ◌==◌, Bool, true, false, not, nat_lt, List, [], ◌∷◌, ◌++◌, filter, length, Option, Some, None, if◌then◌else◌}
+use Rattle.std.specs.List.{list_all, list_any}
+use Rattle.host_io.specs.Pieces.{Piece, out}
+use Rattle.policy_trait.specs.Model.{PolicyModel}
+use Rattle.engine_trait.specs.Accounts.{counts_of}
+use Rattle.engine_trait.specs.Machine.{stop_at}
+use Rattle.shell_lang.specs.declared.command.Command.{Command}
+use Rattle.shell_lang.specs.declared.command.Command.TheVariants as command
+use Rattle.shell_turns.specs.Cuts.{StandsAt, StandsIn}
+use Rattle.shell_turns.specs.Order.{Order, listed as listed_harts, only, rounds_from}
+use Rattle.shell_turns.specs.Turns.{Turns, turns}
+use Rattle.shell_run.specs.Lines.{refusal_line, stats_line, turns_line}
+use Rattle.shell_run.specs.Session.{SessionState, bytes_in, is_hart, is_place, is_range}
+use Rattle.shell_run.specs.Shown.{blocks, listed, pc_of, register_of, tag_of, why_line, word_of}
+
+-- the session after a command, and the lines of the reply
+pub record Reply (S T : Type 0) : Type 0 where
+  pub after : SessionState S T
+  pub pieces : List Piece
+
+module _ {S T : Type 0} (s : SessionState S T) where
+  -- nothing is written; a session that only tells something stays
+  abbrev pub silent : Reply S T
+  silent = record { after = s; pieces = [] }
+
+  abbrev pub telling : List Piece → Reply S T
+  telling pieces = record { after = s; pieces = pieces }
+
+  -- an operand that is out of the machine's range is refused before anything is done
+  abbrev pub checked : Bool → Reply S T → Reply S T
+  checked test reply = if test then reply else telling (out (refusal_line 4) ∷ [])
+
+  -- one more breakpoint: one that is kept already stays, and a 65th is refused
+  abbrev pub is_kept : ℕ → Bool
+  is_kept a = list_any (λ place. place == a) s.breaks
+
+  abbrev pub with_break : ℕ → SessionState S T
+  with_break a = record s { breaks = s.breaks ++ a ∷ [] }
+
+  abbrev pub breaking : ℕ → Reply S T
+  breaking a = if is_kept a then silent else checked (nat_lt (length s.breaks) 64) (record { after = with_break a; pieces = [] })
+
+  abbrev pub clearing : ℕ → Reply S T
+  clearing a = record { after = record s { breaks = filter (λ place. not (place == a)) s.breaks }; pieces = [] }
+
+  abbrev pub feeding : List ℕ → Reply S T
+  feeding bytes = record { after = record s { feed = s.feed ++ bytes }; pieces = [] }
+
+  -- the start again, with its account, and an empty feed; the breakpoints stay
+  abbrev pub restarting : Reply S T
+  restarting = record { after = record s { standing = s.start; feed = [] }; pieces = [] }
+
+-- the turns that a command asks for: at most how many, and whose
+abbrev pub turns_asked : Command → Option (ℕ × Order)
+turns_asked (command.Step h n) = Some (n, only h)
+turns_asked (command.Run n) = Some (n, rounds_from 0)
+turns_asked (command.Turns harts) = Some (length harts, listed_harts harts)
+turns_asked _ = None
+
+abbrev pub is_quit : Command → Bool
+is_quit command.Quit = true
+is_quit _ = false
+
+module _ {S T : Type 0} (eq : T → T → Bool) (m : PolicyModel T S) (s : SessionState S T) where
+  abbrev pub after_turns : Turns S T → Reply S T
+  after_turns turns = record {
+    after = record s { standing = turns.standing; feed = turns.feed };
+    pieces = turns.pieces ++ out (turns_line (length turns.harts)) ∷ [];
+  }
+
+  -- turns, and how many were counted
+  unfoldable pub running : ℕ → Order → Reply S T
+  running budget order = after_turns (turns eq m s.breaks budget order s.standing s.feed)
+
+  -- what is shown of the machine
+  unfoldable pub registers_shown : ℕ → List Piece
+  registers_shown h = listed (register_of m s.standing.machine h) 0 32
+
+  unfoldable pub words_shown : ℕ → ℕ → List Piece
+  words_shown a n = listed (word_of m s.standing.machine a) 0 n
+
+  unfoldable pub tags_shown : ℕ → ℕ → List Piece
+  tags_shown a n = listed (tag_of m s.standing.machine a) 0 n
+
+  -- memory has at most one block for each of its words
+  unfoldable pub blocks_shown : List Piece
+  blocks_shown = blocks m s.standing.machine 0 (bytes_in s / 4)
+
+  abbrev pub pc_shown : ℕ → List Piece
+  pc_shown h = out (pc_of m s.standing.machine h) ∷ []
+
+  abbrev pub why_shown : ℕ → List Piece
+  why_shown h = out (why_line h (stop_at s.standing.machine.core h)) ∷ []
+
+  abbrev pub stats_shown : List Piece
+  stats_shown = out (stats_line (counts_of s.standing.account)) ∷ []
+
+  -- a line for each command
+  unfoldable pub reply_to : Command → Reply S T
+  reply_to command.Blank = silent s
+  reply_to (command.Step h n) = checked s (is_hart s h) (running n (only h))
+  reply_to (command.Run n) = running n (rounds_from 0)
+  reply_to (command.Turns harts) = checked s (list_all (is_hart s) harts) (running (length harts) (listed_harts harts))
+  reply_to (command.Feed bytes) = feeding s bytes
+  reply_to (command.Regs h) = checked s (is_hart s h) (telling s (registers_shown h))
+  reply_to (command.Pc h) = checked s (is_hart s h) (telling s (pc_shown h))
+  reply_to (command.Mem a n) = checked s (is_range s a n) (telling s (words_shown a n))
+  reply_to (command.Tags a n) = checked s (is_range s a n) (telling s (tags_shown a n))
+  reply_to (command.Why h) = checked s (is_hart s h) (telling s (why_shown h))
+  reply_to command.Blocks = telling s blocks_shown
+  reply_to command.Stats = telling s stats_shown
+  reply_to (command.Break a) = checked s (is_place s a) (breaking s a)
+  reply_to (command.Clear a) = checked s (is_place s a) (clearing s a)
+  reply_to command.Reset = restarting s
+  reply_to command.Quit = silent s
+
+  -- the machine and the feed of a session whose command was cut short: as they were, or after the last of the turns that
+  -- were asked for and made
+  abbrev StandsAs : Option (ℕ × Order) → SessionState S T → Type 0
+  StandsAs None t = StandsAt s.standing.machine s.feed t.standing t.feed
+  StandsAs (Some asked) t = StandsIn eq m s.breaks asked.0 asked.1 s.standing s.feed t.standing t.feed
+
+  -- what is left of it
+  pub record IsCut (asked : Option (ℕ × Order)) (t : SessionState S T) : Type 0 where
+    pub start : t.start ≡ s.start
+    pub breaks : t.breaks ≡ s.breaks
+    pub ended : t.ended ≡ s.ended
+    pub stands : StandsAs asked t

@@ -1,0 +1,21 @@
+//! What holds of sessions, for callers that reason about them.
+
+ghost use Rattle.std.specs.Prelude.{◌≡◌, [], List};
+ghost use Rattle.engine_trait.specs.Runs.{Item};
+ghost use Rattle.engine_trait.specs.Standing.{Standing};
+ghost use Rattle.shell_lang.specs.declared.command.Command.{Command as ShellCommand};
+ghost use Rattle.shell_run.specs.Replies.{reply_to};
+ghost use Rattle.shell_run.specs.Runs.{IsAlong, items_after};
+ghost use Rattle.shell_run.specs.Session.{SessionState, fresh};
+
+use policy_trait::Policy;
+
+/// The machine and the feed of a session are those of a run from its start: the counted turns and the fed bytes since then, or
+/// since the last reset, in their order. The function does nothing.
+pub fn session_law<P: Policy>()
+    ensures begins { (start : Standing P P.Tag) → IsAlong P.Tag.eq P.model (fresh start) [] }
+    ensures goes_on { (s : SessionState P P.Tag) (items : List Item) (command : ShellCommand)
+        → IsAlong P.Tag.eq P.model s items
+        → IsAlong P.Tag.eq P.model (reply_to P.Tag.eq P.model s command).after
+        (items_after P.Tag.eq P.model s items command) }
+{}

@@ -1,0 +1,108 @@
+//! The commands that make turns, what feeds them, and the start again.
+
+ghost use Rattle.std.specs.Prelude.{◌≡◌, ◌≤◌, IfErr, OnOk, Some, length};
+ghost use Rattle.std.specs.List.{list_all};
+ghost use Rattle.shell_turns.specs.Cuts.{ObeyCause, PutsOut};
+ghost use Rattle.shell_turns.specs.Order.{AreHarts, listed, only, order_of};
+ghost use Rattle.shell_run.specs.Replies.{IsCut, checked, feeding, restarting, running};
+ghost use Rattle.shell_run.specs.Session.{is_hart};
+
+use crate::session::Session;
+use crate::texts::put_turns;
+use engine_trait::{Feed, Loader};
+use host_io::Sink;
+use shell_turns::{ObeyEnd, Order, make_turns};
+
+impl<L: Loader> Session<L> {
+    /// Turns in this order, at most so many, and how many were counted.
+    #[tactic(auto, unfolding(crate::specs::Replies::running))]
+    pub(crate) fn run<K: Sink>(
+        &mut self,
+        budget: u32,
+        order: Order<'_>,
+        out: &mut K,
+    ) -> Result<(), ObeyEnd>
+        requires { AreHarts (length self.old.standing.machine.core.harts) (order_of order) }
+        ensures after { OnOk result (self.new ≡ (running L.E.P.Tag.eq L.E.P.model self.old
+            budget (order_of order.entry)).after) }
+        ensures puts { PutsOut (K.taken out.old) (K.taken out.new)
+            (running L.E.P.Tag.eq L.E.P.model self.old budget (order_of order.entry)).pieces
+            result }
+        ensures cause { ObeyCause (K.faults out.old) (K.faults out.new) result }
+        ensures cut { IfErr result (λ end. IsCut L.E.P.Tag.eq L.E.P.model self.old
+            (Some (budget, order_of order.entry)) self.new) }
+    {
+        let breaks = &self.breaks;
+        let count = make_turns(&mut self.engine, &mut self.feed, breaks, budget, order, out)?;
+        put_turns(count, out)
+    }
+
+    /// `step H N`: at most `N` turns of hart `H`.
+    #[tactic(auto, using(crate::proofs::SessionLemmas::stands_still))]
+    pub(crate) fn step<K: Sink>(&mut self, h: u32, budget: u32, out: &mut K) -> Result<(), ObeyEnd>
+        ensures after { OnOk result (self.new ≡ (checked self.old (is_hart self.old h)
+            (running L.E.P.Tag.eq L.E.P.model self.old budget (only h))).after) }
+        ensures puts { PutsOut (K.taken out.old) (K.taken out.new)
+            (checked self.old (is_hart self.old h)
+            (running L.E.P.Tag.eq L.E.P.model self.old budget (only h))).pieces result }
+        ensures cause { ObeyCause (K.faults out.old) (K.faults out.new) result }
+        ensures cut { IfErr result (λ end. IsCut L.E.P.Tag.eq L.E.P.model self.old
+            (Some (budget, only h)) self.new) }
+    {
+        if !self.is_hart(h) {
+            return self.refuse(out);
+        }
+        self.run(budget, Order::Only(h), out)
+    }
+
+    /// `turns DIGITS`: one turn of each of these harts, one after another.
+    #[tactic(auto, using(crate::proofs::SessionLemmas::stands_still))]
+    pub(crate) fn turns<K: Sink>(&mut self, harts: &[u8], out: &mut K) -> Result<(), ObeyEnd>
+        requires { length harts.now ≤ 256 }
+        ensures after { OnOk result (self.new ≡ (checked self.old (list_all
+            (is_hart self.old) harts.now)
+            (running L.E.P.Tag.eq L.E.P.model self.old (length harts.now)
+            (listed harts.now))).after) }
+        ensures puts { PutsOut (K.taken out.old) (K.taken out.new)
+            (checked self.old (list_all (is_hart self.old) harts.now)
+            (running L.E.P.Tag.eq L.E.P.model self.old (length harts.now)
+            (listed harts.now))).pieces
+            result }
+        ensures cause { ObeyCause (K.faults out.old) (K.faults out.new) result }
+        ensures cut { IfErr result (λ end. IsCut L.E.P.Tag.eq L.E.P.model self.old
+            (Some (length harts.now, listed harts.now)) self.new) }
+    {
+        if !self.are_harts(harts) {
+            return self.refuse(out);
+        }
+        self.run(harts.len() as u32, Order::Listed(harts), out)
+    }
+
+    /// `feed HEX`: these bytes behind those that are left of the feed.
+    pub(crate) fn fed(&mut self, bytes: &[u8]) -> Result<(), ObeyEnd>
+        ensures after { OnOk result (self.new ≡ (feeding self.old bytes.now).after) }
+        ensures cut { IfErr result (λ end. self.new ≡ self.old) }
+        ensures memory { IfErr result (λ end. end ≡ ObeyEnd.Memory) }
+    {
+        match self.feed.append(bytes) {
+            Ok(()) => Ok(()),
+            Err(_) => Err(ObeyEnd::Memory),
+        }
+    }
+
+    /// `reset`: the start again, with its account and an empty feed. The breakpoints stay.
+    pub(crate) fn reset(&mut self) -> Result<(), ObeyEnd>
+        ensures after { OnOk result (self.new ≡ (restarting self.old).after) }
+        ensures cut { IfErr result (λ end. self.new ≡ self.old) }
+        ensures memory { IfErr result (λ end. end ≡ ObeyEnd.Memory) }
+    {
+        match self.loader.load() {
+            Ok(engine) => {
+                self.engine = engine;
+                self.feed = Feed::new(self.alloc);
+                Ok(())
+            }
+            Err(_) => Err(ObeyEnd::Memory),
+        }
+    }
+}

@@ -1,0 +1,5 @@
+pub mod ByteLemmas
+pub mod LineLemmas
+pub mod RunLemmas
+pub mod ScriptLemmas
+pub mod ShellLemmas

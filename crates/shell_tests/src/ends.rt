@@ -1,0 +1,99 @@
+//! How a session over an input ends: by `quit`, at the input's end, where the input is too long, and where a put fails.
+
+use crate::scripts::SMALL;
+use crate::sessions::{Program, Room, replies_to};
+use shell_run::ObeyEnd;
+use shell_script::{ShellCut, ShellEnd};
+use std::test::Fail;
+
+/// A loop of one instruction.
+const LOOP: Program = Program {
+    sizes: SMALL,
+    entries: &[0],
+    words: &[0x0000_006F],
+    policies: b"none",
+};
+
+/// An input, how many of its bytes count, the puts that fail, what is put, and how the session ends.
+type EndRow = (
+    &'static [u8],
+    usize,
+    &'static [u64],
+    &'static [u8],
+    Result<ShellEnd, ShellCut>,
+);
+
+const END_ROWS: [EndRow; 8] = [
+    (
+        b"why 0\nwhy 0",
+        100,
+        &[],
+        b"ready 0\nready 0\n",
+        Ok(ShellEnd::InputEnd),
+    ),
+    (
+        b"why 0\nquit\nwhy 0\n",
+        100,
+        &[],
+        b"ready 0\n",
+        Ok(ShellEnd::Quit),
+    ),
+    (b"why 0\nquit", 100, &[], b"ready 0\n", Ok(ShellEnd::Quit)),
+    // The lines that end within the limit are obeyed, and a `quit` among them comes first.
+    (
+        b"why 0\nwhy 0\n",
+        12,
+        &[],
+        b"ready 0\nready 0\n",
+        Ok(ShellEnd::InputEnd),
+    ),
+    (
+        b"why 0\nwhy 0\n",
+        11,
+        &[],
+        b"ready 0\n",
+        Ok(ShellEnd::TooLong),
+    ),
+    (b"quit\nwhy 0\n", 5, &[], b"", Ok(ShellEnd::Quit)),
+    // A session whose sink failed puts nothing any more.
+    (
+        b"why 0\nstats\nstats\n",
+        100,
+        &[0],
+        b"",
+        Err(ShellCut::Obey(ObeyEnd::WriteFault)),
+    ),
+    (
+        b"why 0\nstats\nstats\n",
+        100,
+        &[1],
+        b"ready 0\n",
+        Err(ShellCut::Obey(ObeyEnd::WriteFault)),
+    ),
+];
+
+#[test]
+fn a_session_ends_as_told(rt: HostRuntime) -> Result<(), Fail> {
+    let room = Room { cache: 4, tags: 4 };
+    for (input, limit, failing, out, end) in END_ROWS {
+        let told = replies_to(rt.alloc(), &LOOP, room, input, limit, failing)?;
+        assert_eq!(rt; told.out.as_slice(), out);
+        assert!(rt; told.end == end);
+    }
+    Ok(())
+}
+
+#[test]
+fn a_line_has_a_limit(rt: HostRuntime) -> Result<(), Fail> {
+    let room = Room { cache: 4, tags: 4 };
+    for (blanks, out) in [(251, b"ready 0\n".as_slice()), (252, b"? 6\n".as_slice())] {
+        let mut line = b"why 0".to_vec(rt.alloc())?;
+        for _ in 0..blanks {
+            line.push(b' ')?;
+        }
+        line.push(b'\n')?;
+        let told = replies_to(rt.alloc(), &LOOP, room, &line, 1000, &[])?;
+        assert_eq!(rt; told.out.as_slice(), out);
+    }
+    Ok(())
+}

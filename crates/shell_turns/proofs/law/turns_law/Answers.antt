@@ -1,0 +1,8 @@
+use Rattle.shell_turns.proofs.RunLemmas.{turns_few, turns_run}
+use Rattle.shell_turns.proofs.law.turns_law.Goals as goal
+
+pub returns-clause-run : goal.returns-clause-run
+returns-clause-run g c = turns_run g.P.Tag.PartialEq.eq g.P.Policy.model
+
+pub returns-clause-few : goal.returns-clause-few
+returns-clause-few g c = turns_few g.P.Tag.PartialEq.eq g.P.Policy.model

@@ -1,0 +1,5 @@
+pub mod Cuts
+pub mod Order
+pub mod Runs
+pub mod Told
+pub mod Turns

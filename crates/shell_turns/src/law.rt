@@ -1,0 +1,23 @@
+//! What holds of the turns of a command, for callers that reason about them.
+
+ghost use Rattle.std.specs.Prelude.{◌≡◌, ℕ, ◌≤◌, List, length, map};
+ghost use Rattle.engine_trait.specs.Runs.{run_along, turn};
+ghost use Rattle.engine_trait.specs.Standing.{Standing};
+ghost use Rattle.shell_turns.specs.Order.{Order as TurnOrder};
+ghost use Rattle.shell_turns.specs.Runs.{EndsAs};
+ghost use Rattle.shell_turns.specs.Turns.{turns};
+
+use policy_trait::Policy;
+
+/// The machine and the feed that turns leave are those of the run along the list of their counted turns, of which there are at
+/// most so many as were asked for. So what holds of every run of the machine holds of them. The function does nothing.
+pub fn turns_law<P: Policy>()
+    ensures run { (breaks : List ℕ) (budget : ℕ) (order : TurnOrder)
+        (e : Standing P P.Tag) (feed : List ℕ)
+        → EndsAs (run_along P.model e.machine feed
+        (map turn (turns P.Tag.eq P.model breaks budget order e feed).harts))
+        (turns P.Tag.eq P.model breaks budget order e feed) }
+    ensures few { (breaks : List ℕ) (budget : ℕ) (order : TurnOrder)
+        (e : Standing P P.Tag) (feed : List ℕ)
+        → length (turns P.Tag.eq P.model breaks budget order e feed).harts ≤ budget }
+{}
