@@ -1,6 +1,7 @@
 pub mod FieldLaws
 pub mod LoopLaws
 pub mod PartLaws
+pub mod BuildingLaws
 pub mod ListLaws
 pub mod RowLaws
 pub mod FileLaws

@@ -2,7 +2,7 @@
 use Rattle.std.proofs.Common.{◌≡◌, ℕ, suc, ◌-◌, ◌+◌, ◌*◌, ◌<◌, ◌≤◌, true, Option, Some, None, List, [], ◌∷◌, ◌++◌, length, map, take, drop, All, Result, Ok, Err, refl, sym, ap, subst, ◌∙◌, arith}
 use Rattle.std.specs.Int.{w32}
 use Rattle.std.proofs.lemmas.Bool.{leb-true}
-use Rattle.std.proofs.lemmas.List.{length-append, length-drop, take-append-le, drop-append-le, take_at, drop_at, append-nil, map_push}
+use Rattle.std.proofs.lemmas.List.{length-append, length-drop, take-append-le, drop-append-le, take_at, drop_at, append-nil, map_push, get_or_push}
 use Rattle.std.proofs.lemmas.List.Elements.{All-push, All-weaker}
 use Rattle.image_format.specs.declared.errors.ImageError.{ImageError}
 use Rattle.image_format.specs.declared.errors.ImageError.TheVariants.{Order}
@@ -12,7 +12,7 @@ use Rattle.image_format.specs.declared.rows.WordRange.{WordRange}
 use Rattle.image_format.specs.declared.segments.Extent.{Extent}
 use Rattle.image_format.specs.Picture.{Segment}
 use Rattle.image_format.specs.Conditions.{is_aligned, is_word_count, is_clear_of, in_order}
-use Rattle.image_format.specs.Parts.{part_of, EndsWithin}
+use Rattle.image_format.specs.Parts.{part_of, EndsWithin, AreKept}
 use Rattle.image_format.specs.Reading.{FailsAs, demand, number_at, field_at, times, with_front, range_at, range_behind_at, segment_at}
 use Rattle.image_format.proofs.FieldLaws.{on_bind, demand_ok, ok_is, both, tested_fits}
 use Rattle.image_format.proofs.LoopLaws.{placed, start, goes_on, times_length}
@@ -98,7 +98,7 @@ part_kept contents more extent within =
     let taken = take-append-le extent.words (drop extent.first contents) more (omega (arith, length-drop extent.first contents)) in
     ap (λ (words : List ℕ). record { address = extent.address; words = words }) (ap (take extent.words) dropped ∙ taken)
 
-parts_kept : (contents more : List ℕ) (extents : List Extent) → All (EndsWithin contents) extents → map (part_of (contents ++ more)) extents ≡ map (part_of contents) extents
+pub parts_kept : (contents more : List ℕ) (extents : List Extent) → All (EndsWithin contents) extents → map (part_of (contents ++ more)) extents ≡ map (part_of contents) extents
 parts_kept contents more [] within = refl
 parts_kept contents more (extent ∷ extents) within =
     let first = part_kept contents more extent (within 0 extent (omega arith)) in
@@ -116,11 +116,11 @@ next_part contents words range len =
 -- what the loop over the rows has read so far
 pub record HasRead (count size ram : ℕ) (bytes : List ℕ) (row : ℕ) (before : Option WordRange) (extents : List Extent) (contents rest : List ℕ) : Type 0 where
   pub read : with_front (map (part_of contents) extents) (times (count - row) (segment_at size ram) (placed row before rest)) ≡ times count (segment_at size ram) (start bytes)
-  pub within : All (EndsWithin contents) extents
+  pub kept : AreKept contents extents
   pub fits : 4 * length contents ≤ end_of before
   pub ends : end_of before ≤ ram
 
-parts_pushed : (contents words : List ℕ) (extents : List Extent) (range : WordRange) → All (EndsWithin contents) extents → length words ≡ range.words
+pub parts_pushed : (contents words : List ℕ) (extents : List Extent) (range : WordRange) → All (EndsWithin contents) extents → length words ≡ range.words
     → map (part_of contents) extents ++ record { address = range.address; words = words } ∷ [] ≡ map (part_of (contents ++ words)) (extents ++ next_extent contents range ∷ [])
 parts_pushed contents words extents range within len =
     sym (map_push (part_of (contents ++ words)) extents (next_extent contents range) ∙ rw (parts_kept contents words extents within, next_part contents words range len) refl)
@@ -129,6 +129,15 @@ within_pushed : (contents words : List ℕ) (extents : List Extent) (range : Wor
 within_pushed contents words extents range within len =
     let kept = All-weaker (EndsWithin contents) (EndsWithin (contents ++ words)) (λ extent h. omega (arith, length-append contents words)) extents within in
     All-push (EndsWithin (contents ++ words)) extents (next_extent contents range) kept (omega (arith, length-append contents words))
+
+kept_pushed : (contents words : List ℕ) (extents : List Extent) (range : WordRange) → AreKept contents extents → length words ≡ range.words → AreKept (contents ++ words) (extents ++ next_extent contents range ∷ [])
+kept_pushed contents words extents range kept len =
+    let next = next_extent contents range in
+    let place : length (extents ++ next ∷ []) - 1 ≡ length extents = omega (arith, length-append extents (next ∷ [])) in
+    record {
+      within = within_pushed contents words extents range kept.within len;
+      last = λ none some. rw (place, get_or_push extents next none (length extents) refl) (omega (arith, length-append contents words));
+    }
 
 -- a range was read, and its words behind the others
 pub reads_on : (count size ram : ℕ) (bytes : List ℕ) (row : ℕ) (before : Option WordRange) (extents : List Extent) (contents rest : List ℕ) (range : WordRange) (first : ℕ) (after all behind : List ℕ) → row < count → first ≡ length contents
@@ -140,10 +149,10 @@ reads_on count size ram bytes row before extents contents rest range first after
     let lies = range_lies size ram row before rest (range, after) range-is in
     let segment = segment_is size ram row before rest range after words behind range-is words-is in
     let on = goes_on (segment_at size ram) (map (part_of contents) extents) count row (placed row before rest) (placed (row + 1) (Some range) behind) (record { address = range.address; words = words }) (times count (segment_at size ram) (start bytes)) lt segment so_far.read in
-    let parts = parts_pushed contents words extents range so_far.within len in
+    let parts = parts_pushed contents words extents range so_far.kept.within len in
     let read_on : HasRead count size ram bytes (row + 1) (Some range) (extents ++ next_extent contents range ∷ []) (contents ++ words) behind = record {
       read = subst (λ (segments : List Segment). with_front segments (times (count - (row + 1)) (segment_at size ram) (placed (row + 1) (Some range) behind)) ≡ times count (segment_at size ram) (start bytes)) parts on;
-      within = within_pushed contents words extents range so_far.within len;
+      kept = kept_pushed contents words extents range so_far.kept len;
       fits = omega (arith, length-append contents words, lies.behind, so_far.fits);
       ends = lies.inside;
     } in

@@ -8,10 +8,10 @@ ghost use Rattle.image_format.specs.Reading.{Gives, number_at, field_at, opening
 use crate::errors::{ImageEnd, ImageError};
 
 /// What every file begins with: `PUMP`, read as a number.
-const MAGIC: u32 = 0x504D_5550;
+pub(crate) const MAGIC: u32 = 0x504D_5550;
 
 /// The one version.
-const VERSION: u16 = 1;
+pub(crate) const VERSION: u16 = 1;
 
 /// The most bytes of RAM.
 const MOST_RAM: u32 = 16_777_216;

@@ -3,6 +3,7 @@
 ghost use Rattle.std.specs.Prelude.{◌≡◌, ◌+◌, ◌*◌, ◌%◌, ◌<◌, ◌≤◌, length, All};
 ghost use Rattle.image_format.specs.Conditions.{IsPlace, IsList, whole, extent_of, is_segment, is_range, is_label, is_edge, is_compartment, is_clear_of, is_label_after, is_edge_after, is_compartment_after};
 
+use crate::parts::ImageParts;
 use crate::rows::{CompartmentRange, Edge, Label, WordRange};
 use crate::segments::Segments;
 use std::marker::Model;
@@ -37,6 +38,26 @@ impl Model for Image {
 
 impl Image {
     ghost use Rattle.image_format.specs.Picture.{nth_segment};
+    ghost use Rattle.image_format.specs.Conditions.{IsImage};
+    ghost use Rattle.image_format.specs.Made.{picture_from};
+
+    /// The image that has these parts, which meet the conditions of the format.
+    pub fn new(parts: ImageParts) -> Image
+        requires { IsImage (picture_from parts) }
+        ensures { result ≡ picture_from parts }
+    {
+        Image {
+            ram: parts.ram,
+            heap_base: parts.heap_base,
+            heap_bytes: parts.heap_bytes,
+            entries: parts.entries,
+            segments: parts.segments,
+            code: parts.code,
+            labels: parts.labels,
+            edges: parts.edges,
+            compartments: parts.compartments,
+        }
+    }
 
     /// The bytes of the RAM: a multiple of 4, 4 to 16,777,216.
     pub fn ram(&self) -> u32

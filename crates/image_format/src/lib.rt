@@ -4,6 +4,9 @@
 //! `read_image` takes a file's bytes and gives the image whose one spelling they are, or the first of the
 //! format's conditions, in the order of reading, that they fail. An `Image` keeps those conditions for
 //! whoever reads it. `front_law` says what becomes of a file that is cut.
+//!
+//! `Segments` are built word by word, `Image::new` makes an image of parts that meet the conditions, and
+//! `write_image` writes its one spelling, so that `read_image` gives the same image again.
 #![tactic(auto)]
 
 mod errors;
@@ -11,17 +14,22 @@ mod fields;
 mod image;
 mod law;
 mod lists;
+mod parts;
 mod reading;
 mod room;
 mod rows;
 mod segments;
 mod sizes;
+mod writing;
 
 pub use errors::{ImageEnd, ImageError};
 pub use image::Image;
 pub use law::front_law;
+pub use parts::ImageParts;
 pub use reading::read_image;
 pub use rows::{CompartmentRange, Edge, Label, WordRange};
+pub use segments::Segments;
+pub use writing::write_image;
 
 #[cfg(test)]
 mod tests;

@@ -1,6 +1,6 @@
 //! The segments of an image, kept as one list of words and a list of where each begins and ends in it.
 
-ghost use Rattle.std.specs.Prelude.{◌≡◌, ◌<◌, length, slice_index_or};
+ghost use Rattle.std.specs.Prelude.{◌≡◌, ◌+◌, ◌*◌, ◌<◌, ◌==◌, [], length, slice_index_or, OnOk, OnErr};
 ghost use Rattle.std.specs.Int.{w32};
 ghost use Rattle.image_format.specs.Reading.{Gives, number_at, times, with_front, range_behind_at, segment_at, rows_at, list_at};
 
@@ -9,7 +9,7 @@ use crate::fields::number_of;
 use crate::lists::{Bounds, in_place, range_of};
 use crate::room::room_for;
 use crate::rows::WordRange;
-use std::alloc::Global;
+use std::alloc::{AllocError, Global};
 use std::marker::Model;
 
 /// A segment's address, and where its words lie among those of all segments.
@@ -20,28 +20,77 @@ struct Extent {
     words: u32,
 }
 
-/// The segments of the first list.
+impl Extent {
+    /// Whether its words end at the address.
+    fn is_up_to(self, address: u32) -> bool
+        ensures { result ≡ (self.address + 4 * self.words == address) }
+    {
+        u64::from(self.address) + 4 * u64::from(self.words) == u64::from(address)
+    }
+}
+
+/// Words that the memory starts with, in segments: each has an address in bytes, and words from there on.
 #[derive(Debug, Drop)]
-pub(crate) struct Segments {
+pub struct Segments {
     extents: Vec<Extent>,
     contents: Vec<u32>,
 }
 
 impl Model for Segments {
-    ghost use Rattle.std.specs.Prelude.{List, map, All};
+    ghost use Rattle.std.specs.Prelude.{List, map};
     ghost use Rattle.image_format.specs.Picture.{Segment};
 
     ghost Value = { List Segment };
 
-    ghost use Rattle.image_format.specs.Parts.{part_of, EndsWithin};
+    ghost use Rattle.image_format.specs.Parts.{part_of, AreKept};
 
     ghost view = { λ s. map (part_of s.contents.items) s.extents.items };
 
-    ghost invariant = { λ s. All (EndsWithin s.contents.items) s.extents.items };
+    ghost invariant = { λ s. AreKept s.contents.items s.extents.items };
 }
 
 impl Segments {
     ghost use Rattle.image_format.specs.Picture.{no_segment};
+    ghost use Rattle.image_format.specs.Building.{with_word};
+
+    /// No segments.
+    pub fn new(alloc: Global) -> Segments
+        ensures { result ≡ [] }
+    {
+        Segments {
+            extents: Vec::new(alloc),
+            contents: Vec::new(alloc),
+        }
+    }
+
+    /// Puts a word at an address: behind the words of the last segment where that one ends there, and as
+    /// the first word of a new segment elsewhere. Where memory runs out, the segments stay as they were;
+    /// 2^32 - 1 words in all are as many as there is ever room for.
+    pub fn put_word(&mut self, address: u32, word: u32) -> Result<(), AllocError>
+        ensures put { OnOk result (self.new ≡ with_word self.old address word) }
+        ensures kept { OnErr result (self.new ≡ self.old) }
+    {
+        let first = self.contents.len();
+        if first >= u32::MAX as usize {
+            return Err(AllocError);
+        }
+        let count = self.extents.len();
+        if count > 0 && self.extents[count - 1].is_up_to(address) {
+            self.contents.push(word)?;
+            self.extents[count - 1].words += 1;
+            return Ok(());
+        }
+        self.extents.push(Extent {
+            address,
+            first: first as u32,
+            words: 1,
+        })?;
+        if self.contents.push(word).is_err() {
+            self.extents.pop();
+            return Err(AllocError);
+        }
+        Ok(())
+    }
 
     /// How many segments there are.
     pub fn count(&self) -> usize

@@ -177,6 +177,39 @@ fn other_lists_are_read(rt: HostRuntime) -> Result<(), Fail> {
     Ok(())
 }
 
+/// Whether the bytes are written again as they were read.
+fn is_written_again(alloc: Global, bytes: &[u8]) -> Result<bool, AllocError> {
+    match read_image(alloc, bytes) {
+        Ok(image) => Ok(*write_image(alloc, &image)? == *bytes),
+        Err(_) => Ok(false),
+    }
+}
+
+#[test]
+fn files_are_written_again(rt: HostRuntime) -> Result<(), Fail> {
+    let full = bytes_of(rt.alloc(), &FULL)?;
+    for bytes in [HELLO.as_slice(), &full] {
+        assert!(rt; is_written_again(rt.alloc(), bytes)?);
+    }
+    Ok(())
+}
+
+/// Words that are put one after the other, each with its address: two at 0, and one at 12.
+const PUT: [(u32, u32); 3] = [(0, 0x13), (4, 0x73), (12, 0x6F)];
+
+#[test]
+fn words_are_put_in_segments(rt: HostRuntime) -> Result<(), Fail> {
+    let mut segments = Segments::new(rt.alloc());
+    for (address, word) in PUT {
+        segments.put_word(address, word)?;
+    }
+    assert_eq!(rt; segments.count(), 2);
+    assert_eq!(rt; [segments.address(0), segments.address(1)], [0, 12]);
+    assert_eq!(rt; segments.words(0), [0x13, 0x73].as_slice());
+    assert_eq!(rt; segments.words(1), [0x6F].as_slice());
+    Ok(())
+}
+
 /// Why bytes were refused.
 fn error_of(read: Result<Image, ImageEnd>) -> Option<ImageError> {
     match read {
