@@ -66,8 +66,8 @@ pub answers : {I : Type 0} (due : Option Outcome) (task : Option Task) (result :
     → IfSome due (λ outcome. Does outcome before.taken after.taken result)
     → FaultBy (name_in task) (status_in result) before.faults after.faults
     → (status_in result ≡ statuses.BadWords → task ≡ None)
-    → (IsSilent (status_in result) → after.taken ≡ before.taken)
-    → (IsOfRefusal (status_in result) → after.taken.out ≡ before.taken.out)
+    → (IsSilent task (status_in result) → after.taken ≡ before.taken)
+    → (IsOfRefusal task (status_in result) → after.taken.out ≡ before.taken.out)
     → after.held ≡ before.held
     → TaskFacts task (status_in result) before after
     → Answers due task (status_in result) before after

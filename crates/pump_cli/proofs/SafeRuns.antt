@@ -1,5 +1,5 @@
--- The run of the program's definition is safe.
-use Rattle.std.proofs.Common.{◌≡◌, ℕ, ◌<◌, Bool, true, false, List, length, map, Option, Some, None, Result, Ok, Err, IfSome, refl, sym, ap, subst, if◌then◌else◌}
+-- The runs of the program's definition are safe.
+use Rattle.std.proofs.Common.{◌≡◌, ℕ, ◌<◌, Bool, true, false, List, [], length, map, Option, Some, None, Result, Ok, Err, refl, sym, ap, subst, if◌then◌else◌}
 use Rattle.std.specs.Prelude.{nat_le, slice_index}
 use Rattle.image_format.proofs.FileLaws.{file_is_of}
 use Rattle.image_format.specs.Conditions.{IsImage}
@@ -11,10 +11,10 @@ use Rattle.policy_choice.specs.All.{AllState, AllTag, all, all_eq}
 use Rattle.rounds.proofs.RunLemmas.{rounds_are_run}
 use Rattle.run_props.proofs.RunLemmas.{run_is_safe}
 use Rattle.run_props.specs.Safe.{IsSafe}
-use Rattle.pump_line.specs.Task.{RunTask, Task, run, task_of}
-use Rattle.pump_cli.specs.Program.{course_of_run, start_of_run}
+use Rattle.pump_line.specs.Task.{RunTask, ShellTask, Task, run, shell, task_of}
+use Rattle.pump_cli.specs.Program.{course_of_run, image_in, start_of_run}
 use Rattle.pump_cli.specs.Reading.{file_image, file_limit, file_read, image_or_refusal, input_read}
-use Rattle.pump_cli.specs.Runs.{IsSafeRun, TellBytes, run_in, run_of_fed, run_of_file, run_of_image, run_of_input, run_of_task, run_of_words}
+use Rattle.pump_cli.specs.Runs.{AfterFed, AfterFile, AfterImage, AfterInput, AfterLines, AfterPicture, AfterWords, EachRun, IsSafeRun, TellBytes, items_after_lines}
 use Rattle.pump_cli.specs.declared.refusal.Refusal.{Refusal}
 
 abbrev AreBytes : List ℕ → Type 0
@@ -47,31 +47,37 @@ safe_course task g fed is =
     (sym (rounds_are_run all_eq all task.turns 0 (start_of_run task g) fed))
     (run_is_safe task.choice g fed (map turn (course_of_run task g fed).order) is)
 
-safe_fed : (task : RunTask) (g : Picture) (fed : Result (List ℕ) Refusal) → IsImage g → IfSome (run_of_fed task g fed) IsSafeRun
+safe_fed : (task : RunTask) (g : Picture) (fed : Result (List ℕ) Refusal) → IsImage g → AfterFed IsSafeRun task g fed
 safe_fed task g (Ok fed) is = safe_course task g fed is
 safe_fed task g (Err refusal) is = tt
 
-safe_input : (task : RunTask) (g : Picture) (input : Option (List ℕ)) → IsImage g → IfSome (run_of_input task g input) IsSafeRun
+safe_input : (task : RunTask) (g : Picture) (input : Option (List ℕ)) → IsImage g → AfterInput IsSafeRun task g input
 safe_input task g None is = tt
 safe_input task g (Some input) is = safe_fed task g (input_read input) is
 
-safe_image : (task : RunTask) (read : Result Picture Refusal) (input : Option (List ℕ)) → ((g : Picture) → read ≡ Ok g → IsImage g)
-    → IfSome (run_of_image task read input) IsSafeRun
-safe_image task (Ok g) input is = safe_input task g input (is g refl)
+-- a session has made a run along some list of turns and fed bytes
+safe_lines : (task : ShellTask) (g : Picture) (input : Option (List ℕ)) → IsImage g → AfterLines IsSafeRun task g input
+safe_lines task g None is = tt
+safe_lines task g (Some input) is = λ front rest due. run_is_safe task.choice g [] (items_after_lines task g front) is
+
+safe_picture : (task : Task) (g : Picture) (input : Option (List ℕ)) → IsImage g → AfterPicture IsSafeRun task g input
+safe_picture (run task) g input is = safe_input task g input is
+safe_picture (shell task) g input is = safe_lines task g input is
+
+safe_image : (task : Task) (read : Result Picture Refusal) (input : Option (List ℕ)) → ((g : Picture) → read ≡ Ok g → IsImage g)
+    → AfterImage IsSafeRun task read input
+safe_image task (Ok g) input is = safe_picture task g input (is g refl)
 safe_image task (Err refusal) input is = tt
 
-safe_file : (task : RunTask) (file input : Option (List ℕ)) → ((bytes : List ℕ) → file ≡ Some bytes → AreBytes bytes)
-    → IfSome (run_of_file task file input) IsSafeRun
+safe_file : (task : Task) (file input : Option (List ℕ)) → ((bytes : List ℕ) → file ≡ Some bytes → AreBytes bytes)
+    → AfterFile IsSafeRun task file input
 safe_file task None input tells = tt
 safe_file task (Some bytes) input tells = safe_image task (file_read bytes) input (λ g read. file_is_image bytes g (tells bytes refl) read)
 
-safe_task : (task : Task) (held : List ℕ → Option (List ℕ)) (input : Option (List ℕ)) → TellBytes held → IfSome (run_of_task task held input) IsSafeRun
-safe_task (run task) held input tells = safe_file task (held task.image) input (tells task.image)
-
-safe_words : (task : Option Task) (held : List ℕ → Option (List ℕ)) (input : Option (List ℕ)) → TellBytes held → IfSome (run_of_words task held input) IsSafeRun
+safe_words : (task : Option Task) (held : List ℕ → Option (List ℕ)) (input : Option (List ℕ)) → TellBytes held → AfterWords IsSafeRun task held input
 safe_words None held input tells = tt
-safe_words (Some task) held input tells = safe_task task held input tells
+safe_words (Some task) held input tells = safe_file task (held (image_in task)) input (tells (image_in task))
 
-pub safe_run : (words : List (List ℕ)) (held : List ℕ → Option (List ℕ)) (input : Option (List ℕ)) → TellBytes held → IfSome (run_in words held input) IsSafeRun
-unfolding run_in
-safe_run words held input tells = safe_words (task_of words) held input tells
+pub safe_runs : (words : List (List ℕ)) (held : List ℕ → Option (List ℕ)) (input : Option (List ℕ)) → TellBytes held → EachRun IsSafeRun words held input
+unfolding EachRun
+safe_runs words held input tells = safe_words (task_of words) held input tells

@@ -1,5 +1,6 @@
 -- The number of each status, and kinds of statuses.
-use Rattle.std.specs.Prelude.{ℕ}
+use Rattle.std.specs.Prelude.{ℕ, Option, Some, None}
+use Rattle.pump_line.specs.Task.{Task, run, shell}
 use Rattle.pump_cli.specs.declared.cut.Cut.{Cut}
 use Rattle.pump_cli.specs.declared.cut.Cut.TheVariants as cut
 use Rattle.pump_cli.specs.declared.refusal.Refusal.{Refusal}
@@ -43,12 +44,25 @@ IsOfRun TurnsSpent = Unit {0}
 IsOfRun TagsOut = Unit {0}
 IsOfRun _ = ⊥
 
--- the status of a refusal, which is one line on standard error
-abbrev pub IsOfRefusal : Status → Type 0
-IsOfRefusal BadWords = Unit {0}
-IsOfRefusal BadImage = Unit {0}
-IsOfRefusal TooLong = Unit {0}
-IsOfRefusal _ = ⊥
+-- the status of a session that came to its end
+abbrev pub IsOfSession : Status → Type 0
+IsOfSession Done = Unit {0}
+IsOfSession TagsOut = Unit {0}
+IsOfSession TooLong = Unit {0}
+IsOfSession _ = ⊥
+
+-- of such a task the whole input is read before anything is put, where a session replies to its lines as they come
+abbrev pub ReadsFirst : Option Task → Type 0
+ReadsFirst None = Unit {0}
+ReadsFirst (Some (run task)) = Unit {0}
+ReadsFirst (Some (shell task)) = ⊥
+
+-- the status of a refusal that is told before anything else is: one line on standard error
+abbrev pub IsOfRefusal : Option Task → Status → Type 0
+IsOfRefusal task BadWords = Unit {0}
+IsOfRefusal task BadImage = Unit {0}
+IsOfRefusal task TooLong = ReadsFirst task
+IsOfRefusal task _ = ⊥
 
 -- the status of a call that nothing cut short: neither a fault of the outside nor want of memory
 abbrev pub IsFinal : Status → Type 0
@@ -59,14 +73,25 @@ IsFinal Memory = ⊥
 IsFinal _ = Unit {0}
 
 -- the status of a call that ended before anything was due to be written: a load or a read of the input failed
-abbrev pub IsSilent : Status → Type 0
-IsSilent ReadFailed = Unit {0}
-IsSilent InputFailed = Unit {0}
-IsSilent _ = ⊥
+abbrev pub IsSilent : Option Task → Status → Type 0
+IsSilent task ReadFailed = Unit {0}
+IsSilent task InputFailed = ReadsFirst task
+IsSilent task _ = ⊥
+
+-- the start is made once the input is read, where a session reads it from its start on
+abbrev pub StartsFirst : Task → Type 0
+StartsFirst (run task) = ⊥
+StartsFirst (shell task) = Unit {0}
 
 -- the status of a call that ended before the input was asked for
-abbrev pub IsBeforeInput : Status → Type 0
-IsBeforeInput BadWords = Unit {0}
-IsBeforeInput BadImage = Unit {0}
-IsBeforeInput ReadFailed = Unit {0}
-IsBeforeInput _ = ⊥
+abbrev pub IsBeforeInput : Task → Status → Type 0
+IsBeforeInput task BadWords = Unit {0}
+IsBeforeInput task BadImage = Unit {0}
+IsBeforeInput task ReadFailed = Unit {0}
+IsBeforeInput task TagsOut = StartsFirst task
+IsBeforeInput task _ = ⊥
+
+-- the status of a call that read the input to its end
+abbrev pub ReadsAll : Task → Status → Type 0
+ReadsAll (run task) status = IsOfRun status
+ReadsAll (shell task) status = ⊥

@@ -3,6 +3,8 @@ use Rattle.host_io.specs.declared.traits.sink.PutEnd.{PutEnd}
 use Rattle.host_io.specs.declared.traits.sink.PutEnd.TheVariants as put_end
 use Rattle.rounds.specs.declared.running.RoundsEnd.{RoundsEnd}
 use Rattle.rounds.specs.declared.running.RoundsEnd.TheVariants as rounds_end
+use Rattle.pump_shell.specs.declared.ends.SessionCut.{SessionCut}
+use Rattle.pump_shell.specs.declared.ends.SessionCut.TheVariants as session_cut
 use Rattle.pump_cli.specs.declared.cut.Cut.{Cut}
 use Rattle.pump_cli.specs.declared.cut.Cut.TheVariants as cut
 
@@ -13,3 +15,8 @@ cut_of_put put_end.Memory = cut.Memory
 abbrev pub cut_of_rounds : RoundsEnd → Cut
 cut_of_rounds (rounds_end.Put end) = cut_of_put end
 cut_of_rounds rounds_end.Engine = cut.Memory
+
+abbrev pub cut_of_session : SessionCut → Cut
+cut_of_session session_cut.ReadFailed = cut.InputFailed
+cut_of_session session_cut.PutFailed = cut.PutFailed
+cut_of_session session_cut.Memory = cut.Memory

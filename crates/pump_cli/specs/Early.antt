@@ -1,6 +1,7 @@
 -- Where nothing ran: which counts of faults rose, and what was told.
 use Rattle.std.specs.Prelude.{◌≡◌, ℕ, List, Option, Result, Ok, Err, IfOk}
 use Rattle.host_io.specs.Causes.{Rose, RoseAt}
+use Rattle.host_io.specs.TwoSinks.{OneRose, PutFaults}
 use Rattle.pump_cli.specs.Codes.{status_of_refusal}
 use Rattle.pump_cli.specs.Facts.{Does, PutsFaultBy}
 use Rattle.pump_cli.specs.Program.{refused}
@@ -29,6 +30,15 @@ InputRoseBy before now (Err (early_end.Cut cut.ReadFailed)) = ⊥
 InputRoseBy before now (Err (early_end.Cut cut.InputFailed)) = Rose before now
 InputRoseBy before now (Err (early_end.Cut cut.PutFailed)) = ⊥
 InputRoseBy before now (Err (early_end.Cut cut.Memory)) = now ≡ before
+
+-- Of a call that reads and puts: the input's count rises where a read failed, one of the counts of puts where a put did, and
+-- every other answer leaves all three.
+abbrev pub SessionFaultBy : {A : Type 0} → ℕ → ℕ → PutFaults → PutFaults → Result A Cut → Type 0
+SessionFaultBy input input_now before now (Ok _) = (input_now ≡ input) × (now ≡ before)
+SessionFaultBy input input_now before now (Err cut.ReadFailed) = ⊥
+SessionFaultBy input input_now before now (Err cut.InputFailed) = Rose input input_now × (now ≡ before)
+SessionFaultBy input input_now before now (Err cut.PutFailed) = (input_now ≡ input) × OneRose before now
+SessionFaultBy input input_now before now (Err cut.Memory) = (input_now ≡ input) × (now ≡ before)
 
 -- a refusal that a file can meet
 abbrev pub IsOfFile : Refusal → Type 0

@@ -6,9 +6,10 @@ use Rattle.host_io.specs.Outside.{Faults, InputFault, NoFault, Outside, PutFault
 use Rattle.host_io.specs.Pieces.{Puts, PutsAll, Taken}
 use Rattle.host_io.specs.TwoSinks.{OneRose, PutFaults}
 use Rattle.image_format.specs.Reading.{image_of}
-use Rattle.pump_line.specs.Task.{RunTask, Task, run}
-use Rattle.pump_cli.specs.Codes.{IsBeforeInput, IsOfRun, status_of_cut}
+use Rattle.pump_line.specs.Task.{Task}
+use Rattle.pump_cli.specs.Codes.{IsBeforeInput, ReadsAll, status_of_cut}
 use Rattle.pump_cli.specs.Endings.{Outcome}
+use Rattle.pump_cli.specs.Program.{image_in}
 use Rattle.pump_cli.specs.Reading.{file_limit, file_read, input_limit}
 use Rattle.pump_cli.specs.declared.cut.Cut.{Cut}
 use Rattle.pump_cli.specs.declared.cut.Cut.TheVariants as cut
@@ -38,7 +39,7 @@ FaultBy name _ before now = NoFault before now
 -- the file that a task names
 abbrev pub name_in : Option Task → Option (List ℕ)
 name_in None = None
-name_in (Some (run task)) = Some task.image
+name_in (Some task) = Some (image_in task)
 
 -- a count that could rise and did not
 pub record Stayed (before now : ℕ) : Type 0 where
@@ -66,18 +67,20 @@ IsLongFile bytes = file_limit < length bytes
 abbrev pub IsLongInput : List ℕ → Type 0
 IsLongInput bytes = input_limit < length bytes
 
--- What `run` does to its file and to the input. It asks for its file once, and reads the input only once the file is taken.
-pub record RunFacts {I : Type 0} (task : RunTask) (status : Status) (before after : Outside I) : Type 0 where
+-- What is done to the file of an image and to the input. The file is asked for once, and the input is read only once the file
+-- is taken.
+pub record ImageFacts {I : Type 0} (task : Task) (status : Status) (before after : Outside I) : Type 0 where
   pub calls : status ≢ Memory → after.calls ≡ count_after before.calls
   pub at_most : AtMost (count_after before.calls) before.calls after.calls
   -- the causes of a refusal
-  pub bad_image : status ≡ BadImage → IfSome (before.held task.image) (λ bytes. IsErr (image_of bytes))
-  pub too_long : status ≡ TooLong → IfSome (before.held task.image) (λ bytes. IfSome before.left (λ input. IsLongFile bytes ⊎ IsLongInput input))
-  -- the input is left alone where the file fails or is refused, a run that came to its end has read it to its end, and at
-  -- most 4,096 bytes past its limit are taken
-  pub unread : IsBeforeInput status → after.input ≡ before.input
-  pub unasked : IfSome (before.held task.image) (λ bytes. IsErr (file_read bytes) → after.input ≡ before.input)
-  pub whole : IsOfRun status → IsTrue after.closed
+  pub bad_image : status ≡ BadImage → IfSome (before.held (image_in task)) (λ bytes. IsErr (image_of bytes))
+  pub too_long :
+      status ≡ TooLong → IfSome (before.held (image_in task)) (λ bytes. IfSome before.left (λ input. IsLongFile bytes ⊎ IsLongInput input))
+  -- the input is left alone where the file fails or is refused and where a session can't start, a run that came to its end has
+  -- read it to its end, and at most 4,096 bytes past its limit are taken
+  pub unread : IsBeforeInput task status → after.input ≡ before.input
+  pub unasked : IfSome (before.held (image_in task)) (λ bytes. IsErr (file_read bytes) → after.input ≡ before.input)
+  pub whole : ReadsAll task status → IsTrue after.closed
   pub moved : LosesFront before.left after.left (input_limit + 4096)
 
 -- bad words ask for nothing
@@ -85,10 +88,9 @@ pub record NoTaskFacts {I : Type 0} (before after : Outside I) : Type 0 where
   pub calls : after.calls ≡ before.calls
   pub input : after.input ≡ before.input
 
--- a case for each subcommand
 abbrev pub TaskFacts : {I : Type 0} → Option Task → Status → Outside I → Outside I → Type 0
 TaskFacts None status before after = NoTaskFacts before after
-TaskFacts (Some (run task)) status before after = RunFacts task status before after
+TaskFacts (Some task) status before after = ImageFacts task status before after
 
 -- ---- results on the way
 

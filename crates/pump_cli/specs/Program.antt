@@ -1,5 +1,5 @@
 -- The program: what it writes and its status, from the words, what the files hold and what the input gives.
-use Rattle.std.specs.Prelude.{ℕ, ◌==◌, ◌≤◌, List, [], ◌∷◌, Option, Some, None, Result, Ok, Err, if◌then◌else◌}
+use Rattle.std.specs.Prelude.{ℕ, ◌==◌, List, [], ◌∷◌, ◌++◌, Option, Some, None, Result, Ok, Err, if◌then◌else◌}
 use Rattle.image_format.specs.Picture.{Picture}
 use Rattle.host_io.specs.Pieces.{err}
 use Rattle.tag_text.specs.Texts.{line}
@@ -10,13 +10,18 @@ use Rattle.policy_choice.specs.All.{AllState, AllTag, all, all_eq}
 use Rattle.rounds.specs.Course.{Course, rounds}
 use Rattle.tag_loader.specs.Loads.{start_of}
 use Rattle.pump_loader.specs.Loads.{cached_start_of}
-use Rattle.pump_line.specs.Task.{RunTask, Task, run, task_of}
-use Rattle.pump_cli.specs.Endings.{Outcome, outcome_of_course}
+use Rattle.pump_shell.specs.Told.{Told, told_of}
+use Rattle.pump_shell.specs.declared.ends.SessionEnd.{SessionEnd}
+use Rattle.pump_shell.specs.declared.ends.SessionEnd.TheVariants as session_end
+use Rattle.pump_shell.specs.declared.setup.Setup.{Setup}
+use Rattle.pump_line.specs.Task.{RunTask, ShellTask, Task, run, shell, task_of}
+use Rattle.pump_cli.specs.Endings.{Outcome, out_at_start, outcome_of_course}
 use Rattle.pump_cli.specs.Codes.{status_of_refusal}
-use Rattle.pump_cli.specs.Reading.{file_read, input_read}
+use Rattle.pump_cli.specs.Reading.{file_read, input_limit, input_read}
 use Rattle.pump_cli.specs.Texts.{refusal_text}
 use Rattle.pump_cli.specs.declared.refusal.Refusal.{Refusal}
-use Rattle.pump_cli.specs.declared.refusal.Refusal.TheVariants.{BadWords}
+use Rattle.pump_cli.specs.declared.refusal.Refusal.TheVariants.{BadWords, TooLong}
+use Rattle.pump_cli.specs.declared.status.Status.TheVariants.{Done}
 
 -- one line on standard error, and nothing else
 abbrev pub refused : Refusal → Outcome
@@ -58,25 +63,53 @@ abbrev pub outcome_of_input : RunTask → Picture → Option (List ℕ) → Opti
 outcome_of_input task picture None = None
 outcome_of_input task picture (Some input) = Some (outcome_of_fed task picture (input_read input))
 
--- where the file is refused, the input is not looked at
-abbrev pub outcome_of_image : RunTask → Result Picture Refusal → Option (List ℕ) → Option Outcome
-outcome_of_image task (Ok picture) input = outcome_of_input task picture input
-outcome_of_image task (Err refusal) input = Some (refused refusal)
+-- ---- `shell`
 
--- a file whose content is not told leaves the outcome unsaid too
-abbrev pub outcome_of_file : RunTask → Option (List ℕ) → Option (List ℕ) → Option Outcome
-outcome_of_file task None input = None
-outcome_of_file task (Some bytes) input = outcome_of_image task (file_read bytes) input
+abbrev pub setup_of : ShellTask → Setup
+setup_of task = record { choice = task.choice; cache = task.cache; tags = task.tags }
+
+-- what is told after the replies, and the status: a session that ended with `quit` or with the input is done
+abbrev pub outcome_of_end : SessionEnd → Outcome
+outcome_of_end session_end.Quit = record { pieces = []; status = Done }
+outcome_of_end session_end.InputEnd = record { pieces = []; status = Done }
+outcome_of_end session_end.TooLong = refused TooLong
+outcome_of_end session_end.TagsOut = out_at_start
+
+abbrev pub outcome_of_told : Told → Outcome
+outcome_of_told told = record { pieces = told.pieces ++ (outcome_of_end told.end).pieces; status = (outcome_of_end told.end).status }
+
+-- a session that obeys the lines of these bytes
+unfoldable pub outcome_of_lines : ShellTask → Picture → List ℕ → Outcome
+outcome_of_lines task picture input = outcome_of_told (told_of (setup_of task) picture input_limit input)
+
+abbrev pub outcome_of_session : ShellTask → Picture → Option (List ℕ) → Option Outcome
+outcome_of_session task picture None = None
+outcome_of_session task picture (Some input) = Some (outcome_of_lines task picture input)
 
 -- ---- the whole
 
--- some tag may have a word, as in every task that words ask for
-abbrev pub AllowsTags : Task → Type 0
-AllowsTags (run task) = 1 ≤ task.tags
+-- the file that a task names
+abbrev pub image_in : Task → List ℕ
+image_in (run task) = task.image
+image_in (shell task) = task.image
 
--- a case for each subcommand
+-- what is done with an image and the input's bytes, where these are told
+abbrev pub outcome_of_picture : Task → Picture → Option (List ℕ) → Option Outcome
+outcome_of_picture (run task) picture input = outcome_of_input task picture input
+outcome_of_picture (shell task) picture input = outcome_of_session task picture input
+
+-- where the file is refused, the input is not looked at
+abbrev pub outcome_of_image : Task → Result Picture Refusal → Option (List ℕ) → Option Outcome
+outcome_of_image task (Ok picture) input = outcome_of_picture task picture input
+outcome_of_image task (Err refusal) input = Some (refused refusal)
+
+-- a file whose content is not told leaves the outcome unsaid too
+abbrev pub outcome_of_file : Task → Option (List ℕ) → Option (List ℕ) → Option Outcome
+outcome_of_file task None input = None
+outcome_of_file task (Some bytes) input = outcome_of_image task (file_read bytes) input
+
 abbrev pub outcome_of_task : Task → (List ℕ → Option (List ℕ)) → Option (List ℕ) → Option Outcome
-outcome_of_task (run task) held input = outcome_of_file task (held task.image) input
+outcome_of_task task held input = outcome_of_file task (held (image_in task)) input
 
 abbrev pub outcome_of_words : Option Task → (List ℕ → Option (List ℕ)) → Option (List ℕ) → Option Outcome
 outcome_of_words None held input = Some (refused BadWords)

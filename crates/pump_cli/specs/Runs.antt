@@ -1,13 +1,19 @@
--- The run of the machine that the program's definition makes, and that it is safe.
-use Rattle.std.specs.Prelude.{◌≡◌, ℕ, ◌<◌, List, Option, Some, None, Result, Ok, Err, slice_index}
+-- The runs of the machine that the program's definition makes, and that they are safe.
+use Rattle.std.specs.Prelude.{◌≡◌, ℕ, ◌<◌, nat_lt, List, [], ◌++◌, length, take, Option, Some, None, Result, Ok, Err, if◌then◌else◌, slice_index}
 use Rattle.image_format.specs.Picture.{Picture}
 use Rattle.engine_trait.specs.Events.{Event}
-use Rattle.policy_choice.specs.All.{AllTag}
+use Rattle.engine_trait.specs.Runs.{Item}
+use Rattle.policy_choice.specs.All.{AllTag, all, all_eq}
 use Rattle.policy_choice.specs.declared.choice.Choice.{Choice}
-use Rattle.run_props.specs.Safe.{IsSafe}
-use Rattle.pump_line.specs.Task.{RunTask, Task, run, task_of}
-use Rattle.pump_cli.specs.Program.{course_of_run}
-use Rattle.pump_cli.specs.Reading.{file_read, input_read}
+use Rattle.run_props.specs.Safe.{IsSafe, run_of}
+use Rattle.shell_lang.specs.Grammar.{Answer}
+use Rattle.shell_run.specs.Session.{fresh}
+use Rattle.shell_script.specs.Scripts.{items_along}
+use Rattle.shell_script.specs.Shell.{last_in, lines_in}
+use Rattle.pump_shell.specs.Told.{start_of_setup}
+use Rattle.pump_line.specs.Task.{RunTask, ShellTask, Task, run, shell, task_of}
+use Rattle.pump_cli.specs.Program.{course_of_run, image_in, setup_of}
+use Rattle.pump_cli.specs.Reading.{file_read, input_limit, input_read}
 use Rattle.pump_cli.specs.declared.refusal.Refusal.{Refusal}
 
 -- the chosen policies, the image, and the events of the turns that were made
@@ -16,42 +22,68 @@ pub record Run : Type 0 where
   pub image : Picture
   pub events : List (Event AllTag)
 
--- ---- `run`: the run whose outcome is the program's, where there is one and what it rests on is told
+-- in the run, each chosen policy's sentence holds
+abbrev pub IsSafeRun : Run → Type 0
+IsSafeRun made = IsSafe made.choice made.image made.events
 
-abbrev pub run_of_fed : RunTask → Picture → Result (List ℕ) Refusal → Option Run
-run_of_fed task picture (Ok fed) = Some (record { choice = task.choice; image = picture; events = (course_of_run task picture fed).events })
-run_of_fed task picture (Err refusal) = None
+-- ---- the runs
 
-abbrev pub run_of_input : RunTask → Picture → Option (List ℕ) → Option Run
-run_of_input task picture None = None
-run_of_input task picture (Some input) = run_of_fed task picture (input_read input)
+-- the run whose outcome is that of `run`
+abbrev pub run_of_fed : RunTask → Picture → List ℕ → Run
+run_of_fed task picture fed = record { choice = task.choice; image = picture; events = (course_of_run task picture fed).events }
 
-abbrev pub run_of_image : RunTask → Result Picture Refusal → Option (List ℕ) → Option Run
-run_of_image task (Ok picture) input = run_of_input task picture input
-run_of_image task (Err refusal) input = None
+-- the lines of an input that a session obeys, up to `quit`
+abbrev pub lines_of : List ℕ → List Answer
+lines_of input = lines_in (take input_limit input) ++ (if nat_lt input_limit (length input) then [] else last_in input)
 
-abbrev pub run_of_file : RunTask → Option (List ℕ) → Option (List ℕ) → Option Run
-run_of_file task None input = None
-run_of_file task (Some bytes) input = run_of_image task (file_read bytes) input
+-- the turns and the fed bytes after these lines, since the start or the last reset
+abbrev pub items_after_lines : ShellTask → Picture → List Answer → List Item
+items_after_lines task picture lines = items_along all_eq all (fresh (start_of_setup (setup_of task) picture)) [] lines
 
--- ---- the whole
+-- the run that a session has made by then
+abbrev pub run_after_lines : ShellTask → Picture → List Answer → Run
+run_after_lines task picture lines =
+    record { choice = task.choice; image = picture; events = (run_of task.choice picture (items_after_lines task picture lines)).events }
 
--- a case for each subcommand
-abbrev pub run_of_task : Task → (List ℕ → Option (List ℕ)) → Option (List ℕ) → Option Run
-run_of_task (run task) held input = run_of_file task (held task.image) input
+-- ---- what holds of each of them, where what they rest on is told
 
-abbrev pub run_of_words : Option Task → (List ℕ → Option (List ℕ)) → Option (List ℕ) → Option Run
-run_of_words None held input = None
-run_of_words (Some task) held input = run_of_task task held input
+module _ (Holds : Run → Type 0) where
+  abbrev pub AfterFed : RunTask → Picture → Result (List ℕ) Refusal → Type 0
+  AfterFed task picture (Ok fed) = Holds (run_of_fed task picture fed)
+  AfterFed task picture (Err refusal) = Unit {0}
 
--- from the words, what the files hold by name where it is told, and the bytes of the input where they are
-unfoldable pub run_in : List (List ℕ) → (List ℕ → Option (List ℕ)) → Option (List ℕ) → Option Run
-run_in words held input = run_of_words (task_of words) held input
+  abbrev pub AfterInput : RunTask → Picture → Option (List ℕ) → Type 0
+  AfterInput task picture None = Unit {0}
+  AfterInput task picture (Some input) = AfterFed task picture (input_read input)
+
+  -- after each front of the lines
+  abbrev pub AfterLines : ShellTask → Picture → Option (List ℕ) → Type 0
+  AfterLines task picture None = Unit {0}
+  AfterLines task picture (Some input) =
+      (front rest : List Answer) → front ++ rest ≡ lines_of input → Holds (run_after_lines task picture front)
+
+  -- a case for each subcommand
+  abbrev pub AfterPicture : Task → Picture → Option (List ℕ) → Type 0
+  AfterPicture (run task) picture input = AfterInput task picture input
+  AfterPicture (shell task) picture input = AfterLines task picture input
+
+  abbrev pub AfterImage : Task → Result Picture Refusal → Option (List ℕ) → Type 0
+  AfterImage task (Ok picture) input = AfterPicture task picture input
+  AfterImage task (Err refusal) input = Unit {0}
+
+  abbrev pub AfterFile : Task → Option (List ℕ) → Option (List ℕ) → Type 0
+  AfterFile task None input = Unit {0}
+  AfterFile task (Some bytes) input = AfterImage task (file_read bytes) input
+
+  abbrev pub AfterWords : Option Task → (List ℕ → Option (List ℕ)) → Option (List ℕ) → Type 0
+  AfterWords None held input = Unit {0}
+  AfterWords (Some task) held input = AfterFile task (held (image_in task)) input
+
+-- Of each run that the words ask for: of `run` the one, of `shell` those that a session has made after each of its lines, each since
+-- the start or the last reset. The files' content by name, and the bytes of the input, are known where they are told.
+unfoldable pub EachRun : (Run → Type 0) → List (List ℕ) → (List ℕ → Option (List ℕ)) → Option (List ℕ) → Type 0
+EachRun Holds words held input = AfterWords Holds (task_of words) held input
 
 -- what files tell are bytes
 abbrev pub TellBytes : (List ℕ → Option (List ℕ)) → Type 0
 TellBytes held = (name bytes : List ℕ) → held name ≡ Some bytes → (i : ℕ) → slice_index bytes i < 256
-
--- in the run, each chosen policy's sentence holds
-abbrev pub IsSafeRun : Run → Type 0
-IsSafeRun made = IsSafe made.choice made.image made.events

@@ -22,10 +22,10 @@ pub record Answers {I : Type 0} (due : Option Outcome) (task : Option Task) (sta
   pub faults : FaultBy (name_in task) status before.faults after.faults
   -- Words are refused for themselves alone.
   pub bad_words : status ≡ BadWords → task ≡ None
-  -- Nothing is written where the load or a read of the input failed, and nothing on standard output where something was
-  -- refused.
-  pub silent : IsSilent status → after.taken ≡ before.taken
-  pub no_out : IsOfRefusal status → after.taken.out ≡ before.taken.out
+  -- Nothing is written where the load failed, or where a read of the input failed that comes before anything else, and nothing
+  -- on standard output where something was refused then.
+  pub silent : IsSilent task status → after.taken ≡ before.taken
+  pub no_out : IsOfRefusal task status → after.taken.out ≡ before.taken.out
   -- No name changes what it holds.
   pub held : after.held ≡ before.held
   -- What the subcommand does to files and to the input.

@@ -3,6 +3,7 @@ ghost use Rattle.pump_cli.specs.Codes.{status_of_cut};
 
 use crate::status::Status;
 use host_io::PutEnd;
+use pump_shell::SessionCut;
 use rounds::RoundsEnd;
 
 /// Why a call was cut short.
@@ -54,6 +55,20 @@ impl From<RoundsEnd> for Cut {
         match end {
             RoundsEnd::Put(end) => Cut::from(end),
             RoundsEnd::Engine => Cut::Memory,
+        }
+    }
+}
+
+impl From<SessionCut> for Cut {
+    ghost use Rattle.pump_cli.specs.Cuts.{cut_of_session};
+
+    ghost from_gives = { λ end cut. cut ≡ cut_of_session end };
+
+    fn from(end: SessionCut) -> Cut {
+        match end {
+            SessionCut::ReadFailed => Cut::InputFailed,
+            SessionCut::PutFailed => Cut::PutFailed,
+            SessionCut::Memory => Cut::Memory,
         }
     }
 }

@@ -71,7 +71,7 @@ const ONE_KEY: [(&str, (&[u32], &[u8], Status)); 2] = [
 
 /// The counts and rows of every list: code 0 to 8; labels 1 at 4 and 2 at 8; an edge from the first to the second; compartment
 /// 1 owns the word at 0, which lets in the set 2 and lets write the set 4, and compartment 31 those from 4 to 16.
-const EVERY_LIST: &[u32] = &[
+pub(crate) const EVERY_LIST: &[u32] = &[
     2, 0, 1, 4, 1, 2, 4, 1, 8, 2, 1, 1, 2, 2, 0, 1, 1, 2, 4, 4, 3, 31, 0, 0,
 ];
 

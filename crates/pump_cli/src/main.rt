@@ -1,4 +1,4 @@
-//! The program `pump`: runs an image of a tagged RISC-V machine and tells how it ended.
+//! The program `pump`: runs an image of a tagged RISC-V machine and tells how it ended, or obeys the lines of a monitor shell over it.
 #![tactic(auto)]
 
 #[cfg(test)]
@@ -13,6 +13,9 @@ mod program;
 mod reading;
 mod refusal;
 mod runs;
+#[cfg(test)]
+mod session_tests;
+mod sessions;
 mod status;
 #[cfg(test)]
 mod tests;

@@ -1,21 +1,22 @@
 //! The program, from the words, the files, the input and the two sinks to its status.
 
-ghost use Rattle.std.specs.Prelude.{◌≤◌, IfSome, Some};
-ghost use Rattle.pump_line.specs.Task.{run, task_of};
-ghost use Rattle.pump_line.specs.Told.{run_told, texts_of, told};
+ghost use Rattle.std.specs.Prelude.{◌≤◌, Some};
+ghost use Rattle.pump_line.specs.Task.{AllowsTags, run, shell, task_of};
+ghost use Rattle.pump_line.specs.Told.{run_told, shell_told, texts_of, told};
 ghost use Rattle.pump_cli.specs.Facts.{status_in};
 ghost use Rattle.pump_cli.specs.Outsides.{outside};
-ghost use Rattle.pump_cli.specs.Program.{AllowsTags, outcome_of_file, outcome_of_task, program};
-ghost use Rattle.pump_cli.specs.Runs.{IsSafeRun, TellBytes, run_in};
+ghost use Rattle.pump_cli.specs.Program.{outcome_of_file, outcome_of_task, program};
+ghost use Rattle.pump_cli.specs.Runs.{EachRun, IsSafeRun, TellBytes};
 ghost use Rattle.pump_cli.specs.Theorem.{Answers};
 
 use crate::cut::Cut;
 use crate::reading::{load_image, read_input};
 use crate::refusal::{Refusal, end_early, refuse};
 use crate::runs::run_image;
+use crate::sessions::obey_lines;
 use crate::status::Status;
 use host_io::{Files, Sink, Source};
-use pump_line::{RunTask, Task, WordsEnd, read_task};
+use pump_line::{RunTask, ShellTask, Task, WordsEnd, read_task};
 use std::alloc::Global;
 
 /// Loads the image, reads the whole input, and runs the image on it.
@@ -29,7 +30,7 @@ fn run_task<F: Files, S: Source, K: Sink, L: Sink>(
 ) -> Result<Status, Cut>
     requires { 1 ≤ task.tags }
     ensures { Answers
-        (outcome_of_file (run_told task.entry) (F.held files.old task.entry.image.now)
+        (outcome_of_file (run (run_told task.entry)) (F.held files.old task.entry.image.now)
         (S.left input.old))
         (Some (run (run_told task.entry))) (status_in result)
         (outside F.held F.read_faults F.calls S.left S.closed S.faults K.taken K.faults
@@ -46,6 +47,31 @@ fn run_task<F: Files, S: Source, K: Sink, L: Sink>(
         Err(end) => return end_early(err, end),
     };
     run_image(alloc, task, &image, fed, out, err)
+}
+
+/// Loads the image, and obeys the input's lines over it.
+fn shell_task<F: Files, S: Source, K: Sink, L: Sink>(
+    alloc: Global,
+    task: ShellTask<'_>,
+    files: &mut F,
+    input: &mut S,
+    out: &mut K,
+    err: &mut L,
+) -> Result<Status, Cut>
+    requires { 1 ≤ task.tags }
+    ensures { Answers
+        (outcome_of_file (shell (shell_told task.entry)) (F.held files.old task.entry.image.now)
+        (S.left input.old))
+        (Some (shell (shell_told task.entry))) (status_in result)
+        (outside F.held F.read_faults F.calls S.left S.closed S.faults K.taken K.faults
+        L.taken L.faults files.old input.old out.old err.old)
+        (outside F.held F.read_faults F.calls S.left S.closed S.faults K.taken K.faults
+        L.taken L.faults files.new input.new out.new err.new) }
+{
+    match load_image(alloc, files, task.image) {
+        Ok(image) => obey_lines(alloc, task, &image, input, out, err),
+        Err(end) => end_early(err, end),
+    }
 }
 
 /// Carries out a task: a case for each subcommand.
@@ -68,6 +94,7 @@ fn do_task<F: Files, S: Source, K: Sink, L: Sink>(
 {
     match task {
         Task::Run(task) => run_task(alloc, task, files, input, out, err),
+        Task::Shell(task) => shell_task(alloc, task, files, input, out, err),
     }
 }
 
@@ -96,15 +123,17 @@ fn run_words<F: Files, S: Source, K: Sink, L: Sink>(
 }
 
 /// The program: what the words ask for, with the files, the input and the two sinks, and the status that the process ends
-/// with. The first word is the program's name. The input is read only once the image is taken, and then as a whole.
+/// with. The first word is the program's name. The input is read only once the image is taken: by `run` as a whole before its
+/// first turn, by `shell` line by line.
 ///
 /// Without fault and want of memory the bytes and the status are those of the machine that asks the chosen policies at
-/// every turn of every hart, on the whole input, however many rules are kept; where some may be kept, its run ends at the
-/// turn that would give words to more tags than may have them. `Answers` (specs/Theorem.antt) has the whole promise, fact by
-/// fact.
+/// every turn of every hart, however many rules are kept: on the whole input, or at the commands of its lines. Where some rules
+/// may be kept, a run ends at the turn that would give words to more tags than may have them. `Answers` (specs/Theorem.antt) has
+/// the whole promise, fact by fact.
 ///
-/// In that run the sentence of each chosen policy holds (`safe`): every unsealing used its key, every indirect jump is a listed
-/// edge, every store lies in its compartment's permitted words, every heap access in its pointer's live block.
+/// In that run, and in each run that a session makes, the sentence of each chosen policy holds (`safe`): every unsealing used its
+/// key, every indirect jump is a listed edge, every store lies in its compartment's permitted words, every heap access in its
+/// pointer's live block.
 pub fn pump<F: Files, S: Source, K: Sink, L: Sink>(
     alloc: Global,
     words: &Vec<String>,
@@ -121,8 +150,7 @@ pub fn pump<F: Files, S: Source, K: Sink, L: Sink>(
         (outside F.held F.read_faults F.calls S.left S.closed S.faults K.taken K.faults
         L.taken L.faults files.new input.new out.new err.new) }
     ensures safe { TellBytes (F.held files.old)
-        → IfSome (run_in (texts_of words.now.items) (F.held files.old) (S.left input.old))
-        IsSafeRun }
+        → EachRun IsSafeRun (texts_of words.now.items) (F.held files.old) (S.left input.old) }
 {
     match run_words(alloc, words, files, input, out, err) {
         Ok(status) => status,

@@ -19,7 +19,7 @@ use std::alloc::Global;
 const FILE_LIMIT: usize = 33_554_432;
 
 /// The most bytes of the input.
-const INPUT_LIMIT: usize = 16_777_216;
+pub(crate) const INPUT_LIMIT: usize = 16_777_216;
 
 /// Why nothing runs.
 #[derive(Clone, Copy)]

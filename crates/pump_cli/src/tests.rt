@@ -12,12 +12,12 @@ use std::test::Fail;
 /// What a call of the program finds outside: the file of the name "image", the input, and the numbers of the reads, of the
 /// puts on standard output and of those on standard error that fail.
 #[derive(Clone, Copy)]
-struct Outside<'a> {
-    image: &'a [u8],
-    input: &'a [u8],
-    failing_reads: &'a [u64],
-    failing_puts: &'a [u64],
-    failing_tells: &'a [u64],
+pub(crate) struct Outside<'a> {
+    pub(crate) image: &'a [u8],
+    pub(crate) input: &'a [u8],
+    pub(crate) failing_reads: &'a [u64],
+    pub(crate) failing_puts: &'a [u64],
+    pub(crate) failing_tells: &'a [u64],
 }
 
 /// The bytes on standard output and standard error, and the status.
@@ -64,7 +64,7 @@ fn ran(alloc: Global, words: &[&str], outside: Outside<'_>) -> Result<Wrote, All
     })
 }
 
-fn check<R: Abort + AllocGlobal>(
+pub(crate) fn check<R: Abort + AllocGlobal>(
     rt: &R,
     words: &[&str],
     outside: Outside<'_>,
@@ -80,7 +80,7 @@ fn check<R: Abort + AllocGlobal>(
 }
 
 /// The image that writes `A` and exits with 0: its file as bytes.
-const HELLO: [u8; 76] = [
+pub(crate) const HELLO: [u8; 76] = [
     0x50, 0x55, 0x4d, 0x50, 0x01, 0x00, 0x01, 0x00, 0x40, 0, 0, 0, 0, 0, 0, 0, 0, 0, 0, 0, 0, 0, 0,
     0, 0x01, 0, 0, 0, 0, 0, 0, 0, 0x06, 0, 0, 0, 0x13, 0x05, 0x10, 0x04, 0x93, 0x08, 0x10, 0x00,
     0x73, 0, 0, 0, 0x13, 0x05, 0, 0, 0x93, 0x08, 0, 0, 0x73, 0, 0, 0, 0, 0, 0, 0, 0, 0, 0, 0, 0, 0,
@@ -96,7 +96,7 @@ const BAD_WORDS: Expected<'static> = Expected {
 
 #[test]
 fn bad_lines_are_refused(rt: HostRuntime) -> Result<(), Fail> {
-    let refused: [&[&str]; 13] = [
+    let refused: [&[&str]; 15] = [
         &[],
         &["pump"],
         &["pump", "run"],
@@ -110,6 +110,8 @@ fn bad_lines_are_refused(rt: HostRuntime) -> Result<(), Fail> {
         &["pump", "run", "image", "--turns", "0"],
         &["pump", "run", "image", "--turns", "1000000001"],
         &["pump", "run", "image", "--tags", "0"],
+        &["pump", "shell"],
+        &["pump", "shell", "image", "--turns", "5"],
     ];
     let outside = Outside {
         image: &HELLO,

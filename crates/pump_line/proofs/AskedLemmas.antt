@@ -8,8 +8,8 @@ use Rattle.clap.specs.Simple.{argument_words, built_leaf, entered, inherited, la
 use Rattle.clap.specs.Takes.{is_given}
 use Rattle.clap.specs.Walk.{Held, Names, answers_to, finished, nothing_held, rows_after, settled, walk, walk_from}
 use Rattle.clap.specs.Words.{App, Kinds, Shape, Text, built, fault_of, subcommand_of}
-use Rattle.pump_line.specs.Line.{HasMatch, faults_of, match_of, pump_app, run_shape}
-use Rattle.pump_line.specs.Request.{request_at, request_by, run_in}
+use Rattle.pump_line.specs.Line.{HasMatch, faults_of, match_of, pump_app, run_shape, shell_shape}
+use Rattle.pump_line.specs.Request.{request_at, request_by, run_in, shell_in}
 use Rattle.pump_line.proofs.GivenLemmas.{given_has_value}
 
 or_nil : (a b : Kinds) → or_else a b ≡ [] → (a ≡ []) × (b ≡ [])
@@ -83,6 +83,10 @@ unfoldable built_run : Shape
 unfolding pump_app run_shape
 built_run = built_leaf (inherited (with_leaf_noted (marked_built pump_app.top)) run_shape)
 
+unfoldable built_shell : Shape
+unfolding pump_app shell_shape
+built_shell = built_leaf (inherited (with_leaf_noted (marked_built pump_app.top)) shell_shape)
+
 some_mapped : {X Y : Type 0} (f : X → Y) (o : Option X) → is_some o ≡ true → is_some (option_map f o) ≡ true
 some_mapped f None h = cc
 some_mapped f (Some x) h = refl
@@ -103,12 +107,18 @@ run_asks words fine =
     let given = given_if (is_given (codes "image") (rows_after built_run.rules [] words)) false (level_needs built_run words fine) in
     some_mapped _ _ (some_mapped _ _ (given_has_value (codes "image") built_run.rules [] words refl given))
 
+shell_asks : Asks built_shell
+unfolding built_shell pump_app shell_shape request_by shell_in
+shell_asks words fine =
+    let given = given_if (is_given (codes "image") (rows_after built_shell.rules [] words)) false (level_needs built_shell words fine) in
+    some_mapped _ _ (some_mapped _ _ (given_has_value (codes "image") built_shell.rules [] words refl given))
+
 all_ask : AllAsk (built pump_app).subs
-unfolding built_run pump_app run_shape
-all_ask = (run_asks, tt)
+unfolding built_run built_shell pump_app run_shape shell_shape
+all_ask = (run_asks, (shell_asks, tt))
 
 needs_subcommand : (built pump_app).top.subcommand_required ≡ true
-unfolding pump_app run_shape
+unfolding pump_app run_shape shell_shape
 needs_subcommand = refl
 
 -- words with a match ask for something

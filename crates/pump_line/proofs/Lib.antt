@@ -1,6 +1,7 @@
 pub mod AskedLemmas
 pub mod CommandLemmas
 pub mod GivenLemmas
+pub mod LimitLemmas
 pub mod ReadLemmas
 pub mod Rows
 pub mod ValueLemmas

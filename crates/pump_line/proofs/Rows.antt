@@ -6,13 +6,13 @@ use Rattle.clap.specs.Words.{Text}
 use Rattle.clap.specs.declared.error.kind.ErrorKind.TheVariants.{ArgumentConflict, InvalidSubcommand, InvalidValue, MissingRequiredArgument, MissingSubcommand, UnknownArgument}
 use Rattle.policy_choice.specs.Choice.{no_policy}
 use Rattle.policy_choice.specs.declared.choice.Choice.{Choice}
-use Rattle.pump_line.specs.Line.{faults_of, match_of, pump_app, run_shape}
-use Rattle.pump_line.specs.Request.{request_by, request_of, run_in}
-use Rattle.pump_line.specs.Task.{Task, run, run_task_in, task_of}
+use Rattle.pump_line.specs.Line.{faults_of, match_of, pump_app, run_shape, shell_shape}
+use Rattle.pump_line.specs.Request.{request_by, request_of, run_in, shell_in}
+use Rattle.pump_line.specs.Task.{Task, run, run_task_in, shell, shell_task_in, task_of}
 
 -- what computes on words that are written out
 unfoldable on_rows : ⊤
-unfolding clap_on_literals faults_of match_of pump_app run_shape request_by request_of run_in run_task_in task_of
+unfolding clap_on_literals faults_of match_of pump_app run_shape shell_shape request_by request_of run_in shell_in run_task_in shell_task_in task_of
 on_rows = tt
 
 -- a line after the program's name
@@ -26,6 +26,10 @@ run_of image choice turns = run (record { image = image; choice = choice; cache 
 -- a run of no policy that keeps so many rules, and so many tags with words
 abbrev run_keeping : Text → ℕ → ℕ → Task
 run_keeping image cache tags = run (record { image = image; choice = no_policy; cache = cache; tags = tags; turns = 1000000 })
+
+-- a shell that keeps so many rules, and so many tags with words
+abbrev shell_of : Text → Choice → ℕ → ℕ → Task
+shell_of image choice cache tags = shell (record { image = image; choice = choice; cache = cache; tags = tags })
 
 abbrev sealing_alone : Choice
 sealing_alone = record no_policy { seal = true }
@@ -152,6 +156,43 @@ empty_image : task_of (line (codes "run" ∷ [] ∷ [])) ≡ Some (run_of [] no_
 unfolding on_rows
 empty_image = refl
 
+-- ---- lines that ask for a shell
+
+-- the image alone
+shell_plain : task_of (line (codes "shell" ∷ codes "a.img" ∷ [])) ≡ Some (shell_of (codes "a.img") no_policy 1024 65536)
+unfolding on_rows
+shell_plain = refl
+
+-- a policy named
+shell_sealed : task_of (line (codes "shell" ∷ codes "a.img" ∷ codes "--policy" ∷ codes "seal" ∷ [])) ≡ Some (shell_of (codes "a.img") sealing_alone 1024 65536)
+unfolding on_rows
+shell_sealed = refl
+
+-- kept rules named
+shell_cache : task_of (line (codes "shell" ∷ codes "a.img" ∷ codes "--cache" ∷ codes "0" ∷ [])) ≡ Some (shell_of (codes "a.img") no_policy 0 65536)
+unfolding on_rows
+shell_cache = refl
+
+-- kept rules behind an equals sign
+shell_cache_with_sign : task_of (line (codes "shell" ∷ codes "a.img" ∷ codes "--cache=5" ∷ [])) ≡ Some (shell_of (codes "a.img") no_policy 5 65536)
+unfolding on_rows
+shell_cache_with_sign = refl
+
+-- tags named
+shell_tags : task_of (line (codes "shell" ∷ codes "a.img" ∷ codes "--tags" ∷ codes "6" ∷ [])) ≡ Some (shell_of (codes "a.img") no_policy 1024 6)
+unfolding on_rows
+shell_tags = refl
+
+-- options before and after the image
+shell_around : task_of (line (codes "shell" ∷ codes "--tags" ∷ codes "6" ∷ codes "a.img" ∷ codes "--cache" ∷ codes "5" ∷ codes "--policy" ∷ codes "seal" ∷ [])) ≡ Some (shell_of (codes "a.img") sealing_alone 5 6)
+unfolding on_rows
+shell_around = refl
+
+-- an image of the subcommand's name
+image_shell : task_of (line (codes "shell" ∷ codes "shell" ∷ [])) ≡ Some (shell_of (codes "shell") no_policy 1024 65536)
+unfolding on_rows
+image_shell = refl
+
 -- ---- lines in which `clap` names a fault
 
 -- no words at all
@@ -274,6 +315,26 @@ upper_case : faults_of (line (codes "Run" ∷ codes "a.img" ∷ [])) ≡ Unknown
 unfolding on_rows
 upper_case = refl
 
+-- a shell of nothing
+shell_alone : faults_of (line (codes "shell" ∷ [])) ≡ MissingRequiredArgument ∷ []
+unfolding on_rows
+shell_alone = refl
+
+-- a shell of two images
+shell_two_images : faults_of (line (codes "shell" ∷ codes "a.img" ∷ codes "b.img" ∷ [])) ≡ UnknownArgument ∷ []
+unfolding on_rows
+shell_two_images = refl
+
+-- a shell has no limit of turns
+shell_turns : faults_of (line (codes "shell" ∷ codes "a.img" ∷ codes "--turns" ∷ codes "5" ∷ [])) ≡ UnknownArgument ∷ []
+unfolding on_rows
+shell_turns = refl
+
+-- an option of a shell that is repeated
+shell_tags_twice : faults_of (line (codes "shell" ∷ codes "a.img" ∷ codes "--tags" ∷ codes "5" ∷ codes "--tags=6" ∷ [])) ≡ ArgumentConflict ∷ []
+unfolding on_rows
+shell_tags_twice = refl
+
 -- ---- lines without a fault, of which a value is refused
 
 -- a policy named twice
@@ -350,3 +411,18 @@ empty_number = (refl, refl)
 blank : (faults_of (line (codes "run" ∷ codes "a.img" ∷ codes "--turns" ∷ codes "5 " ∷ [])) ≡ []) × (task_of (line (codes "run" ∷ codes "a.img" ∷ codes "--turns" ∷ codes "5 " ∷ [])) ≡ None)
 unfolding on_rows
 blank = (refl, refl)
+
+-- a policy named twice for a shell
+shell_named_twice : (faults_of (line (codes "shell" ∷ codes "a.img" ∷ codes "--policy" ∷ codes "seal,seal" ∷ [])) ≡ []) × (task_of (line (codes "shell" ∷ codes "a.img" ∷ codes "--policy" ∷ codes "seal,seal" ∷ [])) ≡ None)
+unfolding on_rows
+shell_named_twice = (refl, refl)
+
+-- a shell with no tag at all
+shell_no_tags : (faults_of (line (codes "shell" ∷ codes "a.img" ∷ codes "--tags" ∷ codes "0" ∷ [])) ≡ []) × (task_of (line (codes "shell" ∷ codes "a.img" ∷ codes "--tags" ∷ codes "0" ∷ [])) ≡ None)
+unfolding on_rows
+shell_no_tags = (refl, refl)
+
+-- one kept rule more than the most for a shell
+shell_too_large_cache : (faults_of (line (codes "shell" ∷ codes "a.img" ∷ codes "--cache" ∷ codes "65537" ∷ [])) ≡ []) × (task_of (line (codes "shell" ∷ codes "a.img" ∷ codes "--cache" ∷ codes "65537" ∷ [])) ≡ None)
+unfolding on_rows
+shell_too_large_cache = (refl, refl)

@@ -17,10 +17,19 @@ abbrev pub subcommand_shape : Text → List Text → List Text → Shape
 subcommand_shape name operands options =
     record (new_shape name) { rules = map operand_rule operands ++ map option_rule options }
 
+-- the operands of a subcommand that starts an image
+abbrev pub image_operand : List Text
+image_operand = codes "image" ∷ []
+
+-- the options of each of them
+abbrev pub start_options : List Text
+start_options = codes "policy" ∷ codes "cache" ∷ codes "tags" ∷ []
+
 unfoldable pub run_shape : Shape
-run_shape =
-    subcommand_shape (codes "run") (codes "image" ∷ [])
-    (codes "policy" ∷ codes "cache" ∷ codes "tags" ∷ codes "turns" ∷ [])
+run_shape = subcommand_shape (codes "run") image_operand (start_options ++ codes "turns" ∷ [])
+
+unfoldable pub shell_shape : Shape
+shell_shape = subcommand_shape (codes "shell") image_operand start_options
 
 -- `pump SUBCOMMAND ..`, with no help and no version
 unfoldable pub pump_app : App
@@ -31,7 +40,7 @@ pump_app = record {
     disable_help_subcommand = true;
     subcommand_required = true;
   };
-  subs = run_shape ∷ [];
+  subs = run_shape ∷ shell_shape ∷ [];
 }
 
 -- the faults that `clap` may name for the words

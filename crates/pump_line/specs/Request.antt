@@ -12,9 +12,17 @@ pub record RunRequest : Type 0 where
   pub tags : Option Text
   pub turns : Option Text
 
+-- a `shell`: the same but for the turns
+pub record ShellRequest : Type 0 where
+  pub image : Text
+  pub policy : Option Text
+  pub cache : Option Text
+  pub tags : Option Text
+
 -- what a line asks for, a case for each subcommand
 pub data Request : Type 0 where
   run_asked : RunRequest → Request
+  shell_asked : ShellRequest → Request
 
 unfoldable pub run_in : List Row → Option RunRequest
 run_in rows = option_map (λ image. record {
@@ -25,9 +33,19 @@ run_in rows = option_map (λ image. record {
   turns = first_of (codes "turns") rows;
 }) (first_of (codes "image") rows)
 
+unfoldable pub shell_in : List Row → Option ShellRequest
+shell_in rows = option_map (λ image. record {
+  image = image;
+  policy = first_of (codes "policy") rows;
+  cache = first_of (codes "cache") rows;
+  tags = first_of (codes "tags") rows;
+}) (first_of (codes "image") rows)
+
 -- the request that a subcommand's name and rows make
 unfoldable pub request_by : Text → List Row → Option Request
-request_by name rows = if bytes_eq name (codes "run") then option_map run_asked (run_in rows) else None
+request_by name rows =
+    if bytes_eq name (codes "run") then option_map run_asked (run_in rows)
+    else (if bytes_eq name (codes "shell") then option_map shell_asked (shell_in rows) else None)
 
 abbrev pub request_at : Option (Text × List Row) → Option Request
 request_at = option_and_then (λ found. request_by found.0 found.1)

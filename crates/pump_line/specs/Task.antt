@@ -1,12 +1,12 @@
 -- What a line asks for, its values read.
-use Rattle.std.specs.Prelude.{ℕ, Bool, ◌&&◌, List, length, nat_le, Option, Some, None, if◌then◌else◌}
+use Rattle.std.specs.Prelude.{ℕ, ◌≤◌, Bool, ◌&&◌, List, length, nat_le, Option, Some, None, if◌then◌else◌}
 use Rattle.std.specs.Prelude.{option_and_then, option_map}
 use Rattle.std.specs.Str.{all_ascii_digits}
 use Rattle.std.specs.Str.Parse.{digits_value}
 use Rattle.clap.specs.Words.{Text}
 use Rattle.policy_choice.specs.Choice.{choice_of, no_policy}
 use Rattle.policy_choice.specs.declared.choice.Choice.{Choice}
-use Rattle.pump_line.specs.Request.{Request, RunRequest, request_of, run_asked}
+use Rattle.pump_line.specs.Request.{Request, RunRequest, ShellRequest, request_of, run_asked, shell_asked}
 
 -- a `run`: the image's name, the policies that are chosen, and its limits
 pub record RunTask : Type 0 where
@@ -19,9 +19,24 @@ pub record RunTask : Type 0 where
   -- the most turns
   pub turns : ℕ
 
+-- a `shell`: the same but for the turns
+pub record ShellTask : Type 0 where
+  pub image : Text
+  pub choice : Choice
+  -- the most rules that are kept
+  pub cache : ℕ
+  -- the most tags that may have words
+  pub tags : ℕ
+
 -- what `pump` is asked to do, a case for each subcommand
 pub data Task : Type 0 where
   run : RunTask → Task
+  shell : ShellTask → Task
+
+-- some tag may have a word
+abbrev pub AllowsTags : Task → Type 0
+AllowsTags (run task) = 1 ≤ task.tags
+AllowsTags (shell task) = 1 ≤ task.tags
 
 -- no policy where the option is not on the line
 abbrev pub choice_in : Option Text → Option Choice
@@ -78,9 +93,9 @@ most_turns = 1000000000
 abbrev pub turns_of : Option Text → Option ℕ
 turns_of = number_or default_turns 1 most_turns
 
--- the task with these values; `None` where one is bad
-abbrev pub task_with : Text → Option Choice → Option ℕ → Option ℕ → Option ℕ → Option RunTask
-task_with image choice cache tags turns =
+-- the run with these values; `None` where one is bad
+abbrev pub run_with : Text → Option Choice → Option ℕ → Option ℕ → Option ℕ → Option RunTask
+run_with image choice cache tags turns =
     option_and_then (λ chosen. option_and_then (λ rule_limit.
     option_and_then (λ tag_limit. option_map (λ turn_limit. record {
       image = image;
@@ -92,11 +107,26 @@ task_with image choice cache tags turns =
 
 unfoldable pub run_task_in : RunRequest → Option RunTask
 run_task_in request =
-    task_with request.image (choice_in request.policy) (cache_of request.cache) (tags_of request.tags)
+    run_with request.image (choice_in request.policy) (cache_of request.cache) (tags_of request.tags)
     (turns_of request.turns)
+
+-- the shell with these values; `None` where one is bad
+abbrev pub shell_with : Text → Option Choice → Option ℕ → Option ℕ → Option ShellTask
+shell_with image choice cache tags =
+    option_and_then (λ chosen. option_and_then (λ rule_limit. option_map (λ tag_limit. record {
+      image = image;
+      choice = chosen;
+      cache = rule_limit;
+      tags = tag_limit;
+    }) tags) cache) choice
+
+unfoldable pub shell_task_in : ShellRequest → Option ShellTask
+shell_task_in request =
+    shell_with request.image (choice_in request.policy) (cache_of request.cache) (tags_of request.tags)
 
 abbrev pub task_in : Request → Option Task
 task_in (run_asked request) = option_map run (run_task_in request)
+task_in (shell_asked request) = option_map shell (shell_task_in request)
 
 -- what the words ask `pump` to do; `None` where they are no command line of it
 unfoldable pub task_of : List Text → Option Task

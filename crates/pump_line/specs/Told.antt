@@ -1,10 +1,11 @@
 -- The words as lists of bytes, and a task as the definitions see it.
 use Rattle.std.specs.Prelude.{ℕ, List, map, Option, option_map, String, string_bytes}
 use Rattle.std.specs.Borrow.{Bor}
-use Rattle.pump_line.specs.Task.{RunTask, Task, run}
+use Rattle.pump_line.specs.Task.{RunTask, ShellTask, Task, run, shell}
 use Rattle.pump_line.specs.declared.task.RunTask.{RunTask as RunWords}
+use Rattle.pump_line.specs.declared.task.ShellTask.{ShellTask as ShellWords}
 use Rattle.pump_line.specs.declared.task.Task.{Task as TaskWords}
-use Rattle.pump_line.specs.declared.task.Task.TheVariants.{Run}
+use Rattle.pump_line.specs.declared.task.Task.TheVariants.{Run, Shell}
 
 abbrev pub texts_of : {A : Type 0} → List (String A) → List (List ℕ)
 texts_of words = map string_bytes words
@@ -22,5 +23,9 @@ run_told task = record {
   turns = task.turns;
 }
 
+abbrev pub shell_told : ShellWords → ShellTask
+shell_told task = record { image = task.image.now; choice = task.choice; cache = task.cache; tags = task.tags }
+
 abbrev pub told : TaskWords → Task
 told (Run task) = run (run_told task)
+told (Shell task) = shell (shell_told task)

@@ -39,9 +39,10 @@ pub(crate) fn pump_command<'a>(alloc: Global) -> Result<Command<'a>, AllocError>
         &["image"],
         &["policy", "cache", "tags", "turns"],
     )?;
+    let shell_leaf = leaf_command(alloc, "shell", &["image"], &["policy", "cache", "tags"])?;
     let pump = Command::new(alloc, "pump")
         .disable_help_flag(true)
         .disable_help_subcommand(true)
         .subcommand_required(true);
-    pump.subcommand(run_leaf)
+    pump.subcommand(run_leaf)?.subcommand(shell_leaf)
 }

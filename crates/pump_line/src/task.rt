@@ -2,9 +2,9 @@
 
 ghost use Rattle.std.specs.Prelude.{◌≡◌, ◌≢◌, Some, None, IfOk, IfErr, option_and_then, option_map};
 ghost use Rattle.clap.specs.Words.{first_of, found_of, kind_of, rows_of, subcommand_rows_of};
-ghost use Rattle.pump_line.specs.Request.{request_at, request_by, run_in};
-ghost use Rattle.pump_line.specs.Task.{run_task_in, task_in, task_of};
-ghost use Rattle.pump_line.specs.Told.{lent, run_told, texts_of, told};
+ghost use Rattle.pump_line.specs.Request.{request_at, request_by, run_in, shell_in};
+ghost use Rattle.pump_line.specs.Task.{AllowsTags, run_task_in, shell_task_in, task_in, task_of};
+ghost use Rattle.pump_line.specs.Told.{lent, run_told, shell_told, texts_of, told};
 
 use crate::command::pump_command;
 use crate::values::{choice_from, read_cache, read_tags, read_turns};
@@ -18,6 +18,8 @@ use std::alloc::{AllocError, Global};
 pub enum Task<'a> {
     /// `run`
     Run(RunTask<'a>),
+    /// `shell`
+    Shell(ShellTask<'a>),
 }
 
 /// A run that the words ask for.
@@ -33,6 +35,19 @@ pub struct RunTask<'a> {
     pub tags: u32,
     /// The most turns: 1 to 1,000,000,000.
     pub turns: u64,
+}
+
+/// A session of the monitor shell that the words ask for.
+#[derive(Clone, Copy, Debug)]
+pub struct ShellTask<'a> {
+    /// The name of the image's file; it may be empty.
+    pub image: &'a str,
+    /// The policies that are chosen.
+    pub choice: Choice,
+    /// The most rules that are kept: 0 to 65,536.
+    pub cache: u32,
+    /// The most tags that may have words: 1 to 1,048,576.
+    pub tags: u32,
 }
 
 /// Why words were not read.
@@ -81,6 +96,24 @@ fn run_task<'a>(matches: &ArgMatches<'a>) -> Option<RunTask<'a>>
     })
 }
 
+/// The session of the shell that a match of `shell` asks for; `None` where a value is bad.
+#[tactic(auto, unfolding(crate::specs::Request::shell_in, crate::specs::Task::shell_task_in))]
+fn shell_task<'a>(matches: &ArgMatches<'a>) -> Option<ShellTask<'a>>
+    ensures { option_map shell_told result
+        ≡ option_and_then shell_task_in (shell_in (rows_of (found_of matches.now))) }
+{
+    let image = text_of(matches, "image")?;
+    let choice = choice_from(text_of(matches, "policy"))?;
+    let cache = read_cache(text_of(matches, "cache"))?;
+    let tags = read_tags(text_of(matches, "tags"))?;
+    Some(ShellTask {
+        image,
+        choice,
+        cache,
+        tags,
+    })
+}
+
 /// What a match of the subcommand with this name asks for.
 #[tactic(auto, unfolding(crate::specs::Request::request_by))]
 fn task_named<'a>(name: &str, matches: &ArgMatches<'a>) -> Option<Task<'a>>
@@ -89,6 +122,7 @@ fn task_named<'a>(name: &str, matches: &ArgMatches<'a>) -> Option<Task<'a>>
 {
     match name {
         "run" => Some(Task::Run(run_task(matches)?)),
+        "shell" => Some(Task::Shell(shell_task(matches)?)),
         _ => None,
     }
 }
@@ -114,13 +148,15 @@ fn end_of(error: &Error) -> WordsEnd
 }
 
 /// What the words ask for, the first being the program's name:
-/// `run IMAGE [--policy LIST] [--cache N] [--tags N] [--turns N]`, the options in any order before or after the image, each
-/// at most once. LIST is `none`, or names among `seal`, `comp`, `flow` and `heap` with commas between, none twice. N is 1 to
-/// 10 decimal digits that write 0 to 65,536 for `--cache`, 1 to 1,048,576 for `--tags` and 1 to 1,000,000,000 for
-/// `--turns`. This is the project's own command line; `clap` judges its form. Any other words are `Bad`. A line in want of
-/// memory may end as `Memory`.
+/// `run IMAGE [--policy LIST] [--cache N] [--tags N] [--turns N]` or `shell IMAGE [--policy LIST] [--cache N] [--tags N]`, the
+/// options in any order before or after the image, each at most once. LIST is `none`, or names among `seal`, `comp`, `flow`
+/// and `heap` with commas between, none twice; it is `none` where it isn't there. N is 1 to 10 decimal digits that write 0 to
+/// 65,536 for `--cache` (1,024 where it isn't there), 1 to 1,048,576 for `--tags` (65,536) and 1 to 1,000,000,000 for
+/// `--turns` (1,000,000). So some tag may have a word in every task. This is the project's own command line; `clap` judges
+/// its form. Any other words are `Bad`. A line in want of memory may end as `Memory`.
 pub fn read_task<'a>(alloc: Global, words: &'a Vec<String>) -> Result<Task<'a>, WordsEnd>
     ensures task { IfOk result (λ t. task_of (texts_of words.now.items) ≡ Some (told t)) }
+    ensures tags { IfOk result (λ t. AllowsTags (told t)) }
     ensures bad { IfErr result (λ e. e ≡ WordsEnd.Bad → task_of (texts_of words.now.items) ≡ None) }
 {
     let command = pump_command(alloc)?;

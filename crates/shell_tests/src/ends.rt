@@ -1,10 +1,19 @@
 //! How a session over an input ends: by `quit`, at the input's end, where the input is too long, and where a put fails.
 
+ghost use Rattle.std.specs.Prelude.{◌≤◌};
+
 use crate::scripts::SMALL;
-use crate::sessions::{Program, Room, replies_to};
-use shell_run::ObeyEnd;
+use crate::sessions::{Program, Room, file_of, replies_to};
+use engine_trait::{Engine, Loader};
+use host_io::MemSink;
+use image_format::read_image;
+use policy_choice::Choice;
+use shell_lang::read_command;
+use shell_run::{ObeyEnd, Session};
 use shell_script::{ShellCut, ShellEnd};
+use std::alloc::Global;
 use std::test::Fail;
+use tag_loader::PlainLoad;
 
 /// A loop of one instruction.
 const LOOP: Program = Program {
@@ -55,7 +64,7 @@ const END_ROWS: [EndRow; 8] = [
         Ok(ShellEnd::TooLong),
     ),
     (b"quit\nwhy 0\n", 5, &[], b"", Ok(ShellEnd::Quit)),
-    // A session whose sink failed puts nothing any more.
+    // The input is read no further once a put failed.
     (
         b"why 0\nstats\nstats\n",
         100,
@@ -95,5 +104,35 @@ fn a_line_has_a_limit(rt: HostRuntime) -> Result<(), Fail> {
         let told = replies_to(rt.alloc(), &LOOP, room, &line, 1000, &[])?;
         assert_eq!(rt; told.out.as_slice(), out);
     }
+    Ok(())
+}
+
+/// What a session answers to `stats` after a put of `why 0` failed, why it has ended, and how many bytes its sink has.
+fn after_a_failed_put<L: Loader>(
+    alloc: Global,
+    loader: L,
+) -> Result<(Result<bool, ObeyEnd>, Option<ObeyEnd>, usize), Fail>
+    requires { L.E.P.longest ≤ 460 }
+{
+    let mut session = Session::new(alloc, loader).ok().ok_or("no session")?;
+    let mut sink = MemSink::new(alloc, vec![in alloc; 0]?);
+    let why = read_command(b"why 0").ok().ok_or("no command")?;
+    let stats = read_command(b"stats").ok().ok_or("no command")?;
+    if session.obey(&why, &mut sink) != Err(ObeyEnd::WriteFault) || session.engine().harts() != 1 {
+        return Err(Fail::from("no failed put over one hart"));
+    }
+    let answer = session.obey(&stats, &mut sink);
+    Ok((answer, session.ended(), sink.bytes().len()))
+}
+
+#[test]
+fn a_session_whose_put_failed_stays_ended(rt: HostRuntime) -> Result<(), Fail> {
+    let bytes = file_of(rt.alloc(), &LOOP)?;
+    let image = read_image(rt.alloc(), &bytes).ok().ok_or("no image")?;
+    let loader = PlainLoad::new(rt.alloc(), &image, Choice::none());
+    let (answer, ended, written) = after_a_failed_put(rt.alloc(), loader)?;
+    assert!(rt; answer == Err(ObeyEnd::WriteFault));
+    assert!(rt; ended == Some(ObeyEnd::WriteFault));
+    assert_eq!(rt; written, 0);
     Ok(())
 }

@@ -39,7 +39,7 @@ pub(crate) struct Replied {
 }
 
 /// The file of a program's image.
-fn file_of(alloc: Global, program: &Program) -> Result<Vec<u8>, AllocError> {
+pub(crate) fn file_of(alloc: Global, program: &Program) -> Result<Vec<u8>, AllocError> {
     let harts = u16::try_from(program.entries.len()).unwrap_or(0);
     let count = u32::try_from(program.words.len()).unwrap_or(0);
     let mut bytes = b"PUMP\x01\x00".to_vec(alloc)?;

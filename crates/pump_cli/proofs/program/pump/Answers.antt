@@ -1,9 +1,9 @@
 use Rattle.pump_line.specs.Told.{texts_of}
-use Rattle.pump_cli.proofs.SafeRuns.{safe_run}
+use Rattle.pump_cli.proofs.SafeRuns.{safe_runs}
 use Rattle.pump_cli.proofs.program.pump.Goals as goal
 
 pub returns-in-Ok-clause-safe : goal.returns-in-Ok-clause-safe
-returns-in-Ok-clause-safe g c tells = safe_run (texts_of c.args.words.now.items) _ _ tells
+returns-in-Ok-clause-safe g c tells = safe_runs (texts_of c.args.words.now.items) _ _ tells
 
 pub returns-in-Err-clause-safe : goal.returns-in-Err-clause-safe
-returns-in-Err-clause-safe g c tells = safe_run (texts_of c.args.words.now.items) _ _ tells
+returns-in-Err-clause-safe g c tells = safe_runs (texts_of c.args.words.now.items) _ _ tells

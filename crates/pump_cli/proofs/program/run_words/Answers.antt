@@ -1,12 +1,8 @@
 use Rattle.std.proofs.Common.{Some, refl}
 use Rattle.pump_line.specs.Told.{texts_of, told}
 use Rattle.pump_cli.specs.Facts.{status_in}
-use Rattle.pump_cli.proofs.Limits.{words_allow}
 use Rattle.pump_cli.proofs.Ways.{asked_as, words_refused, words_unread}
 use Rattle.pump_cli.proofs.program.run_words.Goals as goal
-
-pub do_task-requires : goal.do_task-requires
-do_task-requires g c = words_allow (texts_of c.args.words.now.items) (told c.in-Ok.task) c.in-Ok.ensures.task
 
 pub returns-in-Ok : goal.returns-in-Ok
 returns-in-Ok g c =

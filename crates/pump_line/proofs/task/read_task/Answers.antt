@@ -1,8 +1,10 @@
 use Rattle.std.proofs.Common.{◌≡◌, ◌∙◌, ap, sym, option_and_then, option_map}
+use Rattle.std.proofs.lemmas.Result.{IfOk-weaker}
 use Rattle.pump_line.specs.Line.{HasMatch}
 use Rattle.pump_line.specs.Request.{request_at}
 use Rattle.pump_line.specs.Task.{task_in, task_of}
 use Rattle.pump_line.specs.Told.{texts_of, told}
+use Rattle.pump_line.proofs.LimitLemmas.{words_allow}
 use Rattle.pump_line.proofs.ReadLemmas.{asks_matched, faulty_if_bad, is_simple_if, matched, no_task, none_if_bad, same_faults, task_if_ok}
 use Rattle.pump_line.proofs.task.read_task.Goals as goal
 
@@ -18,6 +20,11 @@ reads c =
 
 pub returns-in-Ok-clause-task : goal.returns-in-Ok-clause-task
 returns-in-Ok-clause-task c = task_if_ok c.task_matched.result c.ok_or.result _ (reads c) c.ok_or.ensures.value
+
+pub returns-in-Ok-clause-tags : goal.returns-in-Ok-clause-tags
+returns-in-Ok-clause-tags c =
+    IfOk-weaker c.ok_or.result _ _ (λ task asked. words_allow (texts_of c.args.words.now.items) (told task) asked)
+    (task_if_ok c.task_matched.result c.ok_or.result _ (reads c) c.ok_or.ensures.value)
 
 pub returns-in-Ok-clause-bad : goal.returns-in-Ok-clause-bad
 returns-in-Ok-clause-bad c = none_if_bad c.task_matched.result c.ok_or.result _ (reads c) c.ok_or.ensures.value

@@ -1,0 +1,128 @@
+-- A session that ended or was cut short, and what was told after its replies.
+use Rattle.std.proofs.Common.{◌≡◌, ℕ, ◌<◌, List, length, Option, Some, None, Result, Ok, Err, IfOk, IfSome, refl, sym, subst, ap}
+use Rattle.image_format.specs.Picture.{Picture}
+use Rattle.host_io.specs.Pieces.{PutsAll, Taken}
+use Rattle.host_io.specs.TwoSinks.{OneRose, PutFaults, on_out}
+use Rattle.host_io.proofs.PieceLemmas.{front_of_more_puts, puts_then_all, puts_then_front}
+use Rattle.shell_turns.specs.Cuts.{PutsOut}
+use Rattle.shell_script.specs.Shell.{ShellFaults}
+use Rattle.pump_shell.specs.Ends.{SessionCause}
+use Rattle.pump_shell.specs.Told.{Told, told_of}
+use Rattle.pump_shell.specs.declared.ends.SessionCut.{SessionCut}
+use Rattle.pump_shell.specs.declared.ends.SessionCut.TheVariants as session_cut
+use Rattle.pump_shell.specs.declared.ends.SessionEnd.{SessionEnd}
+use Rattle.pump_line.specs.Task.{ShellTask}
+use Rattle.pump_cli.specs.Codes.{IsOfSession}
+use Rattle.pump_cli.specs.Cuts.{cut_of_session}
+use Rattle.pump_cli.specs.Early.{SessionFaultBy}
+use Rattle.pump_cli.specs.Facts.{Does, IsLongInput, PutsFaultBy}
+use Rattle.pump_cli.specs.Program.{outcome_of_end, outcome_of_lines, outcome_of_told, setup_of}
+use Rattle.pump_cli.specs.Reading.{input_limit}
+use Rattle.pump_cli.specs.declared.cut.Cut.{Cut}
+use Rattle.pump_cli.specs.declared.cut.Cut.TheVariants as cut
+use Rattle.pump_cli.specs.declared.status.Status.{Status}
+use Rattle.pump_cli.specs.declared.status.Status.TheVariants.{TagsOut}
+
+abbrev pub sinks : Option (List ℕ) → Option (List ℕ) → Taken
+sinks taken_out taken_err = record { out = taken_out; err = taken_err }
+
+abbrev pub counts : ℕ → ℕ → PutFaults
+counts puts_out puts_err = record { out = puts_out; err = puts_err }
+
+abbrev pub session_ok : SessionEnd → Result SessionEnd SessionCut
+session_ok end = Ok end
+
+abbrev pub session_err : SessionCut → Result SessionEnd SessionCut
+session_err end = Err end
+
+-- ---- what was put
+
+module _ (told : Told) (old new err_old err_new : Option (List ℕ)) where
+  -- the replies were put, and what comes after them was told
+  replies_then : (result : Result Status Cut) → PutsAll (sinks old err_old) (sinks new err_old) told.pieces
+      → Does (outcome_of_end told.end) (sinks new err_old) (sinks new err_new) result
+      → Does (outcome_of_told told) (sinks old err_old) (sinks new err_new) result
+  replies_then (Ok status) replies last = record {
+    puts = puts_then_all (sinks old err_old) (sinks new err_old) (sinks new err_new) told.pieces _ replies last.puts;
+    ends = last.ends;
+  }
+  replies_then (Err cut) replies last = record {
+    puts = puts_then_front (sinks old err_old) (sinks new err_old) (sinks new err_new) told.pieces _ replies last.puts;
+    ends = tt;
+  }
+
+module _ (task : ShellTask) (picture : Picture) (left old new : Option (List ℕ)) where
+  abbrev told_with : List ℕ → Told
+  told_with bytes = told_of (setup_of task) picture 16777216 bytes
+
+  pub session_ended : (err_old err_new : Option (List ℕ)) (end : SessionEnd) (result : Result Status Cut)
+      → IfSome left (λ bytes. end ≡ (told_with bytes).end) → IfSome left (λ bytes. PutsOut old new (told_with bytes).pieces (session_ok end))
+      → ((out : Option (List ℕ)) → Does (outcome_of_end end) (sinks out err_old) (sinks out err_new) result)
+      → IfSome left (λ bytes. Does (outcome_of_lines task picture bytes) (sinks old err_old) (sinks new err_new) result)
+  unfolding outcome_of_lines input_limit PutsOut
+  session_ended err_old err_new end result is puts last = by left is puts
+    where
+      by : (known : Option (List ℕ)) → IfSome known (λ bytes. end ≡ (told_with bytes).end) → IfSome known (λ bytes. PutsOut old new (told_with bytes).pieces (session_ok end))
+          → IfSome known (λ bytes. Does (outcome_of_lines task picture bytes) (sinks old err_old) (sinks new err_new) result)
+      by None is puts = tt
+      by (Some bytes) is puts =
+          replies_then (told_with bytes) old new err_old err_new result (puts err_old)
+          (subst (λ (told : SessionEnd). Does (outcome_of_end told) (sinks new err_old) (sinks new err_new) result) is (last new))
+
+  pub session_broken : (other : Option (List ℕ)) (end : SessionCut) (cut : Cut)
+      → IfSome left (λ bytes. PutsOut old new (told_with bytes).pieces (session_err end))
+      → IfSome left (λ bytes. Does (outcome_of_lines task picture bytes) (sinks old other) (sinks new other) (Err cut))
+  unfolding outcome_of_lines input_limit PutsOut
+  session_broken other end cut puts = by left puts
+    where
+      by : (known : Option (List ℕ)) → IfSome known (λ bytes. PutsOut old new (told_with bytes).pieces (session_err end))
+          → IfSome known (λ bytes. Does (outcome_of_lines task picture bytes) (sinks old other) (sinks new other) (Err cut))
+      by None puts = tt
+      by (Some bytes) puts = record {
+        puts = front_of_more_puts (sinks old other) (sinks new other) (told_with bytes).pieces (outcome_of_end (told_with bytes).end).pieces (puts other);
+        ends = tt;
+      }
+
+-- the limit of the input
+pub past_limit : (left : Option (List ℕ)) → IfSome left (λ bytes. 16777216 < length bytes) → IfSome left IsLongInput
+unfolding input_limit
+past_limit None past = tt
+past_limit (Some bytes) past = past
+
+-- ---- counts of faults
+
+module _ (input input_now out out_now : ℕ) where
+  abbrev before : ShellFaults
+  before = record { input = input; out = out }
+
+  abbrev now : ShellFaults
+  now = record { input = input_now; out = out_now }
+
+  -- what comes after the replies is told on standard error alone
+  pub ended_faults : (err err_now : ℕ) (result : Result Status Cut) → now ≡ before
+      → ((count : ℕ) → PutsFaultBy (counts count err) (counts count err_now) result)
+      → SessionFaultBy input input_now (counts out err) (counts out_now err_now) result
+  ended_faults err err_now (Ok status) same faults = (ap (λ (all : ShellFaults). all.input) same, λ i. record { out = (same i).out; err = (faults out i).err })
+  ended_faults err err_now (Err cut.ReadFailed) same faults = faults out
+  ended_faults err err_now (Err cut.InputFailed) same faults = absurd (faults out)
+  ended_faults err err_now (Err cut.PutFailed) same faults = (
+    ap (λ (all : ShellFaults). all.input) same,
+    subst (λ (count : ℕ). OneRose (counts out err) (counts count err_now)) (sym (ap (λ (all : ShellFaults). all.out) same)) (faults out),
+  )
+  ended_faults err err_now (Err cut.Memory) same faults = (ap (λ (all : ShellFaults). all.input) same, λ i. record { out = (same i).out; err = (faults out i).err })
+
+  pub broken_faults : (err : ℕ) (end : SessionCut) (cut : Cut) → cut ≡ cut_of_session end → SessionCause before now (session_err end)
+      → SessionFaultBy {A = Status} input input_now (counts out err) (counts out_now err) (Err cut)
+  broken_faults err end cut is cause =
+      subst (λ (why : Cut). SessionFaultBy {A = Status} input input_now (counts out err) (counts out_now err) (Err why)) (sym is) (by end cause)
+    where
+      by : (end : SessionCut) → SessionCause before now (session_err end)
+          → SessionFaultBy {A = Status} input input_now (counts out err) (counts out_now err) (Err (cut_of_session end))
+      by session_cut.ReadFailed cause = (cause.0, λ i. counts (cause.1 i) err)
+      by session_cut.PutFailed cause = (cause.0, on_out cause.1 refl)
+      by session_cut.Memory cause = (ap (λ (all : ShellFaults). all.input) cause, λ i. counts (cause i).out err)
+
+-- a start that is out of tag words ends a session
+pub out_ends : (result : Result Status Cut) → IfOk result (λ status. status ≡ TagsOut) → IfOk result IsOfSession
+out_ends (Ok status) is = subst IsOfSession (sym is) tt
+out_ends (Err cut) is = tt

@@ -1,0 +1,74 @@
+//! A session of the monitor shell, from the image on.
+
+ghost use Rattle.std.specs.Prelude.{◌≡◌, ℕ, List, Option, ◌+◌, ◌≤◌, IfOk, IfSome, Ok};
+ghost use Rattle.host_io.specs.Fronts.{LosesFront};
+ghost use Rattle.pump_line.specs.Told.{shell_told};
+ghost use Rattle.pump_cli.specs.Codes.{IsOfSession};
+ghost use Rattle.pump_cli.specs.Early.{SessionFaultBy};
+ghost use Rattle.pump_cli.specs.Facts.{Does, IsLongInput, PutsFaultBy};
+ghost use Rattle.pump_cli.specs.Program.{outcome_of_end, outcome_of_lines};
+ghost use Rattle.pump_cli.specs.Reading.{input_limit};
+
+use crate::cut::Cut;
+use crate::ending::end_at_start;
+use crate::reading::INPUT_LIMIT;
+use crate::refusal::{Refusal, refuse};
+use crate::status::Status;
+use host_io::{Sink, Source};
+use image_format::Image;
+use pump_line::ShellTask;
+use pump_shell::{SessionEnd, Setup, run_session};
+use std::alloc::Global;
+
+/// Tells how a session ended, where that isn't by `quit` or with the input.
+fn end_session<L: Sink>(err: &mut L, end: SessionEnd) -> Result<Status, Cut>
+    ensures does { (out : Option (List ℕ)) → Does (outcome_of_end end)
+        (record { out = out; err = L.taken err.old })
+        (record { out = out; err = L.taken err.new }) result }
+    ensures faults { (out : ℕ) → PutsFaultBy
+        (record { out = out; err = L.faults err.old })
+        (record { out = out; err = L.faults err.new }) result }
+    ensures kind { IfOk result IsOfSession }
+    ensures long { result ≡ Ok Status.TooLong → end ≡ SessionEnd.TooLong }
+    ensures tags_out { result ≡ Ok Status.TagsOut → end ≡ SessionEnd.TagsOut }
+{
+    match end {
+        SessionEnd::Quit | SessionEnd::InputEnd => Ok(Status::Done),
+        SessionEnd::TooLong => refuse(err, Refusal::TooLong),
+        SessionEnd::TagsOut => end_at_start(err),
+    }
+}
+
+/// Obeys the lines of the input over an image, and tells how that ended.
+#[tactic(auto, unfolding(crate::specs::Reading::input_limit))]
+pub(crate) fn obey_lines<S: Source, K: Sink, L: Sink>(
+    alloc: Global,
+    task: ShellTask<'_>,
+    image: &Image,
+    input: &mut S,
+    out: &mut K,
+    err: &mut L,
+) -> Result<Status, Cut>
+    requires { 1 ≤ task.tags }
+    ensures does { IfSome (S.left input.old) (λ bytes. Does
+        (outcome_of_lines (shell_told task.entry) image.now bytes)
+        (record { out = K.taken out.old; err = L.taken err.old })
+        (record { out = K.taken out.new; err = L.taken err.new }) result) }
+    ensures faults { SessionFaultBy (S.faults input.old) (S.faults input.new)
+        (record { out = K.faults out.old; err = L.faults err.old })
+        (record { out = K.faults out.new; err = L.faults err.new }) result }
+    ensures kind { IfOk result IsOfSession }
+    ensures long { result ≡ Ok Status.TooLong → IfSome (S.left input.old) IsLongInput }
+    ensures unread { result ≡ Ok Status.TagsOut → input.new ≡ input.old }
+    ensures moved { LosesFront (S.left input.old) (S.left input.new) (input_limit + 4096) }
+{
+    let setup = Setup {
+        choice: task.choice,
+        cache: task.cache,
+        tags: task.tags,
+    };
+    match run_session(alloc, setup, image, input, INPUT_LIMIT, out) {
+        Ok(end) => end_session(err, end),
+        Err(cut) => Err(Cut::from(cut)),
+    }
+}

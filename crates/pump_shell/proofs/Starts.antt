@@ -1,0 +1,25 @@
+-- The start that a setup asks for, by whether rules are kept.
+use Rattle.std.proofs.Common.{◌≡◌, ℕ, ◌≤◌, ◌==◌, Bool, true, false, if◌then◌else◌, refl, ap, arith}
+use Rattle.std.proofs.lemmas.Bool.Decides.{nat_tests}
+use Rattle.image_format.specs.Picture.{Picture}
+use Rattle.policy_choice.specs.All.{AllState, AllTag}
+use Rattle.engine_trait.specs.Standing.{Standing}
+use Rattle.tag_loader.specs.Loads.{start_of}
+use Rattle.pump_loader.specs.Loads.{cached_start_of}
+use Rattle.pump_shell.specs.Told.{start_of_setup}
+use Rattle.pump_shell.specs.declared.setup.Setup.{Setup}
+
+keeps_some : (rules : ℕ) → 1 ≤ rules → (rules == 0) ≡ false
+keeps_some rules some = grind (arith, nat_tests)
+
+module _ (setup : Setup) (g : Picture) where
+  start_if : Bool → Standing AllState AllTag
+  start_if keeps_none = if keeps_none then start_of setup.choice g else cached_start_of setup.choice setup.cache setup.tags g
+
+  pub asked_start : setup.cache ≡ 0 → start_of_setup setup g ≡ start_of setup.choice g
+  unfolding start_of_setup start_if
+  asked_start none = ap start_if (ap (λ (rules : ℕ). rules == 0) none)
+
+  pub kept_start : 1 ≤ setup.cache → start_of_setup setup g ≡ cached_start_of setup.choice setup.cache setup.tags g
+  unfolding start_of_setup start_if
+  kept_start some = ap start_if (keeps_some setup.cache some)

@@ -1,0 +1,40 @@
+-- What a session over an image and an input puts, and how it ends.
+use Rattle.std.specs.Prelude.{ℕ, ◌==◌, Bool, List, [], if◌then◌else◌}
+use Rattle.image_format.specs.Picture.{Picture}
+use Rattle.host_io.specs.Pieces.{Piece}
+use Rattle.policy_trait.specs.Model.{PolicyModel}
+use Rattle.policy_choice.specs.All.{AllState, AllTag, all, all_eq}
+use Rattle.engine_trait.specs.Accounts.{is_over}
+use Rattle.engine_trait.specs.Standing.{Standing}
+use Rattle.tag_loader.specs.Loads.{start_of}
+use Rattle.pump_loader.specs.Loads.{cached_start_of}
+use Rattle.shell_run.specs.Session.{fresh}
+use Rattle.shell_script.specs.Shell.{Shell, shell_of}
+use Rattle.pump_shell.specs.Ends.{end_of}
+use Rattle.pump_shell.specs.declared.ends.SessionEnd.{SessionEnd}
+use Rattle.pump_shell.specs.declared.ends.SessionEnd.TheVariants.{TagsOut}
+use Rattle.pump_shell.specs.declared.setup.Setup.{Setup}
+
+pub record Told : Type 0 where
+  pub pieces : List Piece
+  pub end : SessionEnd
+
+-- a start that needs more tag words than there may be: no line is obeyed
+abbrev pub out_at_start : Told
+out_at_start = record { pieces = []; end = TagsOut }
+
+abbrev pub told_by : {S T : Type 0} → Shell S T → Told
+told_by shell = record { pieces = shell.pieces; end = end_of shell.end }
+
+-- from a start on, over an input of which at most `limit` bytes count
+unfoldable pub told_from : {S T : Type 0} → (T → T → Bool) → PolicyModel T S → ℕ → Standing S T → List ℕ → Told
+told_from eq m limit start input =
+    if is_over start.account then out_at_start else told_by (shell_of eq m limit (fresh start) input)
+
+-- the image's start under the chosen policies; with a cache of 0 no rules are kept, and no tag has a word
+unfoldable pub start_of_setup : Setup → Picture → Standing AllState AllTag
+start_of_setup setup g =
+    if setup.cache == 0 then start_of setup.choice g else cached_start_of setup.choice setup.cache setup.tags g
+
+abbrev pub told_of : Setup → Picture → ℕ → List ℕ → Told
+told_of setup g limit input = told_from all_eq all limit (start_of_setup setup g) input

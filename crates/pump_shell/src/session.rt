@@ -1,0 +1,158 @@
+//! A session, from its setup, its image and its input.
+
+ghost use Rattle.std.specs.Prelude.{◌≡◌, ◌+◌, ◌<◌, ◌≤◌, IfOk, IfSome, IsTrue, Ok, length, true};
+ghost use Rattle.host_io.specs.Fronts.{LosesFront};
+ghost use Rattle.engine_trait.specs.Accounts.{is_over};
+ghost use Rattle.shell_turns.specs.Cuts.{PutsOut};
+ghost use Rattle.pump_shell.specs.Ends.{SessionCause};
+ghost use Rattle.pump_shell.specs.Told.{start_of_setup, told_from, told_of};
+
+use crate::ends::{SessionCut, SessionEnd};
+use crate::setup::Setup;
+use engine_trait::{LoadEnd, Loader};
+use host_io::{Sink, Source};
+use image_format::Image;
+use pump_loader::PumpLoad;
+use shell_run::Session;
+use shell_script::obey_input;
+use std::alloc::Global;
+use tag_loader::PlainLoad;
+
+/// A session from the start that a loader makes. It stays a call, so that each kind of engine has a loop of its own.
+#[inline(never)]
+fn run_from<L: Loader, S: Source, K: Sink>(
+    alloc: Global,
+    loader: L,
+    input: &mut S,
+    limit: usize,
+    out: &mut K,
+) -> Result<SessionEnd, SessionCut>
+    requires { L.E.P.longest ≤ 460 }
+    ensures done { IfOk result (λ end. IfSome (S.left input.old) (λ bytes.
+        end ≡ (told_from L.E.P.Tag.eq L.E.P.model limit (L.start loader) bytes).end)) }
+    ensures puts { IfSome (S.left input.old) (λ bytes. PutsOut (K.taken out.old) (K.taken out.new)
+        (told_from L.E.P.Tag.eq L.E.P.model limit (L.start loader) bytes).pieces result) }
+    ensures long { result ≡ Ok SessionEnd.TooLong
+        → IfSome (S.left input.old) (λ bytes. limit < length bytes) }
+    ensures out_of_tags { result ≡ Ok SessionEnd.TagsOut
+        → is_over (L.start loader).account ≡ true }
+    ensures unread { result ≡ Ok SessionEnd.TagsOut → input.new ≡ input.old }
+    ensures silent { result ≡ Ok SessionEnd.TagsOut → K.taken out.new ≡ K.taken out.old }
+    ensures closed { result ≡ Ok SessionEnd.InputEnd → IsTrue (S.closed input.new) }
+    ensures moved { LosesFront (S.left input.old) (S.left input.new) (limit + 4096) }
+    ensures cause { SessionCause
+        (record { input = S.faults input.old; out = K.faults out.old })
+        (record { input = S.faults input.new; out = K.faults out.new }) result }
+{
+    let mut session = match Session::new(alloc, loader) {
+        Ok(session) => session,
+        Err(LoadEnd::TagsOut) => return Ok(SessionEnd::TagsOut),
+        Err(LoadEnd::Memory) => return Err(SessionCut::Memory),
+    };
+    match obey_input(&mut session, input, limit, out) {
+        Ok(end) => Ok(SessionEnd::of(end)),
+        Err(cut) => Err(SessionCut::from(cut)),
+    }
+}
+
+/// A session on the engine that asks its policies at every turn.
+fn session_asked<S: Source, K: Sink>(
+    alloc: Global,
+    setup: Setup,
+    image: &Image,
+    input: &mut S,
+    limit: usize,
+    out: &mut K,
+) -> Result<SessionEnd, SessionCut>
+    requires { setup.cache ≡ 0 }
+    ensures done { IfOk result (λ end. IfSome (S.left input.old) (λ bytes.
+        end ≡ (told_of setup image.now limit bytes).end)) }
+    ensures puts { IfSome (S.left input.old) (λ bytes. PutsOut (K.taken out.old) (K.taken out.new)
+        (told_of setup image.now limit bytes).pieces result) }
+    ensures long { result ≡ Ok SessionEnd.TooLong
+        → IfSome (S.left input.old) (λ bytes. limit < length bytes) }
+    ensures out_of_tags { result ≡ Ok SessionEnd.TagsOut
+        → is_over (start_of_setup setup image.now).account ≡ true }
+    ensures unread { result ≡ Ok SessionEnd.TagsOut → input.new ≡ input.old }
+    ensures silent { result ≡ Ok SessionEnd.TagsOut → K.taken out.new ≡ K.taken out.old }
+    ensures closed { result ≡ Ok SessionEnd.InputEnd → IsTrue (S.closed input.new) }
+    ensures moved { LosesFront (S.left input.old) (S.left input.new) (limit + 4096) }
+    ensures cause { SessionCause
+        (record { input = S.faults input.old; out = K.faults out.old })
+        (record { input = S.faults input.new; out = K.faults out.new }) result }
+{
+    let loader = PlainLoad::new(alloc, image, setup.choice);
+    run_from(alloc, loader, input, limit, out)
+}
+
+/// A session on the engine that keeps rules.
+fn session_kept<S: Source, K: Sink>(
+    alloc: Global,
+    setup: Setup,
+    image: &Image,
+    input: &mut S,
+    limit: usize,
+    out: &mut K,
+) -> Result<SessionEnd, SessionCut>
+    requires rules { 1 ≤ setup.cache }
+    requires tags { 1 ≤ setup.tags }
+    ensures done { IfOk result (λ end. IfSome (S.left input.old) (λ bytes.
+        end ≡ (told_of setup image.now limit bytes).end)) }
+    ensures puts { IfSome (S.left input.old) (λ bytes. PutsOut (K.taken out.old) (K.taken out.new)
+        (told_of setup image.now limit bytes).pieces result) }
+    ensures long { result ≡ Ok SessionEnd.TooLong
+        → IfSome (S.left input.old) (λ bytes. limit < length bytes) }
+    ensures out_of_tags { result ≡ Ok SessionEnd.TagsOut
+        → is_over (start_of_setup setup image.now).account ≡ true }
+    ensures unread { result ≡ Ok SessionEnd.TagsOut → input.new ≡ input.old }
+    ensures silent { result ≡ Ok SessionEnd.TagsOut → K.taken out.new ≡ K.taken out.old }
+    ensures closed { result ≡ Ok SessionEnd.InputEnd → IsTrue (S.closed input.new) }
+    ensures moved { LosesFront (S.left input.old) (S.left input.new) (limit + 4096) }
+    ensures cause { SessionCause
+        (record { input = S.faults input.old; out = K.faults out.old })
+        (record { input = S.faults input.new; out = K.faults out.new }) result }
+{
+    let loader = PumpLoad::new(alloc, image, setup.choice, setup.cache, setup.tags);
+    run_from(alloc, loader, input, limit, out)
+}
+
+/// Starts the image as the setup says, and obeys the input's lines, each as its newline comes, up to `quit` or to the end of the
+/// input, which ends a last line that was begun. Of an input of more than `limit` bytes those lines are obeyed that end within
+/// them. What is replied is put on `out` line by line. Where the start needs more tag words than there may be, the input is left
+/// alone, and nothing is put.
+pub fn run_session<S: Source, K: Sink>(
+    alloc: Global,
+    setup: Setup,
+    image: &Image,
+    input: &mut S,
+    limit: usize,
+    out: &mut K,
+) -> Result<SessionEnd, SessionCut>
+    requires { 1 ≤ setup.tags }
+
+    // Where the input tells its bytes, the replies and the end are those of the definition.
+    ensures done { IfOk result (λ end. IfSome (S.left input.old) (λ bytes.
+        end ≡ (told_of setup image.now limit bytes).end)) }
+    ensures puts { IfSome (S.left input.old) (λ bytes. PutsOut (K.taken out.old) (K.taken out.new)
+        (told_of setup image.now limit bytes).pieces result) }
+    ensures long { result ≡ Ok SessionEnd.TooLong
+        → IfSome (S.left input.old) (λ bytes. limit < length bytes) }
+
+    // A start that is out of tag words leaves input and output alone.
+    ensures out_of_tags { result ≡ Ok SessionEnd.TagsOut
+        → is_over (start_of_setup setup image.now).account ≡ true }
+    ensures unread { result ≡ Ok SessionEnd.TagsOut → input.new ≡ input.old }
+    ensures silent { result ≡ Ok SessionEnd.TagsOut → K.taken out.new ≡ K.taken out.old }
+
+    // What was moved out of the input stood first, and it is closed where its end was met.
+    ensures closed { result ≡ Ok SessionEnd.InputEnd → IsTrue (S.closed input.new) }
+    ensures moved { LosesFront (S.left input.old) (S.left input.new) (limit + 4096) }
+    ensures cause { SessionCause
+        (record { input = S.faults input.old; out = K.faults out.old })
+        (record { input = S.faults input.new; out = K.faults out.new }) result }
+{
+    if setup.cache == 0 {
+        return session_asked(alloc, setup, image, input, limit, out);
+    }
+    session_kept(alloc, setup, image, input, limit, out)
+}

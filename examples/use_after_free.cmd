@@ -1,0 +1,7 @@
+feed 6D41
+run 100
+why 0
+blocks
+mem E4 1
+tags E0 2
+quit
