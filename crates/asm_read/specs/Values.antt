@@ -1,0 +1,29 @@
+-- What an operand's text means.
+use Rattle.std.specs.Prelude.{ℕ, ℤ, Option, Some, None, Result, Ok, Err, if◌then◌else◌}
+use Rattle.std.specs.Option.{ok_or}
+use Rattle.asm_text.specs.Bytes.{is_name}
+use Rattle.asm_text.specs.Numbers.{number_of}
+use Rattle.asm_table.specs.Registers.{register_named}
+use Rattle.asm_read.specs.declared.errors.AsmErrorKind.{AsmErrorKind}
+use Rattle.asm_read.specs.declared.errors.AsmErrorKind.TheVariants as kinds
+use Rattle.asm_read.specs.declared.statements.Target.{Target}
+use Rattle.asm_read.specs.declared.statements.Target.TheVariants as targets
+use Rattle.asm_read.specs.Operands.{Text}
+
+-- the number of a register
+abbrev pub register_at : Text → Result ℕ AsmErrorKind
+register_at text = ok_or (register_named text) kinds.Register
+
+abbrev pub number_at : Text → Result ℤ AsmErrorKind
+number_at text = ok_or (number_of text) kinds.Number
+
+abbrev pub name_at : Text → Result Target AsmErrorKind
+name_at text = if is_name text then Ok (targets.Name text) else Err kinds.Operand
+
+abbrev pub number_or_name : Option ℤ → Text → Result Target AsmErrorKind
+number_or_name (Some number) text = Ok (targets.Number number)
+number_or_name None text = name_at text
+
+-- a number or a name; no text is both
+unfoldable pub target_at : Text → Result Target AsmErrorKind
+target_at text = number_or_name (number_of text) text

@@ -1,0 +1,43 @@
+-- Statements of assembler source: a name, and behind a space the operands, with a comma and a space between two.
+use Rattle.std.specs.Prelude.{ℕ, List, [], ◌∷◌, ◌++◌, codes}
+use Rattle.asm_show.specs.Operands.{Text, register, immediate, amount, upper, whole, target, place}
+
+abbrev pub listed : List Text → Text
+listed [] = []
+listed (operand ∷ []) = operand
+listed (operand ∷ next ∷ more) = operand ++ codes ", " ++ listed (next ∷ more)
+
+abbrev pub statement : Text → List Text → Text
+statement name operands = name ++ codes " " ++ listed operands
+
+-- a statement up to its second operand, behind the comma
+abbrev pub begun : Text → ℕ → Text
+begun name r = name ++ codes " " ++ register r ++ codes ", "
+
+-- ---- the statements of instructions, by their operands
+
+abbrev pub with_registers : Text → ℕ → ℕ → ℕ → Text
+with_registers name rd rs1 rs2 = statement name (register rd ∷ register rs1 ∷ register rs2 ∷ [])
+
+abbrev pub with_immediate : Text → ℕ → ℕ → ℕ → Text
+with_immediate name rd rs1 imm = statement name (register rd ∷ register rs1 ∷ immediate imm ∷ [])
+
+abbrev pub with_amount : Text → ℕ → ℕ → ℕ → Text
+with_amount name rd rs1 count = statement name (register rd ∷ register rs1 ∷ amount count ∷ [])
+
+abbrev pub with_upper : Text → ℕ → ℕ → Text
+with_upper name rd imm = statement name (register rd ∷ upper imm ∷ [])
+
+-- a load and a jump to a register have the result's register first, a store the stored one
+abbrev pub with_place : Text → ℕ → ℕ → ℕ → Text
+with_place name r base imm = statement name (register r ∷ place imm base ∷ [])
+
+abbrev pub branch : Text → ℕ → ℕ → ℕ → ℕ → Text
+branch name pc rs1 rs2 imm = statement name (register rs1 ∷ register rs2 ∷ target pc imm ∷ [])
+
+abbrev pub jump : Text → ℕ → ℕ → ℕ → Text
+jump name pc rd imm = statement name (register rd ∷ target pc imm ∷ [])
+
+-- a word that is written as a number
+abbrev pub plain_word : ℕ → Text
+plain_word word = statement (codes ".word") (whole word ∷ [])

@@ -1,0 +1,47 @@
+//! Words with their texts.
+
+use crate::show_instr;
+use pump_words::Line;
+
+/// An address, a word, and its text there. The words are those of LLVM's assembler; two are no instructions of RV32I.
+const TEXTS: [(u32, u32, &[u8]); 21] = [
+    (0, 0x0410_0513, b"addi x10, x0, 65"),
+    (0, 0xFFF5_B513, b"sltiu x10, x11, -1"),
+    (0, 0x0000_12B7, b"lui x5, 0x00001"),
+    (8, 0xFFFF_FF97, b"auipc x31, 0xFFFFF"),
+    (16, 0xFFDF_F06F, b"jal x0, 0x0000000C"),
+    (0xFFFF_FF00, 0x1000_00EF, b"jal x1, 0x00000000"),
+    (0, 0x0000_8067, b"jalr x0, 0(x1)"),
+    (28, 0xFFF7_0CE3, b"beq x14, x31, 0x00000014"),
+    (0xABCD_EF00, 0x0062_F863, b"bgeu x5, x6, 0xABCDEF10"),
+    (0, 0xFFC1_2283, b"lw x5, -4(x2)"),
+    (0, 0x7FF4_4F03, b"lbu x30, 2047(x8)"),
+    (0, 0x0064_2223, b"sw x6, 4(x8)"),
+    (0, 0x8073_0023, b"sb x7, -2048(x6)"),
+    (0, 0x41F3_5293, b"srai x5, x6, 31"),
+    (0, 0x4073_02B3, b"sub x5, x6, x7"),
+    (0, 0x0FF0_000F, b"fence"),
+    (0, 0x0210_000F, b".word 0x0210000F"),
+    (0, 0x0000_0073, b"ecall"),
+    (0, 0x0010_0073, b"ebreak"),
+    (0, 0xFFFF_FFFF, b".word 0xFFFFFFFF"),
+    (0, 0x0273_02B3, b".word 0x027302B3"),
+];
+
+#[test]
+fn each_word_is_shown(rt: HostRuntime) {
+    for (pc, word, text) in TEXTS {
+        let mut line = Line::new();
+        show_instr(pc, word, &mut line);
+        assert_eq!(rt; line.as_slice(), text, "{word} at {pc}");
+    }
+}
+
+/// The text is put behind what the line has.
+#[test]
+fn a_text_is_appended(rt: HostRuntime) {
+    let mut line = Line::new();
+    show_instr(0, 0x0000_0073, &mut line);
+    show_instr(0, 0x0010_0073, &mut line);
+    assert_eq!(rt; line.as_slice(), b"ecallebreak".as_slice());
+}
