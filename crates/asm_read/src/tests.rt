@@ -315,7 +315,7 @@ fn directive_told(alloc: Global, statement: &Statement<'_>) -> Result<String, Al
     }
 }
 
-/// A jump, or what has no registers, as the tables write it.
+/// A jump, or what has no other registers, as the tables write it.
 fn jump_told(alloc: Global, statement: &Statement<'_>) -> Result<String, AllocError> {
     match statement {
         Statement::Jump { rd, target } => {
@@ -343,39 +343,9 @@ fn jump_told(alloc: Global, statement: &Statement<'_>) -> Result<String, AllocEr
     }
 }
 
-/// A statement as the tables write it.
-fn statement_told(alloc: Global, statement: &Statement<'_>) -> Result<String, AllocError> {
+/// A load, a store or a branch, or what has at most one register, as the tables write it.
+fn access_told(alloc: Global, statement: &Statement<'_>) -> Result<String, AllocError> {
     match statement {
-        Statement::Registers {
-            operation,
-            rd,
-            rs1,
-            rs2,
-        } => {
-            format!(in alloc;
-                "{operation:?} x{} x{} x{}",
-                rd.number(),
-                rs1.number(),
-                rs2.number()
-            )
-        }
-        Statement::Immediate {
-            operation,
-            rd,
-            rs1,
-            number,
-        } => { format!(in alloc; "{operation:?} x{} x{} {number}", rd.number(), rs1.number()) }
-        Statement::Shift {
-            operation,
-            rd,
-            rs1,
-            number,
-        } => { format!(in alloc; "{operation:?} x{} x{} {number}", rd.number(), rs1.number()) }
-        Statement::Upper {
-            operation,
-            rd,
-            number,
-        } => format!(in alloc; "{operation:?} x{} {number}", rd.number()),
         Statement::Load {
             operation,
             rd,
@@ -415,6 +385,43 @@ fn statement_told(alloc: Global, statement: &Statement<'_>) -> Result<String, Al
             )
         }
         _ => jump_told(alloc, statement),
+    }
+}
+
+/// A statement as the tables write it.
+fn statement_told(alloc: Global, statement: &Statement<'_>) -> Result<String, AllocError> {
+    match statement {
+        Statement::Registers {
+            operation,
+            rd,
+            rs1,
+            rs2,
+        } => {
+            format!(in alloc;
+                "{operation:?} x{} x{} x{}",
+                rd.number(),
+                rs1.number(),
+                rs2.number()
+            )
+        }
+        Statement::Immediate {
+            operation,
+            rd,
+            rs1,
+            number,
+        } => { format!(in alloc; "{operation:?} x{} x{} {number}", rd.number(), rs1.number()) }
+        Statement::Shift {
+            operation,
+            rd,
+            rs1,
+            number,
+        } => { format!(in alloc; "{operation:?} x{} x{} {number}", rd.number(), rs1.number()) }
+        Statement::Upper {
+            operation,
+            rd,
+            number,
+        } => format!(in alloc; "{operation:?} x{} {number}", rd.number()),
+        _ => access_told(alloc, statement),
     }
 }
 
