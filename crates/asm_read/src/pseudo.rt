@@ -10,13 +10,6 @@ use crate::values::{number, register, target};
 use asm_table::ImmediateOperation;
 use rv_decode::Register;
 
-/// x1, where a call leaves the address to return to.
-fn return_register() -> Register
-    ensures { result ≡ 1 }
-{
-    Register::new(1).unwrap()
-}
-
 /// `li rd, n`.
 #[tactic(auto, unfolding(crate::specs::Pseudo::load_number))]
 pub(crate) fn load_number<'a>(text: &'a [u8]) -> Result<Statement<'a>, AsmErrorKind>
@@ -87,10 +80,9 @@ pub(crate) fn return_jump<'a>(text: &'a [u8]) -> Result<Statement<'a>, AsmErrorK
     ensures { result ≡ return_jump text.now }
 {
     no_operand(text)?;
-    let rs1 = return_register();
     Ok(Statement::JumpRegister {
         rd: Register::ZERO,
-        rs1,
+        rs1: Register::RA,
         offset: 0,
     })
 }

@@ -3,7 +3,6 @@ use Rattle.std.proofs.Common.{◌≡◌, ℕ, ◌-◌, ◌^◌, ◌<◌, ◌≤�
 use Rattle.std.proofs.lemmas.Fmt.{length-decimal-le}
 use Rattle.std.proofs.lemmas.Grind.{common_steps}
 use Rattle.std.proofs.lemmas.Int.{ints}
-use Rattle.std.proofs.lemmas.List.FromFn.{length-map-range_with_len, map-range_with_len_more}
 use Rattle.std.proofs.Math.Facts.{to_z-neg}
 use Rattle.std.specs.Int.{w32}
 use Rattle.std.specs.Fmt.{decimal, signed_decimal}
@@ -31,6 +30,3 @@ immediate_high n high fits =
     ap signed_decimal is_negative ∙ ap (λ k. 45 ∷ decimal k) size
 
 pub ruleset numbers = (common_steps, length_small, length_immediate, immediate_low, immediate_high)
-
--- one more digit at the end of those so far
-pub ruleset digits_so_far = (common_steps, length-map-range_with_len, map-range_with_len_more)

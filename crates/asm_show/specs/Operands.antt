@@ -1,8 +1,7 @@
 -- The operands of an instruction, as assembler source writes them.
-use Rattle.std.specs.Prelude.{ℕ, ◌+◌, ◌%◌, ◌^◌, List, ◌++◌, map, codes}
+use Rattle.std.specs.Prelude.{ℕ, ◌+◌, ◌%◌, ◌^◌, List, ◌++◌, codes}
 use Rattle.std.specs.Fmt.{decimal, signed_decimal}
-use Rattle.std.specs.List.{range_with_len}
-use Rattle.pump_words.specs.Texts.{hex_digit_of, hex8_text}
+use Rattle.pump_words.specs.Texts.{hex5_text, hex8_text}
 use Rattle.pump_words.specs.Words.{signed}
 
 -- the bytes of a text
@@ -21,13 +20,9 @@ immediate imm = signed_decimal (signed imm)
 abbrev pub amount : ℕ → Text
 amount count = decimal count
 
--- the first five of a word's eight hexadecimal digits, which are its upper 20 bits
-abbrev pub upper_digits : ℕ → Text
-upper_digits word = map (hex_digit_of word) (range_with_len 0 5)
-
 -- an immediate of the upper 20 bits
 abbrev pub upper : ℕ → Text
-upper imm = codes "0x" ++ upper_digits imm
+upper imm = codes "0x" ++ hex5_text imm
 
 -- a whole word, as eight hexadecimal digits
 abbrev pub whole : ℕ → Text

@@ -10,10 +10,7 @@ use crate::statements::{
     write_with_place, write_with_registers, write_with_upper,
 };
 use pump_words::{Line, write_text};
-use rv_decode::{Instr, decode};
-
-/// The FENCE of all reads and writes, and of all input and output, against all of them.
-const FULL_FENCE: u32 = 0x0FF0_000F;
+use rv_decode::{FenceWord, Instr, decode};
 
 /// Appends the text of the word at the address `pc`: the statement of assembler source that stands for it there.
 ///
@@ -78,21 +75,21 @@ fn write_instr(line: &mut Line, pc: u32, instr: Instr)
         Instr::Sra { rd, rs1, rs2 } => write_with_registers(line, b"sra", rd, rs1, rs2),
         Instr::Or { rd, rs1, rs2 } => write_with_registers(line, b"or", rd, rs1, rs2),
         Instr::And { rd, rs1, rs2 } => write_with_registers(line, b"and", rd, rs1, rs2),
-        Instr::Fence { word } => write_fence(line, word.word()),
+        Instr::Fence { word } => write_fence(line, word),
         Instr::Ecall => write_text(line, b"ecall"),
         Instr::Ebreak => write_text(line, b"ebreak"),
     }
 }
 
 /// The statement of a FENCE.
-fn write_fence(line: &mut Line, word: u32)
+fn write_fence(line: &mut Line, word: FenceWord)
     requires { array_vec_len line.old + 16 ≤ 512 }
     ensures text { line.new.items ≡ line.old.items ++ fence_text word }
     ensures short { array_vec_len line.new ≤ array_vec_len line.old + 16 }
 {
-    if word == FULL_FENCE {
+    if word == FenceWord::FULL {
         write_text(line, b"fence");
     } else {
-        write_plain_word(line, word);
+        write_plain_word(line, word.word());
     }
 }

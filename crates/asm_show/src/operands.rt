@@ -2,12 +2,10 @@
 
 ghost use Rattle.std.specs.Prelude.{◌≡◌, ◌+◌, ◌≤◌, ◌++◌};
 ghost use Rattle.arrayvec.specs.ArrayVec.{array_vec_len};
-ghost use Rattle.asm_show.specs.Operands.{amount, immediate, place, register, target, upper, upper_digits, whole};
+ghost use Rattle.asm_show.specs.Operands.{amount, immediate, place, register, target, upper, whole};
 
-use pump_words::{Line, dec, hex8, write_text};
+use pump_words::{Line, dec, hex5, hex8, write_text};
 use rv_decode::{Immediate, Register, ShiftAmount, UpperImmediate};
-
-const HEX_DIGITS: &[u8; 16] = b"0123456789ABCDEF";
 
 /// Appends a register.
 #[tactic(auto, using(crate::proofs::TextLemmas::numbers))]
@@ -53,19 +51,7 @@ pub(crate) fn write_upper(line: &mut Line, imm: UpperImmediate)
     ensures short { array_vec_len line.new ≤ array_vec_len line.old + 7 }
 {
     write_text(line, b"0x");
-    write_upper_digits(line, imm.word());
-}
-
-/// The first five of the eight hexadecimal digits of a word.
-#[tactic(auto, using(crate::proofs::TextLemmas::digits_so_far))]
-fn write_upper_digits(line: &mut Line, word: u32)
-    requires { array_vec_len line.old + 5 ≤ 512 }
-    ensures text { line.new.items ≡ line.old.items ++ upper_digits word }
-    ensures len { array_vec_len line.new ≡ array_vec_len line.old + 5 }
-{
-    for k in 0..5u32 {
-        line.push(HEX_DIGITS[((word >> (28 - 4 * k)) % 16) as usize]);
-    }
+    hex5(line, imm.word());
 }
 
 /// Appends a whole word.

@@ -14,6 +14,14 @@ hex2_text byte = hex_digit (byte / 16) ∷ hex_digit (byte % 16) ∷ []
 abbrev pub hex_digit_of : ℕ → ℕ → ℕ
 hex_digit_of word k = hex_digit (word / 2 ^ (28 - 4 * k) % 16)
 
+-- the first so many of them
+abbrev pub first_digits : ℕ → ℕ → List ℕ
+first_digits word count = map (hex_digit_of word) (range_with_len 0 count)
+
+-- the upper 20 bits of a word as five hexadecimal digits
+abbrev pub hex5_text : ℕ → List ℕ
+hex5_text word = first_digits word 5
+
 -- a word as eight hexadecimal digits
 abbrev pub hex8_text : ℕ → List ℕ
-hex8_text word = map (hex_digit_of word) (range_with_len 0 8)
+hex8_text word = first_digits word 8

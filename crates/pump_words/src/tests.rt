@@ -2,8 +2,8 @@
 //! are read.
 
 use crate::{
-    Line, byte_of, dec, half_of, hex2, hex8, lt_signed, read_number, sign8, sign12, sign13, sign16,
-    sign21, sra, with_byte, with_half, write_text,
+    Line, byte_of, dec, half_of, hex2, hex5, hex8, lt_signed, read_number, sign8, sign12, sign13,
+    sign16, sign21, sra, with_byte, with_half, write_text,
 };
 
 #[test]
@@ -39,9 +39,11 @@ fn texts_are_appended(rt: HostRuntime) {
     dec(&mut line, 18446744073709551615);
     write_text(&mut line, b" ");
     hex2(&mut line, 0x0C);
+    write_text(&mut line, b" ");
+    hex5(&mut line, 0xFFFF_F123);
     assert_eq!(rt;
         line.as_slice(),
-        b"stop 0012ABCF 0 18446744073709551615 0C".as_slice()
+        b"stop 0012ABCF 0 18446744073709551615 0C FFFFF".as_slice()
     );
 }
 

@@ -4,7 +4,7 @@ ghost use Rattle.std.specs.Prelude.{◌≡◌, ◌+◌, ◌≤◌, ◌++◌, len
 ghost use Rattle.std.specs.Fmt.{decimal};
 ghost use Rattle.std.specs.Str.Parse.{digits_value};
 ghost use Rattle.arrayvec.specs.ArrayVec.{array_vec_len};
-ghost use Rattle.pump_words.specs.Texts.{hex2_text, hex8_text};
+ghost use Rattle.pump_words.specs.Texts.{first_digits, hex2_text, hex5_text, hex8_text};
 
 use arrayvec::ArrayVec;
 
@@ -34,15 +34,34 @@ pub fn hex2(line: &mut Line, byte: u8)
     line.push(HEX_DIGITS[(byte % 16) as usize]);
 }
 
+/// Appends the upper 20 bits of a word as five hexadecimal digits in upper case.
+pub fn hex5(line: &mut Line, word: u32)
+    requires room { array_vec_len line.old + 5 ≤ 512 }
+    ensures text { line.new.items ≡ line.old.items ++ hex5_text word }
+    ensures len { array_vec_len line.new ≡ array_vec_len line.old + 5 }
+{
+    write_digits(line, word, 5);
+}
+
 /// Appends a word as eight hexadecimal digits in upper case.
-#[tactic(auto, using(crate::proofs::TextLemmas::digits_so_far))]
 pub fn hex8(line: &mut Line, word: u32)
     requires room { array_vec_len line.old + 8 ≤ 512 }
     ensures text { line.new.items ≡ line.old.items ++ hex8_text word }
     ensures value { digits_value 16 (hex8_text word) ≡ word }
     ensures len { array_vec_len line.new ≡ array_vec_len line.old + 8 }
 {
-    for k in 0..8u32 {
+    write_digits(line, word, 8);
+}
+
+// The first `count` of a word's eight hexadecimal digits.
+#[tactic(auto, using(crate::proofs::TextLemmas::digits_so_far))]
+fn write_digits(line: &mut Line, word: u32, count: u32)
+    requires room { array_vec_len line.old + count ≤ 512 }
+    requires digits { count ≤ 8 }
+    ensures text { line.new.items ≡ line.old.items ++ first_digits word count }
+    ensures len { array_vec_len line.new ≡ array_vec_len line.old + count }
+{
+    for k in 0..count {
         line.push(HEX_DIGITS[((word >> (28 - 4 * k)) % 16) as usize]);
     }
 }

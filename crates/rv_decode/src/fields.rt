@@ -1,7 +1,7 @@
 //! The fields of an instruction, each kept within its range by its type.
 //! A contract sees each of them as a number.
 
-ghost use Rattle.std.specs.Prelude.{◌≡◌, ◌*◌, ◌%◌, ◌^◌, ◌<◌, SomeIff};
+ghost use Rattle.std.specs.Prelude.{◌≡◌, ◌+◌, ◌*◌, ◌/◌, ◌%◌, ◌^◌, ◌<◌, SomeIff};
 ghost use Rattle.pump_words.specs.Words.{sign_extended};
 ghost use Rattle.rv_decode.specs.Fields.{opcode_of, f3_of};
 
@@ -10,7 +10,7 @@ use pump_words::{sign12, sign13, sign21};
 use std::marker::Model;
 
 /// The number of a register, 0 to 31.
-#[derive(Clone, Copy, PartialEq, Eq)]
+#[derive(Clone, Copy, Debug, PartialEq, Eq)]
 pub struct Register {
     number: u8,
 }
@@ -30,6 +30,8 @@ impl Model for Register {
 impl Register {
     /// x0, which is 0 and drops what is written.
     pub const ZERO: Register = Register { number: 0 };
+    /// x1, where a call leaves the address that it returns to.
+    pub const RA: Register = Register { number: 1 };
     /// x10, the first argument and the answer of a service.
     pub const A0: Register = Register { number: 10 };
     /// x17, the number of a service.
@@ -64,7 +66,7 @@ impl Register {
 }
 
 /// The amount of a shift by a constant, 0 to 31.
-#[derive(Clone, Copy, PartialEq, Eq)]
+#[derive(Clone, Copy, Debug, PartialEq, Eq)]
 pub struct ShiftAmount {
     count: u32,
 }
@@ -111,7 +113,7 @@ impl ShiftAmount {
 }
 
 /// An immediate or offset of 12 bits, sign-extended to a word: -2048 to 2047.
-#[derive(Clone, Copy, PartialEq, Eq)]
+#[derive(Clone, Copy, Debug, PartialEq, Eq)]
 pub struct Immediate {
     word: u32,
 }
@@ -142,7 +144,7 @@ impl Immediate {
     }
 
     /// The immediate of the low 12 bits.
-    pub(crate) fn of_bits(bits: u32) -> Immediate
+    pub fn of_bits(bits: u32) -> Immediate
         ensures { result ≡ sign_extended 12 bits }
     {
         Immediate { word: sign12(bits) }
@@ -158,7 +160,7 @@ impl Immediate {
 }
 
 /// The offset of a branch: an even number of 13 bits, sign-extended to a word, -4096 to 4094.
-#[derive(Clone, Copy, PartialEq, Eq)]
+#[derive(Clone, Copy, Debug, PartialEq, Eq)]
 pub struct BranchOffset {
     word: u32,
 }
@@ -207,7 +209,7 @@ impl BranchOffset {
 }
 
 /// The offset of a jump: an even number of 21 bits, sign-extended to a word, -1048576 to 1048574.
-#[derive(Clone, Copy, PartialEq, Eq)]
+#[derive(Clone, Copy, Debug, PartialEq, Eq)]
 pub struct JumpOffset {
     word: u32,
 }
@@ -256,7 +258,7 @@ impl JumpOffset {
 }
 
 /// The upper 20 bits of a word, with twelve zeros below.
-#[derive(Clone, Copy, PartialEq, Eq)]
+#[derive(Clone, Copy, Debug, PartialEq, Eq)]
 pub struct UpperImmediate {
     word: u32,
 }
@@ -286,11 +288,20 @@ impl UpperImmediate {
     }
 
     /// The immediate whose upper 20 bits are these.
-    pub(crate) fn of_bits(bits: u32) -> UpperImmediate
+    pub fn of_bits(bits: u32) -> UpperImmediate
         requires { bits < 2 ^ 20 }
         ensures { result ≡ bits * 2 ^ 12 }
     {
         UpperImmediate { word: bits << 12 }
+    }
+
+    /// The one that an immediate of 12 bits, the low bits of `word`, brings to `word`.
+    pub fn below(word: u32) -> UpperImmediate
+        ensures { result ≡ (word + 0x800) % 2 ^ 32 / 2 ^ 12 * 2 ^ 12 }
+    {
+        UpperImmediate {
+            word: word.wrapping_add(0x800) / 0x1000 * 0x1000,
+        }
     }
 
     /// The whole word, a multiple of 4096.
@@ -303,7 +314,7 @@ impl UpperImmediate {
 }
 
 /// The word of a FENCE: opcode 0F and f3 0, with all other bits free.
-#[derive(Clone, Copy, PartialEq, Eq)]
+#[derive(Clone, Copy, Debug, PartialEq, Eq)]
 pub struct FenceWord {
     word: u32,
 }
@@ -322,6 +333,9 @@ impl Model for FenceWord {
 }
 
 impl FenceWord {
+    /// The FENCE of all reads and writes, and of all input and output, against all of them.
+    pub const FULL: FenceWord = FenceWord { word: 0x0FF0_000F };
+
     /// The FENCE that is this word; `None` where its opcode or its f3 is another.
     pub fn new(word: u32) -> Option<FenceWord>
         ensures { SomeIff result ((opcode_of word ≡ 0x0F) × (f3_of word ≡ 0)) word }

@@ -1,7 +1,7 @@
 use Rattle.std.proofs.Common.{append_assoc, refl, arith}
 use Rattle.std.proofs.lemmas.List.FromFn.{map-range_with_len_more}
 use Rattle.pump_words.specs.Texts.{hex_digit_of}
-use Rattle.asm_show.proofs.operands.write_upper_digits.Goals as goal
+use Rattle.pump_words.proofs.texts.write_digits.Goals as goal
 
 pub loop-k-preserved : goal.loop-k-preserved
 loop-k-preserved c =
