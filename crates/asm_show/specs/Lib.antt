@@ -1,3 +1,4 @@
 pub mod Instructions
+pub mod Listing
 pub mod Operands
 pub mod Statements

@@ -2,9 +2,11 @@
 #![tactic(auto)]
 
 mod instructions;
+mod listing;
 mod operands;
 mod statements;
 #[cfg(test)]
 mod tests;
 
 pub use instructions::show_instr;
+pub use listing::list_word;

@@ -1,6 +1,6 @@
 //! Words with their texts.
 
-use crate::show_instr;
+use crate::{list_word, show_instr};
 use pump_words::Line;
 
 /// An address, a word, and its text there. The words are those of LLVM's assembler; two are no instructions of RV32I.
@@ -44,4 +44,12 @@ fn a_text_is_appended(rt: HostRuntime) {
     show_instr(0, 0x0000_0073, &mut line);
     show_instr(0, 0x0010_0073, &mut line);
     assert_eq!(rt; line.as_slice(), b"ecallebreak".as_slice());
+}
+
+/// The line of the first word of a program that prints a letter.
+#[test]
+fn a_word_is_listed(rt: HostRuntime) {
+    let mut line = Line::new();
+    list_word(0, 0x0410_0513, &mut line);
+    assert_eq!(rt; line.as_slice(), b"00000000 04100513 addi x10, x0, 65\n".as_slice());
 }

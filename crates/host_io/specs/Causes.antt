@@ -4,6 +4,8 @@ use Rattle.host_io.specs.declared.traits.sink.PutEnd.{PutEnd}
 use Rattle.host_io.specs.declared.traits.sink.PutEnd.TheVariants as put_end
 use Rattle.host_io.specs.declared.traits.files.LoadFile.{LoadFile}
 use Rattle.host_io.specs.declared.traits.files.LoadFile.TheVariants as load_file
+use Rattle.host_io.specs.declared.traits.files.SaveFile.{SaveFile}
+use Rattle.host_io.specs.declared.traits.files.SaveFile.TheVariants as save_file
 use Rattle.host_io.specs.declared.traits.source.Failed.{Failed}
 use Rattle.host_io.specs.declared.whole_input.ReadEnd.{ReadEnd}
 use Rattle.host_io.specs.declared.whole_input.ReadEnd.TheVariants as read_end
@@ -48,3 +50,10 @@ LoadCause before now name (Ok _) = now ≡ before
 LoadCause before now name (Err load_file.Failed) = RoseAt before now name
 LoadCause before now name (Err load_file.TooLong) = now ≡ before
 LoadCause before now name (Err load_file.Memory) = now ≡ before
+
+-- The same of a save.
+abbrev pub SaveCause : {T : Type 0} →
+    (List ℕ → ℕ) → (List ℕ → ℕ) → List ℕ → Result T SaveFile → Type 0
+SaveCause before now name (Ok _) = now ≡ before
+SaveCause before now name (Err save_file.Failed) = RoseAt before now name
+SaveCause before now name (Err save_file.Memory) = now ≡ before

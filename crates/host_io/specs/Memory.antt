@@ -1,7 +1,7 @@
 -- What the implementations in memory hold.
 use Rattle.std.specs.Prelude.{ℕ, ◌<◌, List}
 use Rattle.std.specs.Bool.{IsFalse}
-use Rattle.host_io.specs.FaultPlan.{Plan}
+use Rattle.host_io.specs.FaultPlan.{Calls, Plan}
 use Rattle.host_io.specs.Supply.{Supply, is_closed}
 
 -- A sink: the bytes taken so far, and the plan of its faults.
@@ -18,10 +18,13 @@ pub record PlannedSource : Type 0 where
 abbrev pub IsNumberedRead : ℕ → Supply → Type 0
 IsNumberedRead room supply = (0 < room) × IsFalse (is_closed supply)
 
--- Files: the bytes of each name, and the plan of the loads' faults. Every load has a number.
+-- Files: the bytes of each name, the loads and saves, which are numbered together, and how many of
+-- each failed so far.
 pub record PlannedFiles : Type 0 where
   pub files : List (List ℕ × List ℕ)
-  pub plan : Plan
+  pub calls : Calls
+  pub read_faults : ℕ
+  pub write_faults : ℕ
 
 -- Files without faults: the bytes of each name, and how many calls were made.
 pub record SteadyFiles : Type 0 where

@@ -12,8 +12,9 @@ pub record CountedSource (R : Type 0) : Type 0 where
   pub closed : Bool
   pub faults : ℕ
 
--- A file system, how many loads were made so far, and how many of them failed.
+-- A file system, how many loads and saves were made so far, and how many of each failed.
 pub record CountedFiles (S : Type 0) : Type 0 where
   pub system : S
   pub calls : ℕ
-  pub faults : ℕ
+  pub read_faults : ℕ
+  pub write_faults : ℕ

@@ -1,5 +1,6 @@
 // The outside in memory: with calls that are to fail, and without any fault.
 
+mod call_plan;
 mod fault_plan;
 mod held_files;
 pub mod mem_files;

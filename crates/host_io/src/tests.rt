@@ -3,8 +3,8 @@ ghost use Rattle.std.specs.Prelude.{IfOk};
 ghost use Rattle.host_io.specs.Held.{files_of, AreNamesDistinct};
 
 use crate::{
-    Failed, Files, LoadFile, MemFiles, MemSink, MemSource, PutEnd, ReadEnd, Sink, Source, StdFiles,
-    StdSink, StdSource, SureFiles, SureSink, SureSource, read_to_end,
+    Failed, Files, LoadFile, MemFiles, MemSink, MemSource, PutEnd, ReadEnd, SaveFile, Sink, Source,
+    StdFiles, StdSink, StdSource, SureFiles, SureSink, SureSource, read_to_end,
 };
 use std::alloc::{AllocError, Global};
 use std::io::{Read, Write};
@@ -172,6 +172,18 @@ fn check_loads<F: Files>(
     }
 }
 
+// Each save is of the name, with the bytes of the text.
+fn check_saves<F: Files>(
+    rt: &(impl Abort + AllocGlobal),
+    files: &mut F,
+    saves: &[(&str, &str, Result<(), SaveFile>)],
+) {
+    for (name, text, answer) in saves {
+        let saved = files.save(rt.alloc(), name, text.as_bytes());
+        assert_eq!(rt; saved, *answer, "at {name}");
+    }
+}
+
 fn two_files(alloc: Global) -> Result<Vec<(String, Vec<u8>)>, AllocError>
     ensures { IfOk result (λ files. AreNamesDistinct (files_of files.items)) }
 {
@@ -193,7 +205,38 @@ fn mem_files_fail_where_planned(rt: HostRuntime) -> Result<(), Fail> {
     ];
     check_loads(&rt, &mut files, &loads);
     assert_eq!(rt; files.next_call(), 5);
-    assert_eq!(rt; files.faults(), 2);
+    assert_eq!(rt; files.read_faults(), 2);
+    assert_eq!(rt; files.write_faults(), 0);
+    Ok(())
+}
+
+// Loads and saves are numbered together. The third and the fifth save and the third load after them
+// fail, and so does the load of the name that was not saved.
+#[test]
+fn mem_files_are_saved(rt: HostRuntime) -> Result<(), Fail> {
+    let fails = vec![in rt.alloc(); 2, 4, 7]?;
+    let mut files = MemFiles::new(rt.alloc(), two_files(rt.alloc())?, fails);
+    let saves = [
+        ("hello", "CDE", Ok(())),
+        ("new", "F", Ok(())),
+        ("other", "G", Err(SaveFile::Failed)),
+        ("hello", "", Ok(())),
+        ("newer", "H", Err(SaveFile::Failed)),
+    ];
+    check_saves(&rt, &mut files, &saves);
+    let loads = [
+        ("hello", 2, Ok("")),
+        ("new", 2, Ok("F")),
+        ("other", 2, Err(LoadFile::Failed)),
+        ("other", 2, Ok("B")),
+        ("newer", 2, Err(LoadFile::Failed)),
+    ];
+    check_loads(&rt, &mut files, &loads);
+    check_saves(&rt, &mut files, &[("new", "IJ", Ok(()))]);
+    check_loads(&rt, &mut files, &[("new", 2, Ok("IJ"))]);
+    assert_eq!(rt; files.next_call(), 12);
+    assert_eq!(rt; files.read_faults(), 2);
+    assert_eq!(rt; files.write_faults(), 2);
     Ok(())
 }
 
@@ -206,7 +249,15 @@ fn sure_files_hold_every_name(rt: HostRuntime) -> Result<(), Fail> {
         ("hell", 0, Ok("")),
     ];
     check_loads(&rt, &mut files, &loads);
-    assert_eq!(rt; files.calls(), 3);
+    let saves = [("hell", "C", Ok(())), ("hello", "DEF", Ok(()))];
+    check_saves(&rt, &mut files, &saves);
+    let after = [
+        ("hello", 3, Ok("DEF")),
+        ("hell", 3, Ok("C")),
+        ("other", 3, Ok("B")),
+    ];
+    check_loads(&rt, &mut files, &after);
+    assert_eq!(rt; files.calls(), 8);
     Ok(())
 }
 
@@ -304,7 +355,30 @@ fn std_adapters_share_a_file(rt: HostRuntime) -> Result<(), Fail> {
     ];
     check_loads(&rt, &mut files, &loads);
     assert_eq!(rt; files.calls(), 3);
-    assert_eq!(rt; files.faults(), 1);
+    assert_eq!(rt; files.read_faults(), 1);
+    assert_eq!(rt; files.write_faults(), 0);
+    fs::remove_file(&rt, path.as_path())?;
+    Ok(())
+}
+
+// A file of the system is made, and then holds what was saved last. A folder can't be saved.
+#[test]
+fn std_files_are_saved(rt: HostRuntime) -> Result<(), Fail> {
+    let id = process::id(rt.process());
+    let name = format!(in rt.alloc(); "host_io_test_saved_{id}")?;
+    let folder = env::temp_dir(&rt)?;
+    let path = folder.join(rt.alloc(), name.as_str())?;
+    let mut files = StdFiles::new(&rt);
+    let saves = [
+        (path.as_str(), "abc", Ok(())),
+        (path.as_str(), "d", Ok(())),
+        (folder.as_str(), "e", Err(SaveFile::Failed)),
+    ];
+    check_saves(&rt, &mut files, &saves);
+    check_loads(&rt, &mut files, &[(path.as_str(), 3, Ok("d"))]);
+    assert_eq!(rt; files.calls(), 4);
+    assert_eq!(rt; files.read_faults(), 0);
+    assert_eq!(rt; files.write_faults(), 1);
     fs::remove_file(&rt, path.as_path())?;
     Ok(())
 }

@@ -11,3 +11,4 @@ pub use law::{mirror_law, rounds_law};
 pub use order::next_turn;
 pub use running::{RoundsEnd, make_rounds};
 pub use stops::stops_of;
+pub use telling::put_stop;

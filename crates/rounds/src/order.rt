@@ -50,7 +50,9 @@ fn unless_stopped<E: Engine>(engine: &E, next: Option<u32>) -> Option<u32>
 /// hart is ready.
 #[tactic(auto, unfolding(crate::specs::Course::next_turn))]
 pub fn next_turn<E: Engine>(engine: &E, from: u32) -> Option<u32>
-    ensures { result ≡ next_turn (E.standing engine.now) from }
+    ensures next { result ≡ next_turn (E.standing engine.now) from }
+    ensures hart { IfSome result (λ h. h < length (E.standing engine.now).machine.core.harts) }
+    ensures few { IfSome result (λ h. h < 8) }
 {
     unless_stopped(engine, next_hart(engine, from))
 }

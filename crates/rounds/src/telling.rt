@@ -38,17 +38,17 @@ pub(crate) fn tell<K: Sink, L: Sink>(
     }
 }
 
-/// Puts the line of the stop of hart `h`. It stays a call, since few turns stop a hart, and the room of the line would
-/// be cleared at every turn.
+/// Puts the line of the stop of hart `h` on a sink. It stays a call, since few turns stop a hart, and the room of the line
+/// would be cleared at every turn.
 #[inline(never)]
-fn put_stop<L: Sink>(h: u32, why: Stop, err: &mut L) -> Result<(), PutEnd>
-    ensures ok { OnOk result (TakesAll (L.taken err.old) (L.taken err.new) (stop_line h why)) }
+pub fn put_stop<K: Sink>(h: u32, why: Stop, sink: &mut K) -> Result<(), PutEnd>
+    ensures ok { OnOk result (TakesAll (K.taken sink.old) (K.taken sink.new) (stop_line h why)) }
     ensures failed { result ≡ Err PutEnd.Failed
-        → TakesFront (L.taken err.old) (L.taken err.new) (stop_line h why) }
-    ensures memory { result ≡ Err PutEnd.Memory → L.taken err.new ≡ L.taken err.old }
-    ensures cause { PutCause (L.faults err.old) (L.faults err.new) result }
+        → TakesFront (K.taken sink.old) (K.taken sink.new) (stop_line h why) }
+    ensures memory { result ≡ Err PutEnd.Memory → K.taken sink.new ≡ K.taken sink.old }
+    ensures cause { PutCause (K.faults sink.old) (K.faults sink.new) result }
 {
     let mut line = Line::new();
     write_stop_line(&mut line, h, why);
-    err.put(&line)
+    sink.put(&line)
 }

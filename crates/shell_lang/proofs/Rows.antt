@@ -3,7 +3,7 @@ use Rattle.std.proofs.Common.{◌≡◌, [], ◌∷◌, codes, refl}
 use Rattle.std.specs.Prelude.{⊤, Ok, Err, replicate}
 use Rattle.hex.proofs.OnLiterals.{hex_on_literals}
 use Rattle.shell_lang.specs.declared.bad_command.BadCommand.TheVariants.{UnknownWord, OperandCount, Malformed, OutOfRange, OddHexadecimal, TooLong}
-use Rattle.shell_lang.specs.declared.command.Command.TheVariants.{Blank, Step, Run, Turns, Feed, Regs, Pc, Mem, Tags, Why, Blocks, Stats, Break, Clear, Reset, Quit}
+use Rattle.shell_lang.specs.declared.command.Command.TheVariants.{Blank, Step, Run, Turns, Feed, Regs, Pc, Mem, Tags, Dis, Why, Blocks, Stats, Break, Clear, Reset, Quit}
 use Rattle.shell_lang.specs.Grammar.{feed_command, hart_operand, hart_view, line_answer, machine_view, place_operand, plain_command, range_operands, run_command, running_command, session_command, step_command, turns_command}
 use Rattle.shell_lang.specs.Words.{words_of}
 
@@ -68,6 +68,11 @@ mem_row = refl
 tags_row : line_answer (codes "tags 10 2") ≡ Ok (Tags 16 2)
 unfolding on_rows
 tags_row = refl
+
+-- words with their statements
+dis_row : line_answer (codes "dis 1C 3") ≡ Ok (Dis 28 3)
+unfolding on_rows
+dis_row = refl
 
 -- why a hart stopped
 why_row : line_answer (codes "why 2") ≡ Ok (Why 2)
@@ -180,6 +185,11 @@ no_word = refl
 word_too_many : line_answer (codes "tags 4 1025") ≡ Err OutOfRange
 unfolding on_rows
 word_too_many = refl
+
+-- words with their statements that are a word too many
+statement_too_many : line_answer (codes "dis 4 1025") ≡ Err OutOfRange
+unfolding on_rows
+statement_too_many = refl
 
 -- the longest line
 longest : line_answer (replicate 256 32) ≡ Ok Blank

@@ -6,7 +6,7 @@ use Rattle.std.specs.Str.{bytes_eq}
 use Rattle.shell_lang.specs.declared.bad_command.BadCommand.{BadCommand}
 use Rattle.shell_lang.specs.declared.bad_command.BadCommand.TheVariants.{UnknownWord, TooLong}
 use Rattle.shell_lang.specs.declared.command.Command.{Command}
-use Rattle.shell_lang.specs.declared.command.Command.TheVariants.{Blank, Step, Run, Turns, Feed, Regs, Pc, Mem, Tags, Why, Blocks, Stats, Break, Clear, Reset, Quit}
+use Rattle.shell_lang.specs.declared.command.Command.TheVariants.{Blank, Step, Run, Turns, Feed, Regs, Pc, Mem, Tags, Dis, Why, Blocks, Stats, Break, Clear, Reset, Quit}
 use Rattle.shell_lang.specs.Operands.{no_operand, one_operand, two_operands, number_in, address_in, digits_in, bytes_in, within, aligned}
 use Rattle.shell_lang.specs.Refusals.{◌>>=◌}
 use Rattle.shell_lang.specs.Words.{Text, words_of}
@@ -126,6 +126,7 @@ unfoldable pub machine_view : Text → List Text → Option Answer
 machine_view name operands =
     if bytes_eq name (codes "mem") then Some (range_command Mem operands)
     else if bytes_eq name (codes "tags") then Some (range_command Tags operands)
+    else if bytes_eq name (codes "dis") then Some (range_command Dis operands)
     else if bytes_eq name (codes "blocks") then Some (plain_command Blocks operands)
     else if bytes_eq name (codes "stats") then Some (plain_command Stats operands)
     else None

@@ -23,6 +23,8 @@ pub enum Command {
     Mem(u32, u32),
     /// `tags A N`: the tags of these words.
     Tags(u32, u32),
+    /// `dis A N`: these words, each with the statement of assembler source that stands for it.
+    Dis(u32, u32),
     /// `why H`: whether hart `H` is ready, or why it stopped.
     Why(u32),
     /// `blocks`: the blocks of the heap.

@@ -138,6 +138,7 @@ fn machine_view(name: &[u8], rest: &[u8]) -> Option<Result<Command, BadCommand>>
     match name {
         b"mem" => Some(range_operands(rest).map(|(a, n)| Command::Mem(a, n))),
         b"tags" => Some(range_operands(rest).map(|(a, n)| Command::Tags(a, n))),
+        b"dis" => Some(range_operands(rest).map(|(a, n)| Command::Dis(a, n))),
         b"blocks" => Some(plain_command(Command::Blocks, rest)),
         b"stats" => Some(plain_command(Command::Stats, rest)),
         _ => None,

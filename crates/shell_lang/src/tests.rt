@@ -5,7 +5,7 @@ use std::alloc::{AllocError, Global};
 use std::test::Fail;
 
 /// Lines, each with what it is read as: a command with its operands, or the number of its refusal.
-const LINES: [(&[u8], &str); 62] = [
+const LINES: [(&[u8], &str); 69] = [
     (b"", "Blank"),
     (b"   ", "Blank"),
     (b"step 3 12", "Step(3, 12)"),
@@ -21,6 +21,8 @@ const LINES: [(&[u8], &str); 62] = [
     (b"mem 00fFfFfC 1024", "Mem(16777212, 1024)"),
     (b"mem FFFFFFFC 0000000001", "Mem(4294967292, 1)"),
     (b"tags 10 2", "Tags(16, 2)"),
+    (b"dis 0 1", "Dis(0, 1)"),
+    (b" dis 00fffffc  1024 ", "Dis(16777212, 1024)"),
     (b"why 2", "Why(2)"),
     (b"blocks", "Blocks"),
     (b"stats ", "Stats"),
@@ -33,7 +35,8 @@ const LINES: [(&[u8], &str); 62] = [
     (b"Step 0 0", "1"),
     (b"stepp 0 0", "1"),
     (b"qui", "1"),
-    (b"dis 0 1", "1"),
+    (b"Dis 0 1", "1"),
+    (b"disa 0 1", "1"),
     (b"\tquit", "1"),
     (b"quit\r", "1"),
     // The command has another number of operands.
@@ -48,6 +51,7 @@ const LINES: [(&[u8], &str); 62] = [
     (b"feed 4 4", "2"),
     (b"regs 8 8", "2"),
     (b"mem 2", "2"),
+    (b"dis 0", "2"),
     (b"break", "2"),
     (b"quit now", "2"),
     // An operand is badly written.
@@ -60,6 +64,7 @@ const LINES: [(&[u8], &str); 62] = [
     (b"mem 2 x", "3"),
     (b"mem 0x4 1", "3"),
     (b"mem 000000004 1", "3"),
+    (b"dis 2 -1", "3"),
     (b"break g", "3"),
     // The operand isn't an even number of hexadecimal digits.
     (b"feed 4", "5"),
@@ -72,6 +77,8 @@ const LINES: [(&[u8], &str); 62] = [
     (b"mem 2 1", "4"),
     (b"mem 4 0", "4"),
     (b"tags 4 1025", "4"),
+    (b"dis 2 1", "4"),
+    (b"dis 4 1025", "4"),
     (b"clear 2", "4"),
 ];
 

@@ -102,6 +102,7 @@ module _ {S T : Type 0} (eq : T → T → Bool) (m : PolicyModel T S) (s : Sessi
   goes_on (command.Pc h) = checked_stays (is_hart s h) _ refl
   goes_on (command.Mem a n) = checked_stays (is_range s a n) _ refl
   goes_on (command.Tags a n) = checked_stays (is_range s a n) _ refl
+  goes_on (command.Dis a n) = checked_stays (is_range s a n) _ refl
   goes_on (command.Why h) = checked_stays (is_hart s h) _ refl
   goes_on command.Blocks = along
   goes_on command.Stats = along

@@ -59,6 +59,7 @@ module _ {S T : Type 0} (s : SessionState S T) where
     ended_stays (command.Pc h) = checked_lives (is_hart s h) _ refl
     ended_stays (command.Mem a n) = checked_lives (is_range s a n) _ refl
     ended_stays (command.Tags a n) = checked_lives (is_range s a n) _ refl
+    ended_stays (command.Dis a n) = checked_lives (is_range s a n) _ refl
     ended_stays (command.Why h) = checked_lives (is_hart s h) _ refl
     ended_stays command.Blocks = refl
     ended_stays command.Stats = refl

@@ -12,7 +12,7 @@ use Rattle.shell_turns.specs.Order.{Order, listed as listed_harts, only, rounds_
 use Rattle.shell_turns.specs.Turns.{Turns, turns}
 use Rattle.shell_run.specs.Lines.{refusal_line, stats_line, turns_line}
 use Rattle.shell_run.specs.Session.{SessionState, bytes_in, is_hart, is_place, is_range}
-use Rattle.shell_run.specs.Shown.{blocks, listed, pc_of, register_of, tag_of, why_line, word_of}
+use Rattle.shell_run.specs.Shown.{blocks, listed, pc_of, register_of, statement_of, tag_of, why_line, word_of}
 
 -- the session after a command, and the lines of the reply
 pub record Reply (S T : Type 0) : Type 0 where
@@ -83,6 +83,9 @@ module _ {S T : Type 0} (eq : T → T → Bool) (m : PolicyModel T S) (s : Sessi
   unfoldable pub tags_shown : ℕ → ℕ → List Piece
   tags_shown a n = listed (tag_of m s.standing.machine a) 0 n
 
+  unfoldable pub statements_shown : ℕ → ℕ → List Piece
+  statements_shown a n = listed (statement_of m s.standing.machine a) 0 n
+
   -- memory has at most one block for each of its words
   unfoldable pub blocks_shown : List Piece
   blocks_shown = blocks m s.standing.machine 0 (bytes_in s / 4)
@@ -107,6 +110,7 @@ module _ {S T : Type 0} (eq : T → T → Bool) (m : PolicyModel T S) (s : Sessi
   reply_to (command.Pc h) = checked s (is_hart s h) (telling s (pc_shown h))
   reply_to (command.Mem a n) = checked s (is_range s a n) (telling s (words_shown a n))
   reply_to (command.Tags a n) = checked s (is_range s a n) (telling s (tags_shown a n))
+  reply_to (command.Dis a n) = checked s (is_range s a n) (telling s (statements_shown a n))
   reply_to (command.Why h) = checked s (is_hart s h) (telling s (why_shown h))
   reply_to command.Blocks = telling s blocks_shown
   reply_to command.Stats = telling s stats_shown

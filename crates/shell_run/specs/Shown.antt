@@ -7,6 +7,7 @@ use Rattle.tag_memory.specs.Ram.{ram_tag, ram_word}
 use Rattle.tag_text.specs.Texts.{stop_line}
 use Rattle.turn_steps.specs.declared.stop.Stop.{Stop}
 use Rattle.engine_trait.specs.Machine.{Machine, hart_at}
+use Rattle.asm_show.specs.Listing.{listed as listed_word}
 use Rattle.shell_run.specs.Lines.{block_line, pc_line, ready_line, register_line, tag_line, word_line}
 
 -- so many lines, one for each number from one on
@@ -42,6 +43,10 @@ module _ {S T : Type 0} (m : PolicyModel T S) (s : Machine S T) where
 
   abbrev pub tag_of : ℕ → ℕ → List ℕ
   tag_of a k = tag_line (a + 4 * k) (text_in (ram_tag s.core.ram (a + 4 * k)))
+
+  -- word k from an address on, with its statement
+  abbrev pub statement_of : ℕ → ℕ → List ℕ
+  statement_of a k = listed_word (a + 4 * k) (ram_word s.core.ram (a + 4 * k))
 
   -- the live blocks from one on, at most so many
   unfoldable pub blocks : ℕ → ℕ → List Piece

@@ -7,7 +7,7 @@ ghost use Rattle.shell_turns.specs.Cuts.{ObeyCause, PutsOut};
 ghost use Rattle.shell_run.specs.Listings.{AreThere, line_of};
 ghost use Rattle.shell_run.specs.Shown.{blocks, listed};
 
-use crate::texts::{put_block, put_register, put_tag, put_word};
+use crate::texts::{put_block, put_register, put_statement, put_tag, put_word};
 use engine_trait::Engine;
 use host_io::Sink;
 use policy_trait::Policy;
@@ -22,6 +22,8 @@ pub(crate) enum Listing {
     Words(u32),
     /// The tags of these words.
     Tags(u32),
+    /// These words, each with its statement of assembler source.
+    Statements(u32),
 }
 
 /// Puts line `k` of a listing.
@@ -50,6 +52,10 @@ fn put_listed<E: Engine, K: Sink>(
         Listing::Tags(base) => {
             let address = base + 4 * k;
             put_tag(address, engine.policy(), engine.word_tag(address), out)
+        }
+        Listing::Statements(base) => {
+            let address = base + 4 * k;
+            put_statement(address, engine.word(address), out)
         }
     }
 }

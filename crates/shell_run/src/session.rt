@@ -93,6 +93,7 @@ impl<L: Loader> Session<L> {
             Command::Pc(h) => self.pc(*h, out),
             Command::Mem(a, n) => self.words(*a, *n, out),
             Command::Tags(a, n) => self.tags(*a, *n, out),
+            Command::Dis(a, n) => self.statements(*a, *n, out),
             Command::Why(h) => self.why(*h, out),
             Command::Blocks => self.blocks(out),
             Command::Stats => self.stats(out),

@@ -4,7 +4,7 @@ ghost use Rattle.std.specs.Prelude.{◌≡◌, ◌∷◌, []};
 ghost use Rattle.host_io.specs.Pieces.{out as piece};
 ghost use Rattle.shell_turns.specs.Cuts.{ObeyCause, PutsOut};
 ghost use Rattle.shell_run.specs.Lines.{refusal_line};
-ghost use Rattle.shell_run.specs.Replies.{blocks_shown, checked, pc_shown, registers_shown, stats_shown, tags_shown, telling, why_shown, words_shown};
+ghost use Rattle.shell_run.specs.Replies.{blocks_shown, checked, pc_shown, registers_shown, statements_shown, stats_shown, tags_shown, telling, why_shown, words_shown};
 ghost use Rattle.shell_run.specs.Session.{is_hart, is_range};
 
 use crate::listing::{Listing, put_blocks, put_listing};
@@ -93,6 +93,26 @@ impl<L: Loader> Session<L> {
             return self.refuse(out);
         }
         put_listing(&self.engine, Listing::Tags(address), count, out)
+    }
+
+    /// `dis A N`: these words, each with the statement of assembler source that stands for it at its address.
+    #[tactic(auto, unfolding(crate::specs::Replies::statements_shown))]
+    pub(crate) fn statements<K: Sink>(
+        &self,
+        address: u32,
+        count: u32,
+        out: &mut K,
+    ) -> Result<(), ObeyEnd>
+        ensures puts { PutsOut (K.taken out.old) (K.taken out.new)
+            (checked self.now (is_range self.now address count)
+            (telling self.now
+            (statements_shown L.E.P.Tag.eq L.E.P.model self.now address count))).pieces result }
+        ensures cause { ObeyCause (K.faults out.old) (K.faults out.new) result }
+    {
+        if !self.is_range(address, count) {
+            return self.refuse(out);
+        }
+        put_listing(&self.engine, Listing::Statements(address), count, out)
     }
 
     /// `why H`: that hart `H` is ready, or why it stopped.

@@ -32,7 +32,7 @@ type EndRow = (
     Result<ShellEnd, ShellCut>,
 );
 
-const END_ROWS: [EndRow; 8] = [
+const END_ROWS: [EndRow; 9] = [
     (
         b"why 0\nwhy 0",
         100,
@@ -77,6 +77,14 @@ const END_ROWS: [EndRow; 8] = [
         100,
         &[1],
         b"ready 0\n",
+        Err(ShellCut::Obey(ObeyEnd::WriteFault)),
+    ),
+    // Each line of a listing is one put.
+    (
+        b"dis 0 3\nstats\n",
+        100,
+        &[2],
+        b"00000000 0000006F jal x0, 0x00000000\n00000004 00000000 .word 0x00000000\n",
         Err(ShellCut::Obey(ObeyEnd::WriteFault)),
     ),
 ];

@@ -23,10 +23,19 @@ const KEY_MAKER: &[u32] = &[0x0100_0893, 0x0000_0073];
 /// A loop of two instructions.
 const LOOP: &[u32] = &[0x0012_8293, 0xFFDF_F06F];
 
+/// ADDI, JAL, a word that is no instruction, BGEU, and the FENCE of everything.
+const KINDS: &[u32] = &[
+    0x0410_0513,
+    0xFFDF_F06F,
+    0xFFFF_FFFF,
+    0x0062_F863,
+    0x0FF0_000F,
+];
+
 /// A program that gets two bytes.
 const READER: &[u32] = &[0x0020_0893, 0x0000_0073, 0x0000_0073];
 
-const SCRIPTS: [Script; 13] = [
+const SCRIPTS: [Script; 14] = [
     Script {
         program: Program {
             sizes: &[64, 0, 0],
@@ -171,6 +180,21 @@ x30 00000000 data\nx31 00000000 data\n",
         },
         lines: b"mem F8 2\ntags fc 1\n",
         replies: b"000000F8 00000000\n000000FC 00000000\n000000FC -\n",
+    },
+    // Words are shown with their statements, where branches and jumps have the address that they go to. The ranges and what is
+    // refused are those of `mem`.
+    Script {
+        program: Program {
+            sizes: SMALL,
+            entries: ONE,
+            words: KINDS,
+            policies: b"none",
+        },
+        lines: b"dis 0 5\ndis fc 1\ndis FC 2\ndis 100 1\ndis 2 1\ndis 0 0\ndis 0 1025\ndis 0\ndis 0 1 2\ndis 0 x\n",
+        replies: b"00000000 04100513 addi x10, x0, 65\n00000004 FFDFF06F jal x0, 0x00000000\n\
+00000008 FFFFFFFF .word 0xFFFFFFFF\n0000000C 0062F863 bgeu x5, x6, 0x0000001C\n\
+00000010 0FF0000F fence\n000000FC 00000000 .word 0x00000000\n\
+? 4\n? 4\n? 4\n? 4\n? 4\n? 2\n? 2\n? 3\n",
     },
     // A reset brings back the start with an empty feed, and keeps the breakpoints.
     Script {

@@ -1,11 +1,13 @@
 -- Pieces on one sink: all of them, or a front.
 use Rattle.std.proofs.Common.{◌≡◌, ℕ, List, [], ◌∷◌, ◌++◌, Option, Result, Ok, Err, refl, subst, append-nil}
+use Rattle.std.specs.Prelude.{OnOk}
+use Rattle.host_io.specs.Causes.{PutCause}
 use Rattle.host_io.specs.Fronts.{TakesAll, TakesFront}
 use Rattle.host_io.specs.Pieces.{Piece, Taken, out}
 use Rattle.host_io.specs.declared.traits.sink.PutEnd.{PutEnd}
 use Rattle.host_io.specs.declared.traits.sink.PutEnd.TheVariants as put_end
 use Rattle.host_io.proofs.PieceLemmas.{front_of_more_puts, put_on_out, puts_none, puts_then_all, puts_then_front}
-use Rattle.shell_turns.specs.Cuts.{PutsOut}
+use Rattle.shell_turns.specs.Cuts.{ObeyCause, PutsOut, answer_of}
 use Rattle.shell_turns.specs.declared.ends.ObeyEnd.{ObeyEnd}
 
 -- a call that puts, with an answer of this type
@@ -42,24 +44,17 @@ unfolding PutsOut
 puts_not_begun A old pieces end other = puts_none (beside other old) pieces
 
 -- a put of a sink is one piece: what the clauses of `put` say of its answers
-module _ (old new : Option (List ℕ)) (bytes : List ℕ) where
-  abbrev ended : PutEnd → Result (Unit {0}) PutEnd
-  ended end = Err end
+pub put_answered : (put : Result (Unit {0}) PutEnd) (old new : Option (List ℕ)) (bytes : List ℕ) → OnOk put (TakesAll old new bytes)
+    → (put ≡ Err put_end.Failed → TakesFront old new bytes) → (put ≡ Err put_end.Memory → new ≡ old) → PutsOut old new (out bytes ∷ []) (answer_of put)
+unfolding PutsOut
+put_answered (Ok x) old new bytes ok failed memory other = put_on_out old new other bytes {A = Unit {0}} (Ok x) ok failed memory
+put_answered (Err put_end.Failed) old new bytes ok failed memory other = put_on_out old new other bytes {A = Unit {0}} (Err put_end.Failed) ok failed memory
+put_answered (Err put_end.Memory) old new bytes ok failed memory other = put_on_out old new other bytes {A = Unit {0}} (Err put_end.Memory) ok failed memory
 
-  pub put_whole : {A : Type 0} (x : A) → TakesAll old new bytes → PutsOut old new (out bytes ∷ []) (gives x)
-  unfolding PutsOut
-  put_whole x all other =
-      put_on_out old new other bytes {A = Unit {0}} (Ok tt) all (λ never. absurd (cc never)) (λ never. absurd (cc never))
-
-  pub put_failed : (A : Type 0) (end : ObeyEnd) → TakesFront old new bytes → PutsOut old new (out bytes ∷ []) (fails A end)
-  unfolding PutsOut
-  put_failed A end front other =
-      put_on_out old new other bytes (ended put_end.Failed) tt (λ is. front) (λ never. absurd (cc never))
-
-  pub put_unmade : (A : Type 0) (end : ObeyEnd) → new ≡ old → PutsOut old new (out bytes ∷ []) (fails A end)
-  unfolding PutsOut
-  put_unmade A end same other =
-      put_on_out old new other bytes (ended put_end.Memory) tt (λ never. absurd (cc never)) (λ is. same)
+pub cause_answered : (put : Result (Unit {0}) PutEnd) (before now : ℕ) → PutCause before now put → ObeyCause before now (answer_of put)
+cause_answered (Ok x) before now cause = cause
+cause_answered (Err put_end.Failed) before now cause = cause
+cause_answered (Err put_end.Memory) before now cause = cause
 
 -- ---- some pieces, and others
 

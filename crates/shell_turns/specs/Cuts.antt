@@ -2,6 +2,8 @@
 use Rattle.std.specs.Prelude.{◌≡◌, ◌⊎◌, ℕ, ◌≤◌, Bool, List, Option, Result, Ok, Err}
 use Rattle.host_io.specs.Causes.{Rose}
 use Rattle.host_io.specs.Pieces.{Piece, Puts}
+use Rattle.host_io.specs.declared.traits.sink.PutEnd.{PutEnd}
+use Rattle.host_io.specs.declared.traits.sink.PutEnd.TheVariants as put_end
 use Rattle.policy_trait.specs.Model.{PolicyModel}
 use Rattle.engine_trait.specs.Machine.{Machine}
 use Rattle.engine_trait.specs.Standing.{Standing, step}
@@ -21,6 +23,12 @@ abbrev pub ObeyCause : {A : Type 0} → ℕ → ℕ → Result A ObeyEnd → Typ
 ObeyCause before now (Ok _) = now ≡ before
 ObeyCause before now (Err ends.WriteFault) = Rose before now
 ObeyCause before now (Err ends.Memory) = now ≡ before
+
+-- the answer of a put, as that of a command
+abbrev pub answer_of : Result (Unit {0}) PutEnd → Result (Unit {0}) ObeyEnd
+answer_of (Ok x) = Ok x
+answer_of (Err put_end.Failed) = Err ends.WriteFault
+answer_of (Err put_end.Memory) = Err ends.Memory
 
 -- the machine and the feed are these
 pub record StandsAt {S T : Type 0} (s : Machine S T) (feed : List ℕ) (f : Standing S T) (fed : List ℕ) : Type 0 where

@@ -40,7 +40,6 @@ pub(crate) fn next_of<'a, E: Engine>(order: Order<'a>, engine: &E) -> Option<(u3
     match order {
         Order::Only(h) => is_ready(engine, h).then_some((h, Order::Only(h))),
         Order::RoundsFrom(from) => {
-            let _harts = engine.harts(); // for the proof: there are at most eight
             let h = next_turn(engine, from)?;
             Some((h, Order::RoundsFrom(h + 1)))
         }

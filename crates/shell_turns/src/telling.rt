@@ -3,7 +3,7 @@
 ghost use Rattle.std.specs.Prelude.{◌≡◌, ◌++◌, ◌∷◌, []};
 ghost use Rattle.host_io.specs.Pieces.{out as piece};
 ghost use Rattle.tag_text.specs.Texts.{stop_line};
-ghost use Rattle.shell_turns.specs.Cuts.{ObeyCause, PutsOut};
+ghost use Rattle.shell_turns.specs.Cuts.{ObeyCause, PutsOut, answer_of};
 ghost use Rattle.shell_turns.specs.Told.{break_line, break_pieces, end_pieces, is_break, out_line};
 
 use crate::breaks::is_break;
@@ -11,19 +11,26 @@ use crate::ends::ObeyEnd;
 use engine_trait::{Stop, TurnEnd};
 use host_io::{PutEnd, Sink};
 use pump_words::{Line, hex2, hex8, write_text};
-use tag_text::{write_number, write_stop_line};
+use tag_text::write_number;
 
-/// Puts a line as one piece.
-#[tactic(auto, using(crate::proofs::PutLemmas::put_whole, crate::proofs::PutLemmas::put_failed, crate::proofs::PutLemmas::put_unmade))]
-pub fn put_line<K: Sink>(line: &[u8], out: &mut K) -> Result<(), ObeyEnd>
-    ensures puts { PutsOut (K.taken out.old) (K.taken out.new) (piece line.now ∷ []) result }
-    ensures cause { ObeyCause (K.faults out.old) (K.faults out.new) result }
+/// The answer of a put, as that of a command.
+fn answer_of(put: Result<(), PutEnd>) -> Result<(), ObeyEnd>
+    ensures { result ≡ answer_of put }
 {
-    match out.put(line) {
+    match put {
         Ok(()) => Ok(()),
         Err(PutEnd::Failed) => Err(ObeyEnd::WriteFault),
         Err(PutEnd::Memory) => Err(ObeyEnd::Memory),
     }
+}
+
+/// Puts a line as one piece.
+#[tactic(auto, using(crate::proofs::PutLemmas::put_answered, crate::proofs::PutLemmas::cause_answered))]
+pub fn put_line<K: Sink>(line: &[u8], out: &mut K) -> Result<(), ObeyEnd>
+    ensures puts { PutsOut (K.taken out.old) (K.taken out.new) (piece line.now ∷ []) result }
+    ensures cause { ObeyCause (K.faults out.old) (K.faults out.new) result }
+{
+    answer_of(out.put(line))
 }
 
 /// Puts the line of a byte that a program put.
@@ -41,15 +48,13 @@ fn put_byte<K: Sink>(byte: u8, out: &mut K) -> Result<(), ObeyEnd>
 }
 
 /// Puts the line of the stop of hart `h`.
-#[inline(never)]
+#[tactic(auto, using(crate::proofs::PutLemmas::put_answered, crate::proofs::PutLemmas::cause_answered))]
 pub fn put_stop<K: Sink>(h: u32, why: Stop, out: &mut K) -> Result<(), ObeyEnd>
     ensures puts { PutsOut (K.taken out.old) (K.taken out.new)
         (piece (stop_line h why) ∷ []) result }
     ensures cause { ObeyCause (K.faults out.old) (K.faults out.new) result }
 {
-    let mut line = Line::new();
-    write_stop_line(&mut line, h, why);
-    put_line(&line, out)
+    answer_of(rounds::put_stop(h, why, out))
 }
 
 /// Puts the line of a break of hart `h`, whose pc is then this one.

@@ -4,7 +4,7 @@ ghost use Rattle.std.specs.Prelude.{◌≡◌, ◌<◌, IfErr, IfOk, OnOk, lengt
 ghost use Rattle.engine_trait.specs.Standing.{step};
 ghost use Rattle.shell_turns.specs.Cuts.{ObeyCause, PutsOut, StandsIn, StandsOn};
 ghost use Rattle.shell_turns.specs.Order.{AreHarts, order_of};
-ghost use Rattle.shell_turns.specs.Turns.{Leaves, step_pieces, turns};
+ghost use Rattle.shell_turns.specs.Turns.{Leaves, pc_after, step_pieces, turns};
 
 use crate::breaks::{count_of, is_last};
 use crate::ends::ObeyEnd;
@@ -13,7 +13,7 @@ use crate::telling::tell;
 use engine_trait::{Engine, Feed, TurnEnd};
 use host_io::Sink;
 
-/// One turn of a hart, and what it tells. The answer is how the turn ended.
+/// One turn of a hart, and what it tells. The answer is how the turn ended, and the hart's pc then.
 #[inline(always)]
 #[tactic(auto, using(crate::proofs::PutLemmas::puts_as, crate::proofs::PutLemmas::puts_cut_as, crate::proofs::PutLemmas::puts_not_begun))]
 fn make_turn<E: Engine, K: Sink>(
@@ -22,10 +22,12 @@ fn make_turn<E: Engine, K: Sink>(
     feed: &mut Feed,
     breaks: &[u32],
     out: &mut K,
-) -> Result<TurnEnd, ObeyEnd>
+) -> Result<(TurnEnd, u32), ObeyEnd>
     requires { h < length (E.standing engine.old).machine.core.harts }
-    ensures ended { IfOk result (λ end.
-        end ≡ (step E.P.Tag.eq E.P.model (E.standing engine.old) feed.old h).ended) }
+    ensures ended { IfOk result (λ made.
+        made.0 ≡ (step E.P.Tag.eq E.P.model (E.standing engine.old) feed.old h).ended) }
+    ensures pc { IfOk result (λ made. made.1
+        ≡ pc_after h (step E.P.Tag.eq E.P.model (E.standing engine.old) feed.old h)) }
     ensures standing { OnOk result (E.standing engine.new
         ≡ (step E.P.Tag.eq E.P.model (E.standing engine.old) feed.old h).standing) }
     ensures feed { OnOk result (feed.new
@@ -42,8 +44,9 @@ fn make_turn<E: Engine, K: Sink>(
     if let TurnEnd::Memory = end {
         return Err(ObeyEnd::Memory);
     }
-    match tell(breaks, h, engine.pc(h), end, out) {
-        Ok(()) => Ok(end),
+    let pc = engine.pc(h);
+    match tell(breaks, h, pc, end, out) {
+        Ok(()) => Ok((end, pc)),
         Err(cause) => Err(cause),
     }
 }
@@ -81,9 +84,9 @@ pub fn make_turns<E: Engine, K: Sink>(
         let Some((h, others)) = next_of(order, engine) else {
             break;
         };
-        let end = make_turn(engine, h, feed, breaks, out)?;
+        let (end, pc) = make_turn(engine, h, feed, breaks, out)?;
         count += count_of(end);
-        if is_last(breaks, engine.pc(h), end) {
+        if is_last(breaks, pc, end) {
             break;
         }
         order = others;

@@ -1,16 +1,16 @@
-// Which numbered calls are to fail.
+// Which numbered calls are to fail, and how many did.
 ghost use Rattle.std.specs.Prelude.{◌≡◌, IsTrue};
 ghost use Rattle.host_io.specs.Causes.{Rose};
-ghost use Rattle.host_io.specs.FaultPlan.{fresh_plan, fails_next, with_fault, plan_after};
+ghost use Rattle.host_io.specs.FaultPlan.{fresh_plan, fails_next, plan_after};
 
+use super::call_plan::CallPlan;
 use std::marker::Model;
 
-/// The numbers of the calls that are to fail, and the counts of the calls and faults so far. Calls
-/// are numbered from 0, and both counts stand still at 2^64 - 1.
+/// The numbered calls of which some are to fail, and the count of the faults so far, which stands
+/// still at 2^64 - 1.
 #[derive(Drop)]
 pub struct FaultPlan {
-    fails: Vec<u64>,
-    next: u64,
+    calls: CallPlan,
     faults: u64,
 }
 
@@ -19,7 +19,7 @@ impl Model for FaultPlan {
 
     ghost Value = { Plan };
 
-    ghost view = { λ p. record { fails = p.fails.items; next = p.next; faults = p.faults } };
+    ghost view = { λ p. record { calls = p.calls; faults = p.faults } };
 }
 
 impl FaultPlan {
@@ -28,17 +28,16 @@ impl FaultPlan {
         ensures { result ≡ fresh_plan fails.items }
     {
         FaultPlan {
-            fails,
-            next: 0,
+            calls: CallPlan::new(fails),
             faults: 0,
         }
     }
 
     /// The number of the next call.
     pub fn next_call(&self) -> u64
-        ensures { result ≡ self.now.next }
+        ensures { result ≡ self.now.calls.next }
     {
-        self.next
+        self.calls.next_call()
     }
 
     /// How many calls failed so far.
@@ -51,23 +50,14 @@ impl FaultPlan {
     /// Takes the next number for a call, and says whether that call is to fail. If so it counts as
     /// a fault.
     pub fn take_call(&mut self) -> bool
-        ensures answer { result ≡ fails_next self.old }
+        ensures answer { result ≡ fails_next self.old.calls }
         ensures plan { self.new ≡ plan_after self.old }
         ensures rose { IsTrue result → Rose self.old.faults self.new.faults }
     {
-        let failing = self.fails.contains(&self.next);
-        self.next = self.next.saturating_add(1);
+        let failing = self.calls.take_call();
         if failing {
-            self.count_fault();
+            self.faults = self.faults.saturating_add(1);
         }
         failing
-    }
-
-    /// Counts a fault that was not planned.
-    pub fn count_fault(&mut self)
-        ensures plan { self.new ≡ with_fault self.old }
-        ensures rose { Rose self.old.faults self.new.faults }
-    {
-        self.faults = self.faults.saturating_add(1);
     }
 }

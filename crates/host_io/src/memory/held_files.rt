@@ -1,11 +1,12 @@
 // The files that an implementation in memory holds.
-ghost use Rattle.std.specs.Prelude.{◌≡◌, ◌≢◌, ◌↔◌, ◌<◌, ◌≤◌, length, find, string_bytes, Err, IfOk, OnOk};
+ghost use Rattle.std.specs.Prelude.{◌≡◌, ◌≢◌, ◌↔◌, ℕ, ◌<◌, ◌≤◌, List, length, find, string_bytes, Some, Err, IfOk, OnOk, OnErr};
+ghost use Rattle.std.specs.List.{position};
 ghost use Rattle.std.specs.Str.{bytes_eq};
 ghost use Rattle.std.specs.Option.{option_copied};
-ghost use Rattle.host_io.specs.Held.{files_of, bytes_held};
+ghost use Rattle.host_io.specs.Held.{files_of, bytes_held, AreNamesDistinct};
 
 use crate::LoadFile;
-use std::alloc::Global;
+use std::alloc::{AllocError, Global};
 use std::marker::Model;
 
 /// Files in memory, each with its name.
@@ -38,6 +39,23 @@ impl HeldFiles {
         let entry = entry_named(&self.entries, name)?;
         Some(entry.1.as_slice())
     }
+
+    /// Makes the first file of that name hold a copy of these bytes. Where there is none it is
+    /// added. An error leaves all files as they were.
+    pub fn put(&mut self, alloc: Global, name: &str, bytes: &[u8]) -> Result<(), AllocError>
+        ensures ok { OnOk result (bytes_held self.new name.now ≡ Some bytes.now) }
+        ensures others { (other : List ℕ) → other ≢ name.now →
+            bytes_held self.new other ≡ bytes_held self.old other }
+        ensures distinct { AreNamesDistinct self.old → AreNamesDistinct self.new }
+        ensures err { OnErr result (self.new ≡ self.old) }
+    {
+        let copy = bytes.to_vec(alloc)?;
+        match place_named(&self.entries, name) {
+            Some(place) => self.entries[place].1 = copy,
+            None => self.entries.push((String::from_str(alloc, name)?, copy))?,
+        }
+        Ok(())
+    }
 }
 
 // The first entry of that name.
@@ -46,6 +64,13 @@ fn entry_named<'a>(entries: &'a [(String, Vec<u8>)], name: &str) -> Option<&'a (
         find (λ entry. bytes_eq (string_bytes entry.0) name.now) entries.now }
 {
     entries.iter().find(|entry| entry.0.as_str() == name)
+}
+
+// The place of the first entry of that name.
+fn place_named(entries: &[(String, Vec<u8>)], name: &str) -> Option<usize>
+    ensures { result ≡ position (λ entry. bytes_eq (string_bytes entry.0) name.now) entries.now }
+{
+    entries.iter().position(|entry| entry.0.as_str() == name)
 }
 
 /// A copy of the bytes, where they are at most `limit`.

@@ -46,7 +46,7 @@ impl MemSink {
 
     /// The number of the next put of a piece that has bytes.
     pub fn next_call(&self) -> u64
-        ensures { result ≡ self.now.plan.next }
+        ensures { result ≡ self.now.plan.calls.next }
     {
         self.plan.next_call()
     }
@@ -72,7 +72,7 @@ impl Sink for MemSink {
 
         // The numbered puts fail exactly where that was planned.
         ensures planned { (result ≡ Err PutEnd.Failed) ↔
-            ((0 < length piece.now) × IsTrue (fails_next self.old.plan)) }
+            ((0 < length piece.now) × IsTrue (fails_next self.old.plan.calls)) }
         ensures numbered { 0 < length piece.now → self.new.plan ≡ plan_after self.old.plan }
         ensures unnumbered { length piece.now ≡ 0 → self.new.plan ≡ self.old.plan }
     {

@@ -54,7 +54,7 @@ impl MemSource {
 
     /// The number of the next read that may fail.
     pub fn next_call(&self) -> u64
-        ensures { result ≡ self.now.plan.next }
+        ensures { result ≡ self.now.plan.calls.next }
     {
         self.plan.next_call()
     }
@@ -98,7 +98,7 @@ impl Source for MemSource {
         // buffer as they were.
         ensures planned { IsErr result ↔
             (IsNumberedRead (length buffer.old) self.old.supply ×
-            IsTrue (fails_next self.old.plan)) }
+            IsTrue (fails_next self.old.plan.calls)) }
         ensures numbered { IsNumberedRead (length buffer.old) self.old.supply →
             self.new.plan ≡ plan_after self.old.plan }
         ensures kept { OnErr result (self.new.supply ≡ self.old.supply) }

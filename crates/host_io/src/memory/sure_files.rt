@@ -1,14 +1,14 @@
 // Files in memory that never fail.
-ghost use Rattle.std.specs.Prelude.{◌≡◌, ◌≢◌, ◌↔◌, ◌<◌, ◌≤◌, length, Some, Err, All, IfOk, vec_len};
+ghost use Rattle.std.specs.Prelude.{◌≡◌, ◌≢◌, ◌↔◌, ℕ, ◌<◌, ◌≤◌, true, List, length, Some, Err, All, IfOk, OnOk, OnErr, IsOkUnless, vec_len};
 ghost use Rattle.host_io.specs.Causes.{count_after};
 ghost use Rattle.host_io.specs.Held.{files_of, bytes_held, sure_bytes, AreNamesDistinct};
 
 use super::held_files::{HeldFiles, copied_within};
-use crate::{Files, LoadFile};
+use crate::{Files, LoadFile, SaveFile};
 use std::alloc::Global;
 use std::marker::Model;
 
-/// Files in memory that have no fault. A name that was never given has an empty file.
+/// Files in memory that have no fault. A name that was neither given nor saved has an empty file.
 #[derive(Drop)]
 pub struct SureFiles {
     files: HeldFiles,
@@ -39,7 +39,7 @@ impl SureFiles {
         }
     }
 
-    /// How many loads were made so far. The count stands still at 2^64 - 1.
+    /// How many loads and saves were made so far. The count stands still at 2^64 - 1.
     pub fn calls(&self) -> u64
         ensures { result ≡ self.now.calls }
     {
@@ -50,7 +50,11 @@ impl SureFiles {
 impl Files for SureFiles {
     ghost held = { λ s name. Some (sure_bytes s.files name) };
 
+    ghost tells = { true };
+
     ghost read_faults = { λ _ _. 0 };
+
+    ghost write_faults = { λ _ _. 0 };
 
     ghost calls = { λ s. s.calls };
 
@@ -68,5 +72,20 @@ impl Files for SureFiles {
             Some(bytes) => copied_within(alloc, bytes, limit),
             None => Ok(Vec::new(alloc)),
         }
+    }
+
+    fn save(&mut self, alloc: Global, name: &str, bytes: &[u8]) -> Result<(), SaveFile>
+        ensures ok { OnOk result (bytes_held self.new.files name.now ≡ Some bytes.now) }
+        ensures others { (other : List ℕ) → other ≢ name.now →
+            bytes_held self.new.files other ≡ bytes_held self.old.files other }
+        ensures err { OnErr result (self.new.files ≡ self.old.files) }
+        ensures distinct { AreNamesDistinct self.old.files → AreNamesDistinct self.new.files }
+        ensures sure { IsOkUnless result SaveFile.Memory }
+        ensures counted { self.new.calls ≡ count_after self.old.calls }
+    {
+        self.calls = self.calls.saturating_add(1);
+        self.files
+            .put(alloc, name, bytes)
+            .map_err(|_| SaveFile::Memory)
     }
 }

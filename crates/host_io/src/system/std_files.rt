@@ -1,22 +1,25 @@
 // Files over a file system of std.
-ghost use Rattle.std.specs.Prelude.{◌≡◌, ◌≢◌, ◌<◌, ◌≤◌, length, None, Err, IfOk, IfSome, vec_len};
+ghost use Rattle.std.specs.Prelude.{◌≡◌, ◌≢◌, ◌<◌, ◌≤◌, false, length, None, Err, IfOk, IfSome, vec_len};
 ghost use Rattle.std.specs.IoError.{error_kind};
-ghost use Rattle.host_io.specs.Causes.{LoadCause, count_after};
+ghost use Rattle.host_io.specs.Causes.{LoadCause, SaveCause, count_after};
 
-use crate::{Files, LoadFile};
+use super::std_sink::write_through;
+use crate::{Files, LoadFile, SaveFile};
 use std::alloc::Global;
 use std::io::{ErrorKind, Read};
 use std::marker::Model;
 use std::rt::Files as FileSystem;
 use std::{fs, io};
 
-/// Files over a file system of std, as that of the machine. A missing file is a fault. Nothing is
-/// told of what a file holds.
+/// Files over a file system of std, as that of the machine. A load of a missing file is a fault, and
+/// a save makes it. A failed save may leave the file empty or with some first bytes. Nothing is told
+/// of what a file holds.
 #[derive(Drop)]
 pub struct StdFiles<S: FileSystem + Drop> {
     system: S,
     calls: u64,
-    faults: u64,
+    read_faults: u64,
+    write_faults: u64,
 }
 
 impl<S: FileSystem + Drop> Model for StdFiles<S> {
@@ -24,7 +27,12 @@ impl<S: FileSystem + Drop> Model for StdFiles<S> {
 
     ghost Value = { CountedFiles S };
 
-    ghost view = { λ s. record { system = s.system; calls = s.calls; faults = s.faults } };
+    ghost view = { λ s. record {
+      system = s.system;
+      calls = s.calls;
+      read_faults = s.read_faults;
+      write_faults = s.write_faults;
+    } };
 }
 
 impl<S: FileSystem + Drop> StdFiles<S> {
@@ -32,23 +40,32 @@ impl<S: FileSystem + Drop> StdFiles<S> {
     pub fn new(system: S) -> StdFiles<S>
         ensures system { result.system ≡ system }
         ensures calls { result.calls ≡ 0 }
-        ensures faults { result.faults ≡ 0 }
+        ensures read_faults { result.read_faults ≡ 0 }
+        ensures write_faults { result.write_faults ≡ 0 }
     {
         StdFiles {
             system,
             calls: 0,
-            faults: 0,
+            read_faults: 0,
+            write_faults: 0,
         }
     }
 
     /// How many loads failed so far. The count stands still at 2^64 - 1.
-    pub fn faults(&self) -> u64
-        ensures { result ≡ self.now.faults }
+    pub fn read_faults(&self) -> u64
+        ensures { result ≡ self.now.read_faults }
     {
-        self.faults
+        self.read_faults
     }
 
-    /// How many loads were made so far. The count stands still at 2^64 - 1.
+    /// How many saves failed so far. The count stands still at 2^64 - 1.
+    pub fn write_faults(&self) -> u64
+        ensures { result ≡ self.now.write_faults }
+    {
+        self.write_faults
+    }
+
+    /// How many loads and saves were made so far. The count stands still at 2^64 - 1.
     pub fn calls(&self) -> u64
         ensures { result ≡ self.now.calls }
     {
@@ -59,14 +76,20 @@ impl<S: FileSystem + Drop> StdFiles<S> {
 impl<S: FileSystem + Drop> Files for StdFiles<S> {
     ghost held = { λ _ _. None };
 
+    ghost tells = { false };
+
     // All names share one count.
-    ghost read_faults = { λ files _. files.faults };
+    ghost read_faults = { λ files _. files.read_faults };
+
+    ghost write_faults = { λ files _. files.write_faults };
 
     ghost calls = { λ files. files.calls };
 
     fn load(&mut self, alloc: Global, name: &str, limit: usize) -> Result<Vec<u8>, LoadFile>
         ensures within { IfOk result (λ bytes. vec_len bytes ≤ limit) }
-        ensures cause { LoadCause (λ _. self.old.faults) (λ _. self.new.faults) name.now result }
+        ensures cause { LoadCause (λ _. self.old.read_faults) (λ _. self.new.read_faults)
+            name.now result }
+        ensures writes { self.new.write_faults ≡ self.old.write_faults }
         ensures counted { self.new.calls ≡ count_after self.old.calls }
     {
         self.calls = self.calls.saturating_add(1);
@@ -75,9 +98,27 @@ impl<S: FileSystem + Drop> Files for StdFiles<S> {
             Err(error) => Err(load_end(&error)),
         };
         if matches!(&loaded, Err(LoadFile::Failed)) {
-            self.faults = self.faults.saturating_add(1);
+            self.read_faults = self.read_faults.saturating_add(1);
         }
         loaded
+    }
+
+    fn save(&mut self, _alloc: Global, name: &str, bytes: &[u8]) -> Result<(), SaveFile>
+        ensures cause { SaveCause (λ _. self.old.write_faults) (λ _. self.new.write_faults)
+            name.now result }
+        ensures reads { self.new.read_faults ≡ self.old.read_faults }
+        ensures counted { self.new.calls ≡ count_after self.old.calls }
+    {
+        self.calls = self.calls.saturating_add(1);
+        let saved = match fs::create(&self.system, name) {
+            // The file is cut off by now, so that every error is a fault.
+            Ok(mut file) => write_through(&mut file, bytes).map_err(|_| SaveFile::Failed),
+            Err(error) => Err(save_end(&error)),
+        };
+        if matches!(&saved, Err(SaveFile::Failed)) {
+            self.write_faults = self.write_faults.saturating_add(1);
+        }
+        saved
     }
 }
 
@@ -109,5 +150,17 @@ fn load_end(error: &io::Error) -> LoadFile
     match error.kind() {
         ErrorKind::OutOfMemory => LoadFile::Memory,
         _ => LoadFile::Failed,
+    }
+}
+
+// What an error of the system means for a save that could not open its file, and so changed none:
+// want of memory is told as such, and any other error is a fault.
+fn save_end(error: &io::Error) -> SaveFile
+    ensures memory { error_kind error.now ≡ ErrorKind.OutOfMemory → result ≡ SaveFile.Memory }
+    ensures failed { error_kind error.now ≢ ErrorKind.OutOfMemory → result ≡ SaveFile.Failed }
+{
+    match error.kind() {
+        ErrorKind::OutOfMemory => SaveFile::Memory,
+        _ => SaveFile::Failed,
     }
 }

@@ -71,7 +71,7 @@ impl<W: Write + Drop> Sink for StdSink<W> {
 }
 
 // Writes the whole piece, and nothing of it stays inside.
-fn write_through<W: Write>(writer: &mut W, piece: &[u8]) -> io::Result<()>
+pub(super) fn write_through<W: Write>(writer: &mut W, piece: &[u8]) -> io::Result<()>
     ensures { OnOk result (Appends (W.contents writer.old) (W.contents writer.new) piece.now) }
 {
     writer.write_all(piece)?;

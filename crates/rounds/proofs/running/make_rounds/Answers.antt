@@ -11,7 +11,7 @@ loop-init g c =
     let whole : c.args.limit - 0 ≡ c.args.limit = omega arith in
     record {
       from = 0;
-      next = c.next_turn-next.ensures;
+      next = c.next_turn-next.ensures.next;
       order = c.order_of-order.ensures;
       rest =
           left_begins g.E.P.Tag.PartialEq.eq g.E.P.Policy.model c.args.limit (c.args.limit - 0) (g.E.Engine.standing c.args.engine.now) c.args.feed.now

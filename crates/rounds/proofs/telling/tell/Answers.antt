@@ -19,11 +19,11 @@ returns-in-Ran-Some-clause-whole g c =
 pub returns-in-Stopped-clause-puts : goal.returns-in-Stopped-clause-puts
 returns-in-Stopped-clause-puts g c =
     rw c.in-Stopped.is
-    (put_on_err (g.L.Sink.taken c.args.err.now) (g.L.Sink.taken c.put_stop.new.err) (g.K.Sink.taken c.args.out.now) _ c.put_stop.result
+    (put_on_err (g.L.Sink.taken c.args.err.now) (g.L.Sink.taken c.put_stop.new.sink) (g.K.Sink.taken c.args.out.now) _ c.put_stop.result
     c.put_stop.ensures.ok c.put_stop.ensures.failed c.put_stop.ensures.memory)
 
 pub returns-in-Stopped-clause-whole : goal.returns-in-Stopped-clause-whole
 returns-in-Stopped-clause-whole g c =
     rw c.in-Stopped.is
-    (whole_on_err (g.L.Sink.taken c.args.err.now) (g.L.Sink.taken c.put_stop.new.err) (g.K.Sink.taken c.args.out.now) _ c.put_stop.result
+    (whole_on_err (g.L.Sink.taken c.args.err.now) (g.L.Sink.taken c.put_stop.new.sink) (g.K.Sink.taken c.args.out.now) _ c.put_stop.result
     c.put_stop.ensures.ok c.put_stop.ensures.memory)

@@ -1,16 +1,6 @@
-use Rattle.std.proofs.Common.{rules, ℕ, ◌<◌, ◌∷◌, All, arith, length, ◌≡◌, subst}
+use Rattle.std.proofs.Common.{rules, ℕ, ◌<◌, ◌∷◌, All, length, ◌≡◌, subst}
 use Rattle.std.proofs.lemmas.List.Elements.{All-tail}
-use Rattle.rounds.proofs.Readiness.{next_there}
 use Rattle.shell_turns.proofs.order.next_of.Goals as goal
-
-pub overflow_add-result : goal.overflow_add-result
-overflow_add-result g c =
-    let there = next_there (g.E.Engine.standing c.args.engine.now) c.in-RoundsFrom.from c.in_ok-h-in-RoundsFrom.h (search rules) in
-    grind (arith, there, c.harts-harts.ensures.few, c.harts-harts.ensures.harts)
-
-pub returns-in_ok-h-in-RoundsFrom-clause-hart : goal.returns-in_ok-h-in-RoundsFrom-clause-hart
-returns-in_ok-h-in-RoundsFrom-clause-hart g c =
-    next_there (g.E.Engine.standing c.args.engine.now) c.in-RoundsFrom.from c.in_ok-h-in-RoundsFrom.h (search rules)
 
 pub returns-in_ok-h-in-Listed-clause-rest : goal.returns-in_ok-h-in-Listed-clause-rest
 returns-in_ok-h-in-Listed-clause-rest g c =

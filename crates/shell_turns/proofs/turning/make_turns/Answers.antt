@@ -1,7 +1,6 @@
 use Rattle.std.proofs.Common.{rules, arith, ◌≡◌, ◌++◌, ◌+◌, [], length, refl, ap, sym, ◌∙◌}
 use Rattle.std.proofs.lemmas.List.{length-append}
 use Rattle.std.proofs.lemmas.Result.{err_from_is_err_and}
-use Rattle.engine_trait.specs.Machine.{hart_at}
 use Rattle.engine_trait.specs.Standing.{step}
 use Rattle.shell_turns.specs.Order.{order_of}
 use Rattle.shell_turns.specs.Told.{counted, is_last}
@@ -57,9 +56,7 @@ loop-preserved g c =
     let stepped = step eq m here c.loop.feed c.in-Some.h in
     let counts : c.count_of-count.result ≡ length (counted c.in-Some.h stepped.ended)
     = c.count_of-count.ensures.count c.in-Some.h ∙ ap (λ ended. length (counted c.in-Some.h ended)) c.in_ok-end.ensures.ended in
-    let last
-    = (λ j. is_last c.args.breaks.now (hart_at (sym c.in_ok-end.ensures.standing j).machine.core c.in-Some.h).pc (sym c.in_ok-end.ensures.ended j))
-    ∙ ap (λ pc. is_last c.args.breaks.now pc c.in_ok-end.end) (sym c.pc.ensures.pc) ∙ sym c.is_last.ensures in
+    let last = (λ j. is_last c.args.breaks.now (sym c.in_ok-end.ensures.pc j) (sym c.in_ok-end.ensures.ended j)) ∙ sym c.is_last.ensures in
     record {
       pieces = c.loop.invariant.pieces ++ step_pieces c.args.breaks.now c.in-Some.h stepped;
       harts = c.loop.invariant.harts ++ counted c.in-Some.h stepped.ended;
@@ -76,7 +73,7 @@ loop-preserved g c =
       puts =
           puts_on (g.K.Sink.taken c.args.out.now) (g.K.Sink.taken c.loop.out) (g.K.Sink.taken c.make_turn.new.out) c.loop.invariant.pieces
           (step_pieces c.args.breaks.now c.in-Some.h stepped) tt done c.loop.invariant.puts
-          (puts_as (g.K.Sink.taken c.loop.out) (g.K.Sink.taken c.make_turn.new.out) (step_pieces c.args.breaks.now c.in-Some.h stepped) c.in_ok-end.end tt c.in_ok-end.ensures.puts);
+          (puts_as (g.K.Sink.taken c.loop.out) (g.K.Sink.taken c.make_turn.new.out) (step_pieces c.args.breaks.now c.in-Some.h stepped) (c.in_ok-end.end, c.in_ok-end.pc) tt c.in_ok-end.ensures.puts);
       faults = c.in_ok-end.ensures.cause ∙ c.loop.invariant.faults;
     }
 
@@ -137,9 +134,7 @@ returns-then-is_last-clause-made g c =
     let stepped = step eq m here c.loop.feed c.in-Some.h in
     let counts : c.count_of-count.result ≡ length (counted c.in-Some.h stepped.ended)
     = c.count_of-count.ensures.count c.in-Some.h ∙ ap (λ ended. length (counted c.in-Some.h ended)) c.in_ok-end.ensures.ended in
-    let last
-    = (λ j. is_last c.args.breaks.now (hart_at (sym c.in_ok-end.ensures.standing j).machine.core c.in-Some.h).pc (sym c.in_ok-end.ensures.ended j))
-    ∙ ap (λ pc. is_last c.args.breaks.now pc c.in_ok-end.end) (sym c.pc.ensures.pc) ∙ sym c.is_last.ensures in
+    let last = (λ j. is_last c.args.breaks.now (sym c.in_ok-end.ensures.pc j) (sym c.in_ok-end.ensures.ended j)) ∙ sym c.is_last.ensures in
     let done_all = way_lasts eq m c.args.breaks.now (order_of c.args.order) start c.args.feed.now c.loop.counter c.loop.invariant.pieces c.loop.invariant.harts
     (order_of c.loop.order) here c.loop.feed c.loop.invariant.way c.in-Some.h (order_of c.in-Some.others) (search rules) (last ∙ c.if-is_last.true)
     (g.E.Engine.standing c.make_turn.new.engine) c.make_turn.new.feed c.in_ok-end.ensures.standing c.in_ok-end.ensures.feed c.args.budget c.loop-test.true in
@@ -150,7 +145,7 @@ returns-then-is_last-clause-made g c =
     ((λ j. c.loop.invariant.count j + counts j) ∙ sym (length-append c.loop.invariant.harts (counted c.in-Some.h stepped.ended)))
     (puts_on (g.K.Sink.taken c.args.out.now) (g.K.Sink.taken c.loop.out) (g.K.Sink.taken c.make_turn.new.out) c.loop.invariant.pieces
     (step_pieces c.args.breaks.now c.in-Some.h stepped) tt done c.loop.invariant.puts
-    (puts_as (g.K.Sink.taken c.loop.out) (g.K.Sink.taken c.make_turn.new.out) (step_pieces c.args.breaks.now c.in-Some.h stepped) c.in_ok-end.end tt c.in_ok-end.ensures.puts)) in
+    (puts_as (g.K.Sink.taken c.loop.out) (g.K.Sink.taken c.make_turn.new.out) (step_pieces c.args.breaks.now c.in-Some.h stepped) (c.in_ok-end.end, c.in_ok-end.pc) tt c.in_ok-end.ensures.puts)) in
     all.leaves
 
 pub returns-then-is_last-clause-puts : goal.returns-then-is_last-clause-puts
@@ -162,9 +157,7 @@ returns-then-is_last-clause-puts g c =
     let stepped = step eq m here c.loop.feed c.in-Some.h in
     let counts : c.count_of-count.result ≡ length (counted c.in-Some.h stepped.ended)
     = c.count_of-count.ensures.count c.in-Some.h ∙ ap (λ ended. length (counted c.in-Some.h ended)) c.in_ok-end.ensures.ended in
-    let last
-    = (λ j. is_last c.args.breaks.now (hart_at (sym c.in_ok-end.ensures.standing j).machine.core c.in-Some.h).pc (sym c.in_ok-end.ensures.ended j))
-    ∙ ap (λ pc. is_last c.args.breaks.now pc c.in_ok-end.end) (sym c.pc.ensures.pc) ∙ sym c.is_last.ensures in
+    let last = (λ j. is_last c.args.breaks.now (sym c.in_ok-end.ensures.pc j) (sym c.in_ok-end.ensures.ended j)) ∙ sym c.is_last.ensures in
     let done_all = way_lasts eq m c.args.breaks.now (order_of c.args.order) start c.args.feed.now c.loop.counter c.loop.invariant.pieces c.loop.invariant.harts
     (order_of c.loop.order) here c.loop.feed c.loop.invariant.way c.in-Some.h (order_of c.in-Some.others) (search rules) (last ∙ c.if-is_last.true)
     (g.E.Engine.standing c.make_turn.new.engine) c.make_turn.new.feed c.in_ok-end.ensures.standing c.in_ok-end.ensures.feed c.args.budget c.loop-test.true in
@@ -175,5 +168,5 @@ returns-then-is_last-clause-puts g c =
     ((λ j. c.loop.invariant.count j + counts j) ∙ sym (length-append c.loop.invariant.harts (counted c.in-Some.h stepped.ended)))
     (puts_on (g.K.Sink.taken c.args.out.now) (g.K.Sink.taken c.loop.out) (g.K.Sink.taken c.make_turn.new.out) c.loop.invariant.pieces
     (step_pieces c.args.breaks.now c.in-Some.h stepped) tt done c.loop.invariant.puts
-    (puts_as (g.K.Sink.taken c.loop.out) (g.K.Sink.taken c.make_turn.new.out) (step_pieces c.args.breaks.now c.in-Some.h stepped) c.in_ok-end.end tt c.in_ok-end.ensures.puts)) in
+    (puts_as (g.K.Sink.taken c.loop.out) (g.K.Sink.taken c.make_turn.new.out) (step_pieces c.args.breaks.now c.in-Some.h stepped) (c.in_ok-end.end, c.in_ok-end.pc) tt c.in_ok-end.ensures.puts)) in
     all.puts
