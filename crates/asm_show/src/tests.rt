@@ -51,5 +51,8 @@ fn a_text_is_appended(rt: HostRuntime) {
 fn a_word_is_listed(rt: HostRuntime) {
     let mut line = Line::new();
     list_word(0, 0x0410_0513, &mut line);
-    assert_eq!(rt; line.as_slice(), b"00000000 04100513 addi x10, x0, 65\n".as_slice());
+    assert_eq!(rt;
+        line.as_slice(),
+        b"00000000 04100513 addi x10, x0, 65\n".as_slice()
+    );
 }

@@ -1,6 +1,6 @@
 -- Words without a fault ask for something: the subcommand is there, and so is each of its operands.
 use Rattle.std.proofs.Common.{◌≡◌, ◌&&◌, ◌||◌, Bool, true, false, not, List, [], ◌∷◌, codes, refl, subst, is_some}
-use Rattle.std.specs.Prelude.{Option, Some, None, find, option_map}
+use Rattle.std.specs.Prelude.{Option, Some, None, find, option_and_then, option_map}
 use Rattle.std.specs.List.{list_any}
 use Rattle.clap.specs.Faults.{check_fault, defaults_fault, entered_fault, level_fault, settle_fault, walk_fault}
 use Rattle.clap.specs.Kinds.{check_kinds, or_else}
@@ -8,8 +8,8 @@ use Rattle.clap.specs.Simple.{argument_words, built_leaf, entered, inherited, la
 use Rattle.clap.specs.Takes.{is_given}
 use Rattle.clap.specs.Walk.{Held, Names, answers_to, finished, nothing_held, rows_after, settled, walk, walk_from}
 use Rattle.clap.specs.Words.{App, Kinds, Shape, Text, built, fault_of, subcommand_of}
-use Rattle.pump_line.specs.Line.{HasMatch, faults_of, match_of, pump_app, run_shape, shell_shape}
-use Rattle.pump_line.specs.Request.{request_at, request_by, run_in, shell_in}
+use Rattle.pump_line.specs.Line.{HasMatch, asm_shape, dis_shape, faults_of, match_of, pump_app, run_shape, shell_shape}
+use Rattle.pump_line.specs.Request.{assemble_in, disassemble_in, request_at, request_by, run_in, shell_in}
 use Rattle.pump_line.proofs.GivenLemmas.{given_has_value}
 
 or_nil : (a b : Kinds) → or_else a b ≡ [] → (a ≡ []) × (b ≡ [])
@@ -87,13 +87,31 @@ unfoldable built_shell : Shape
 unfolding pump_app shell_shape
 built_shell = built_leaf (inherited (with_leaf_noted (marked_built pump_app.top)) shell_shape)
 
+unfoldable built_asm : Shape
+unfolding pump_app asm_shape
+built_asm = built_leaf (inherited (with_leaf_noted (marked_built pump_app.top)) asm_shape)
+
+unfoldable built_dis : Shape
+unfolding pump_app dis_shape
+built_dis = built_leaf (inherited (with_leaf_noted (marked_built pump_app.top)) dis_shape)
+
 some_mapped : {X Y : Type 0} (f : X → Y) (o : Option X) → is_some o ≡ true → is_some (option_map f o) ≡ true
 some_mapped f None h = cc
 some_mapped f (Some x) h = refl
 
+some_both : {X Y Z : Type 0} (f : X → Y → Z) (a : Option X) (b : Option Y) → is_some a ≡ true → is_some b ≡ true
+    → is_some (option_and_then (λ x. option_map (f x) b) a) ≡ true
+some_both f None b h k = cc
+some_both f (Some x) None h k = cc
+some_both f (Some x) (Some y) h k = refl
+
 given_if : (given rest : Bool) → not given || rest ≡ false → given ≡ true
 given_if true rest h = refl
 given_if false rest h = cc
+
+rest_if : (given rest : Bool) → not given || rest ≡ false → rest ≡ false
+rest_if true rest h = h
+rest_if false rest h = cc
 
 -- a subcommand's words without a fault give what is required
 level_needs : (s : Shape) (words : List Text) → level_fault s [] nothing_held words false [] ≡ []
@@ -113,12 +131,29 @@ shell_asks words fine =
     let given = given_if (is_given (codes "image") (rows_after built_shell.rules [] words)) false (level_needs built_shell words fine) in
     some_mapped _ _ (some_mapped _ _ (given_has_value (codes "image") built_shell.rules [] words refl given))
 
+asm_asks : Asks built_asm
+unfolding built_asm pump_app asm_shape request_by assemble_in
+asm_asks words fine =
+    let source_given = is_given (codes "source") (rows_after built_asm.rules [] words) in
+    let image_given = is_given (codes "image") (rows_after built_asm.rules [] words) in
+    let needs = level_needs built_asm words fine in
+    let has_source = given_if source_given (not image_given || false) needs in
+    let has_image = given_if image_given false (rest_if source_given (not image_given || false) needs) in
+    some_mapped _ _ (some_both _ _ _ (given_has_value (codes "source") built_asm.rules [] words refl has_source)
+    (given_has_value (codes "image") built_asm.rules [] words refl has_image))
+
+dis_asks : Asks built_dis
+unfolding built_dis pump_app dis_shape request_by disassemble_in
+dis_asks words fine =
+    let given = given_if (is_given (codes "image") (rows_after built_dis.rules [] words)) false (level_needs built_dis words fine) in
+    some_mapped _ _ (some_mapped _ _ (given_has_value (codes "image") built_dis.rules [] words refl given))
+
 all_ask : AllAsk (built pump_app).subs
-unfolding built_run built_shell pump_app run_shape shell_shape
-all_ask = (run_asks, (shell_asks, tt))
+unfolding built_run built_shell built_asm built_dis pump_app run_shape shell_shape asm_shape dis_shape
+all_ask = (run_asks, (shell_asks, (asm_asks, (dis_asks, tt))))
 
 needs_subcommand : (built pump_app).top.subcommand_required ≡ true
-unfolding pump_app run_shape shell_shape
+unfolding pump_app run_shape shell_shape asm_shape dis_shape
 needs_subcommand = refl
 
 -- words with a match ask for something

@@ -4,8 +4,8 @@ use Rattle.std.proofs.lemmas.Bool.Decides.{nat_tests}
 use Rattle.std.specs.Prelude.{option_and_then, option_map}
 use Rattle.clap.specs.Words.{Text}
 use Rattle.policy_choice.specs.declared.choice.Choice.{Choice}
-use Rattle.pump_line.specs.Request.{Request, request_of, run_asked, shell_asked}
-use Rattle.pump_line.specs.Task.{AllowsTags, RunTask, ShellTask, Task, number_of, run, run_task_in, run_with, shell, shell_task_in, shell_with, tags_of, task_in, task_of}
+use Rattle.pump_line.specs.Request.{Request, assemble_asked, disassemble_asked, request_of, run_asked, shell_asked}
+use Rattle.pump_line.specs.Task.{AllowsTags, RunTask, ShellTask, Task, assemble, disassemble, number_of, run, run_task_in, run_with, shell, shell_task_in, shell_with, tags_of, task_in, task_of}
 use Rattle.pump_line.proofs.ValueLemmas.{within}
 
 -- ---- the value of the option
@@ -60,6 +60,8 @@ request_allows (Some (run_asked request)) task is =
     made_allows run (run_task_in request) task (λ other read. tags_in_run request.image _ _ _ _ other (some_tags request.tags) read) is
 request_allows (Some (shell_asked request)) task is =
     made_allows shell (shell_task_in request) task (λ other read. tags_in_shell request.image _ _ _ other (some_tags request.tags) read) is
+request_allows (Some (assemble_asked asked)) task is = let same : assemble asked ≡ task = cc in subst AllowsTags same tt
+request_allows (Some (disassemble_asked asked)) task is = let same : disassemble asked ≡ task = cc in subst AllowsTags same tt
 
 pub words_allow : (words : List Text) (task : Task) → task_of words ≡ Some task → AllowsTags task
 unfolding task_of

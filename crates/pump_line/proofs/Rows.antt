@@ -6,13 +6,13 @@ use Rattle.clap.specs.Words.{Text}
 use Rattle.clap.specs.declared.error.kind.ErrorKind.TheVariants.{ArgumentConflict, InvalidSubcommand, InvalidValue, MissingRequiredArgument, MissingSubcommand, UnknownArgument}
 use Rattle.policy_choice.specs.Choice.{no_policy}
 use Rattle.policy_choice.specs.declared.choice.Choice.{Choice}
-use Rattle.pump_line.specs.Line.{faults_of, match_of, pump_app, run_shape, shell_shape}
-use Rattle.pump_line.specs.Request.{request_by, request_of, run_in, shell_in}
-use Rattle.pump_line.specs.Task.{Task, run, run_task_in, shell, shell_task_in, task_of}
+use Rattle.pump_line.specs.Line.{asm_shape, dis_shape, faults_of, match_of, pump_app, run_shape, shell_shape}
+use Rattle.pump_line.specs.Request.{assemble_in, disassemble_in, request_by, request_of, run_in, shell_in}
+use Rattle.pump_line.specs.Task.{Task, assemble, disassemble, run, run_task_in, shell, shell_task_in, task_of}
 
 -- what computes on words that are written out
 unfoldable on_rows : ⊤
-unfolding clap_on_literals faults_of match_of pump_app run_shape shell_shape request_by request_of run_in shell_in run_task_in shell_task_in task_of
+unfolding clap_on_literals faults_of match_of pump_app run_shape shell_shape asm_shape dis_shape request_by request_of run_in shell_in assemble_in disassemble_in run_task_in shell_task_in task_of
 on_rows = tt
 
 -- a line after the program's name
@@ -30,6 +30,14 @@ run_keeping image cache tags = run (record { image = image; choice = no_policy; 
 -- a shell that keeps so many rules, and so many tags with words
 abbrev shell_of : Text → Choice → ℕ → ℕ → Task
 shell_of image choice cache tags = shell (record { image = image; choice = choice; cache = cache; tags = tags })
+
+-- an assembly of a source into an image
+abbrev asm_of : Text → Text → Task
+asm_of source image = assemble (record { source = source; image = image })
+
+-- a listing of an image
+abbrev dis_of : Text → Task
+dis_of image = disassemble (record { image = image })
 
 abbrev sealing_alone : Choice
 sealing_alone = record no_policy { seal = true }
@@ -193,6 +201,75 @@ image_shell : task_of (line (codes "shell" ∷ codes "shell" ∷ [])) ≡ Some (
 unfolding on_rows
 image_shell = refl
 
+-- ---- lines that ask for an assembly
+
+-- the source and the image
+asm_plain : task_of (line (codes "asm" ∷ codes "a.s" ∷ codes "a.img" ∷ [])) ≡ Some (asm_of (codes "a.s") (codes "a.img"))
+unfolding on_rows
+asm_plain = refl
+
+-- the order of the words alone says which is which
+asm_turned : task_of (line (codes "asm" ∷ codes "a.img" ∷ codes "a.s" ∷ [])) ≡ Some (asm_of (codes "a.img") (codes "a.s"))
+unfolding on_rows
+asm_turned = refl
+
+-- one name for both
+asm_onto_itself : task_of (line (codes "asm" ∷ codes "a" ∷ codes "a" ∷ [])) ≡ Some (asm_of (codes "a") (codes "a"))
+unfolding on_rows
+asm_onto_itself = refl
+
+-- names of subcommands
+asm_named : task_of (line (codes "asm" ∷ codes "asm" ∷ codes "dis" ∷ [])) ≡ Some (asm_of (codes "asm") (codes "dis"))
+unfolding on_rows
+asm_named = refl
+
+-- no option after two dashes
+asm_behind_dashes : task_of (line (codes "asm" ∷ codes "--" ∷ codes "--cache" ∷ codes "-5" ∷ [])) ≡ Some (asm_of (codes "--cache") (codes "-5"))
+unfolding on_rows
+asm_behind_dashes = refl
+
+-- two dashes between the names
+asm_dashes_between : task_of (line (codes "asm" ∷ codes "a.s" ∷ codes "--" ∷ codes "-a.img" ∷ [])) ≡ Some (asm_of (codes "a.s") (codes "-a.img"))
+unfolding on_rows
+asm_dashes_between = refl
+
+-- a lone dash is an ordinary word
+asm_dash : task_of (line (codes "asm" ∷ codes "-" ∷ codes "a.img" ∷ [])) ≡ Some (asm_of (codes "-") (codes "a.img"))
+unfolding on_rows
+asm_dash = refl
+
+-- empty names
+asm_empty_names : task_of (line (codes "asm" ∷ [] ∷ [] ∷ [])) ≡ Some (asm_of [] [])
+unfolding on_rows
+asm_empty_names = refl
+
+-- ---- lines that ask for a listing
+
+-- the image
+dis_plain : task_of (line (codes "dis" ∷ codes "a.img" ∷ [])) ≡ Some (dis_of (codes "a.img"))
+unfolding on_rows
+dis_plain = refl
+
+-- an image of the subcommand's name
+image_dis : task_of (line (codes "dis" ∷ codes "dis" ∷ [])) ≡ Some (dis_of (codes "dis"))
+unfolding on_rows
+image_dis = refl
+
+-- no option after two dashes
+dis_behind_dashes : task_of (line (codes "dis" ∷ codes "--" ∷ codes "--cache" ∷ [])) ≡ Some (dis_of (codes "--cache"))
+unfolding on_rows
+dis_behind_dashes = refl
+
+-- a lone dash is an ordinary word
+dis_dash : task_of (line (codes "dis" ∷ codes "-" ∷ [])) ≡ Some (dis_of (codes "-"))
+unfolding on_rows
+dis_dash = refl
+
+-- the empty name
+dis_empty_name : task_of (line (codes "dis" ∷ [] ∷ [])) ≡ Some (dis_of [])
+unfolding on_rows
+dis_empty_name = refl
+
 -- ---- lines in which `clap` names a fault
 
 -- no words at all
@@ -334,6 +411,101 @@ shell_turns = refl
 shell_tags_twice : faults_of (line (codes "shell" ∷ codes "a.img" ∷ codes "--tags" ∷ codes "5" ∷ codes "--tags=6" ∷ [])) ≡ ArgumentConflict ∷ []
 unfolding on_rows
 shell_tags_twice = refl
+
+-- an assembly of nothing
+asm_alone : faults_of (line (codes "asm" ∷ [])) ≡ MissingRequiredArgument ∷ []
+unfolding on_rows
+asm_alone = refl
+
+-- an assembly without the image
+asm_no_image : faults_of (line (codes "asm" ∷ codes "a.s" ∷ [])) ≡ MissingRequiredArgument ∷ []
+unfolding on_rows
+asm_no_image = refl
+
+-- two dashes are no name
+asm_dashes_alone : faults_of (line (codes "asm" ∷ codes "a.s" ∷ codes "--" ∷ [])) ≡ MissingRequiredArgument ∷ []
+unfolding on_rows
+asm_dashes_alone = refl
+
+-- an assembly of three names
+asm_three_names : faults_of (line (codes "asm" ∷ codes "a.s" ∷ codes "a.img" ∷ codes "b.img" ∷ [])) ≡ UnknownArgument ∷ []
+unfolding on_rows
+asm_three_names = refl
+
+-- an assembly starts no image: it has no policy
+asm_policy : faults_of (line (codes "asm" ∷ codes "a.s" ∷ codes "a.img" ∷ codes "--policy" ∷ codes "seal" ∷ [])) ≡ UnknownArgument ∷ []
+unfolding on_rows
+asm_policy = refl
+
+-- the same for kept rules, before the names
+asm_cache : faults_of (line (codes "asm" ∷ codes "--cache" ∷ codes "5" ∷ codes "a.s" ∷ codes "a.img" ∷ [])) ≡ UnknownArgument ∷ []
+unfolding on_rows
+asm_cache = refl
+
+-- and for turns, between them
+asm_turns : faults_of (line (codes "asm" ∷ codes "a.s" ∷ codes "--turns=5" ∷ codes "a.img" ∷ [])) ≡ UnknownArgument ∷ []
+unfolding on_rows
+asm_turns = refl
+
+-- the operands are no options
+asm_options : faults_of (line (codes "asm" ∷ codes "--source" ∷ codes "a.s" ∷ codes "--image" ∷ codes "a.img" ∷ [])) ≡ UnknownArgument ∷ []
+unfolding on_rows
+asm_options = refl
+
+-- a request for the help of `asm`
+help_of_asm : faults_of (line (codes "asm" ∷ codes "a.s" ∷ codes "a.img" ∷ codes "--help" ∷ [])) ≡ UnknownArgument ∷ []
+unfolding on_rows
+help_of_asm = refl
+
+-- a longer name of the subcommand
+asm_longer : faults_of (line (codes "assemble" ∷ codes "a.s" ∷ codes "a.img" ∷ [])) ≡ UnknownArgument ∷ InvalidSubcommand ∷ []
+unfolding on_rows
+asm_longer = refl
+
+-- a listing of nothing
+dis_alone : faults_of (line (codes "dis" ∷ [])) ≡ MissingRequiredArgument ∷ []
+unfolding on_rows
+dis_alone = refl
+
+-- a listing of two images
+dis_two_images : faults_of (line (codes "dis" ∷ codes "a.img" ∷ codes "b.img" ∷ [])) ≡ UnknownArgument ∷ []
+unfolding on_rows
+dis_two_images = refl
+
+-- a listing starts no image: it has no policy
+dis_policy : faults_of (line (codes "dis" ∷ codes "a.img" ∷ codes "--policy" ∷ codes "seal" ∷ [])) ≡ UnknownArgument ∷ []
+unfolding on_rows
+dis_policy = refl
+
+-- the same for kept rules
+dis_cache : faults_of (line (codes "dis" ∷ codes "a.img" ∷ codes "--cache" ∷ codes "5" ∷ [])) ≡ UnknownArgument ∷ []
+unfolding on_rows
+dis_cache = refl
+
+-- for tags
+dis_tags : faults_of (line (codes "dis" ∷ codes "--tags" ∷ codes "5" ∷ codes "a.img" ∷ [])) ≡ UnknownArgument ∷ []
+unfolding on_rows
+dis_tags = refl
+
+-- and for turns
+dis_turns : faults_of (line (codes "dis" ∷ codes "a.img" ∷ codes "--turns" ∷ codes "5" ∷ [])) ≡ UnknownArgument ∷ []
+unfolding on_rows
+dis_turns = refl
+
+-- a short option for a listing
+dis_short_option : faults_of (line (codes "dis" ∷ codes "a.img" ∷ codes "-p" ∷ [])) ≡ UnknownArgument ∷ []
+unfolding on_rows
+dis_short_option = refl
+
+-- an option in place of the image
+dis_option_alone : faults_of (line (codes "dis" ∷ codes "--image=a.img" ∷ [])) ≡ UnknownArgument ∷ []
+unfolding on_rows
+dis_option_alone = refl
+
+-- a longer name of the subcommand
+dis_longer : faults_of (line (codes "disassemble" ∷ codes "a.img" ∷ [])) ≡ UnknownArgument ∷ InvalidSubcommand ∷ []
+unfolding on_rows
+dis_longer = refl
 
 -- ---- lines without a fault, of which a value is refused
 

@@ -17,11 +17,11 @@ abbrev pub subcommand_shape : Text → List Text → List Text → Shape
 subcommand_shape name operands options =
     record (new_shape name) { rules = map operand_rule operands ++ map option_rule options }
 
--- the operands of a subcommand that starts an image
+-- the operand of a subcommand that takes an image alone
 abbrev pub image_operand : List Text
 image_operand = codes "image" ∷ []
 
--- the options of each of them
+-- the options of each subcommand that starts an image
 abbrev pub start_options : List Text
 start_options = codes "policy" ∷ codes "cache" ∷ codes "tags" ∷ []
 
@@ -30,6 +30,12 @@ run_shape = subcommand_shape (codes "run") image_operand (start_options ++ codes
 
 unfoldable pub shell_shape : Shape
 shell_shape = subcommand_shape (codes "shell") image_operand start_options
+
+unfoldable pub asm_shape : Shape
+asm_shape = subcommand_shape (codes "asm") (codes "source" ∷ codes "image" ∷ []) []
+
+unfoldable pub dis_shape : Shape
+dis_shape = subcommand_shape (codes "dis") image_operand []
 
 -- `pump SUBCOMMAND ..`, with no help and no version
 unfoldable pub pump_app : App
@@ -40,7 +46,7 @@ pump_app = record {
     disable_help_subcommand = true;
     subcommand_required = true;
   };
-  subs = run_shape ∷ shell_shape ∷ [];
+  subs = run_shape ∷ shell_shape ∷ asm_shape ∷ dis_shape ∷ [];
 }
 
 -- the faults that `clap` may name for the words

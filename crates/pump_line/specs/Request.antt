@@ -19,10 +19,21 @@ pub record ShellRequest : Type 0 where
   pub cache : Option Text
   pub tags : Option Text
 
+-- an `asm`: the names of the source and of the image that is made of it; no value is left to read, so this is the task itself
+pub record AssembleTask : Type 0 where
+  pub source : Text
+  pub image : Text
+
+-- a `dis`: the image's name, which is the task itself too
+pub record DisassembleTask : Type 0 where
+  pub image : Text
+
 -- what a line asks for, a case for each subcommand
 pub data Request : Type 0 where
   run_asked : RunRequest → Request
   shell_asked : ShellRequest → Request
+  assemble_asked : AssembleTask → Request
+  disassemble_asked : DisassembleTask → Request
 
 unfoldable pub run_in : List Row → Option RunRequest
 run_in rows = option_map (λ image. record {
@@ -41,11 +52,22 @@ shell_in rows = option_map (λ image. record {
   tags = first_of (codes "tags") rows;
 }) (first_of (codes "image") rows)
 
+unfoldable pub assemble_in : List Row → Option AssembleTask
+assemble_in rows = option_and_then (λ source. option_map (λ image. record {
+  source = source;
+  image = image;
+}) (first_of (codes "image") rows)) (first_of (codes "source") rows)
+
+unfoldable pub disassemble_in : List Row → Option DisassembleTask
+disassemble_in rows = option_map (λ image. record { image = image }) (first_of (codes "image") rows)
+
 -- the request that a subcommand's name and rows make
 unfoldable pub request_by : Text → List Row → Option Request
 request_by name rows =
     if bytes_eq name (codes "run") then option_map run_asked (run_in rows)
-    else (if bytes_eq name (codes "shell") then option_map shell_asked (shell_in rows) else None)
+    else (if bytes_eq name (codes "shell") then option_map shell_asked (shell_in rows)
+    else (if bytes_eq name (codes "asm") then option_map assemble_asked (assemble_in rows)
+    else (if bytes_eq name (codes "dis") then option_map disassemble_asked (disassemble_in rows) else None)))
 
 abbrev pub request_at : Option (Text × List Row) → Option Request
 request_at = option_and_then (λ found. request_by found.0 found.1)

@@ -6,7 +6,8 @@ use Rattle.std.specs.Str.Parse.{digits_value}
 use Rattle.clap.specs.Words.{Text}
 use Rattle.policy_choice.specs.Choice.{choice_of, no_policy}
 use Rattle.policy_choice.specs.declared.choice.Choice.{Choice}
-use Rattle.pump_line.specs.Request.{Request, RunRequest, ShellRequest, request_of, run_asked, shell_asked}
+use Rattle.pump_line.specs.Request.{AssembleTask, DisassembleTask, Request, RunRequest, ShellRequest, assemble_asked}
+use Rattle.pump_line.specs.Request.{disassemble_asked, request_of, run_asked, shell_asked}
 
 -- a `run`: the image's name, the policies that are chosen, and its limits
 pub record RunTask : Type 0 where
@@ -32,11 +33,15 @@ pub record ShellTask : Type 0 where
 pub data Task : Type 0 where
   run : RunTask → Task
   shell : ShellTask → Task
+  assemble : AssembleTask → Task
+  disassemble : DisassembleTask → Task
 
--- some tag may have a word
+-- some tag may have a word, of a task that starts an image
 abbrev pub AllowsTags : Task → Type 0
 AllowsTags (run task) = 1 ≤ task.tags
 AllowsTags (shell task) = 1 ≤ task.tags
+AllowsTags (assemble task) = Unit {0}
+AllowsTags (disassemble task) = Unit {0}
 
 -- no policy where the option is not on the line
 abbrev pub choice_in : Option Text → Option Choice
@@ -127,6 +132,8 @@ shell_task_in request =
 abbrev pub task_in : Request → Option Task
 task_in (run_asked request) = option_map run (run_task_in request)
 task_in (shell_asked request) = option_map shell (shell_task_in request)
+task_in (assemble_asked task) = Some (assemble task)
+task_in (disassemble_asked task) = Some (disassemble task)
 
 -- what the words ask `pump` to do; `None` where they are no command line of it
 unfoldable pub task_of : List Text → Option Task

@@ -40,9 +40,14 @@ pub(crate) fn pump_command<'a>(alloc: Global) -> Result<Command<'a>, AllocError>
         &["policy", "cache", "tags", "turns"],
     )?;
     let shell_leaf = leaf_command(alloc, "shell", &["image"], &["policy", "cache", "tags"])?;
+    let asm_leaf = leaf_command(alloc, "asm", &["source", "image"], &[])?;
+    let dis_leaf = leaf_command(alloc, "dis", &["image"], &[])?;
     let pump = Command::new(alloc, "pump")
         .disable_help_flag(true)
         .disable_help_subcommand(true)
         .subcommand_required(true);
-    pump.subcommand(run_leaf)?.subcommand(shell_leaf)
+    pump.subcommand(run_leaf)?
+        .subcommand(shell_leaf)?
+        .subcommand(asm_leaf)?
+        .subcommand(dis_leaf)
 }

@@ -9,4 +9,4 @@ mod tests;
 mod values;
 
 pub use law::match_law;
-pub use task::{RunTask, ShellTask, Task, WordsEnd, read_task};
+pub use task::{AssembleTask, DisassembleTask, RunTask, ShellTask, Task, WordsEnd, read_task};

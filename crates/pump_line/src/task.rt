@@ -2,9 +2,9 @@
 
 ghost use Rattle.std.specs.Prelude.{◌≡◌, ◌≢◌, Some, None, IfOk, IfErr, option_and_then, option_map};
 ghost use Rattle.clap.specs.Words.{first_of, found_of, kind_of, rows_of, subcommand_rows_of};
-ghost use Rattle.pump_line.specs.Request.{request_at, request_by, run_in, shell_in};
+ghost use Rattle.pump_line.specs.Request.{assemble_in, disassemble_in, request_at, request_by, run_in, shell_in};
 ghost use Rattle.pump_line.specs.Task.{AllowsTags, run_task_in, shell_task_in, task_in, task_of};
-ghost use Rattle.pump_line.specs.Told.{lent, run_told, shell_told, texts_of, told};
+ghost use Rattle.pump_line.specs.Told.{assemble_told, disassemble_told, lent, run_told, shell_told, texts_of, told};
 
 use crate::command::pump_command;
 use crate::values::{choice_from, read_cache, read_tags, read_turns};
@@ -20,6 +20,10 @@ pub enum Task<'a> {
     Run(RunTask<'a>),
     /// `shell`
     Shell(ShellTask<'a>),
+    /// `asm`
+    Assemble(AssembleTask<'a>),
+    /// `dis`
+    Disassemble(DisassembleTask<'a>),
 }
 
 /// A run that the words ask for.
@@ -48,6 +52,22 @@ pub struct ShellTask<'a> {
     pub cache: u32,
     /// The most tags that may have words: 1 to 1,048,576.
     pub tags: u32,
+}
+
+/// An image of a source that the words ask for.
+#[derive(Clone, Copy, Debug)]
+pub struct AssembleTask<'a> {
+    /// The name of the source's file; it may be empty.
+    pub source: &'a str,
+    /// The name of the file that the image goes to; it may be empty.
+    pub image: &'a str,
+}
+
+/// A listing of an image's words that the words ask for.
+#[derive(Clone, Copy, Debug)]
+pub struct DisassembleTask<'a> {
+    /// The name of the image's file; it may be empty.
+    pub image: &'a str,
 }
 
 /// Why words were not read.
@@ -114,6 +134,26 @@ fn shell_task<'a>(matches: &ArgMatches<'a>) -> Option<ShellTask<'a>>
     })
 }
 
+/// The assembly that a match of `asm` asks for.
+#[tactic(auto, unfolding(crate::specs::Request::assemble_in))]
+fn assemble_task<'a>(matches: &ArgMatches<'a>) -> Option<AssembleTask<'a>>
+    ensures { option_map assemble_told result ≡ assemble_in (rows_of (found_of matches.now)) }
+{
+    let source = text_of(matches, "source")?;
+    let image = text_of(matches, "image")?;
+    Some(AssembleTask { source, image })
+}
+
+/// The listing that a match of `dis` asks for.
+#[tactic(auto, unfolding(crate::specs::Request::disassemble_in))]
+fn disassemble_task<'a>(matches: &ArgMatches<'a>) -> Option<DisassembleTask<'a>>
+    ensures { option_map disassemble_told result
+        ≡ disassemble_in (rows_of (found_of matches.now)) }
+{
+    let image = text_of(matches, "image")?;
+    Some(DisassembleTask { image })
+}
+
 /// What a match of the subcommand with this name asks for.
 #[tactic(auto, unfolding(crate::specs::Request::request_by))]
 fn task_named<'a>(name: &str, matches: &ArgMatches<'a>) -> Option<Task<'a>>
@@ -123,6 +163,8 @@ fn task_named<'a>(name: &str, matches: &ArgMatches<'a>) -> Option<Task<'a>>
     match name {
         "run" => Some(Task::Run(run_task(matches)?)),
         "shell" => Some(Task::Shell(shell_task(matches)?)),
+        "asm" => Some(Task::Assemble(assemble_task(matches)?)),
+        "dis" => Some(Task::Disassemble(disassemble_task(matches)?)),
         _ => None,
     }
 }
@@ -148,12 +190,13 @@ fn end_of(error: &Error) -> WordsEnd
 }
 
 /// What the words ask for, the first being the program's name:
-/// `run IMAGE [--policy LIST] [--cache N] [--tags N] [--turns N]` or `shell IMAGE [--policy LIST] [--cache N] [--tags N]`, the
-/// options in any order before or after the image, each at most once. LIST is `none`, or names among `seal`, `comp`, `flow`
-/// and `heap` with commas between, none twice; it is `none` where it isn't there. N is 1 to 10 decimal digits that write 0 to
-/// 65,536 for `--cache` (1,024 where it isn't there), 1 to 1,048,576 for `--tags` (65,536) and 1 to 1,000,000,000 for
-/// `--turns` (1,000,000). So some tag may have a word in every task. This is the project's own command line; `clap` judges
-/// its form. Any other words are `Bad`. A line in want of memory may end as `Memory`.
+/// `run IMAGE [--policy LIST] [--cache N] [--tags N] [--turns N]`, `shell IMAGE [--policy LIST] [--cache N] [--tags N]`,
+/// `asm SOURCE IMAGE` or `dis IMAGE`, the options in any order before or after the image, each at most once; `asm` and `dis`
+/// have none. LIST is `none`, or names among `seal`, `comp`, `flow` and `heap` with commas between, none twice; it is `none`
+/// where it isn't there. N is 1 to 10 decimal digits that write 0 to 65,536 for `--cache` (1,024 where it isn't there), 1 to
+/// 1,048,576 for `--tags` (65,536) and 1 to 1,000,000,000 for `--turns` (1,000,000). So some tag may have a word in every task
+/// that starts an image. SOURCE and IMAGE are names of files, of any text: no file is looked at. This is the project's own
+/// command line; `clap` judges its form. Any other words are `Bad`. A line in want of memory may end as `Memory`.
 pub fn read_task<'a>(alloc: Global, words: &'a Vec<String>) -> Result<Task<'a>, WordsEnd>
     ensures task { IfOk result (λ t. task_of (texts_of words.now.items) ≡ Some (told t)) }
     ensures tags { IfOk result (λ t. AllowsTags (told t)) }

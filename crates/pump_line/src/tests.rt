@@ -45,7 +45,7 @@ fn is_run(read: Result<Task<'_>, WordsEnd>, image: &str, named: Named, limits: L
                 && task.choice == choice_named(named)
                 && (task.cache, task.tags, task.turns) == limits
         }
-        Ok(Task::Shell(_)) | Err(_) => false,
+        _ => false,
     }
 }
 
@@ -168,7 +168,7 @@ fn is_shell(
                 && task.choice == choice_named(named)
                 && (task.cache, task.tags) == limits
         }
-        Ok(Task::Run(_)) | Err(_) => false,
+        _ => false,
     }
 }
 
@@ -224,6 +224,69 @@ fn each_line_asks_for_its_shell(rt: HostRuntime) -> Result<(), Fail> {
     Ok(())
 }
 
+fn is_assembly(read: Result<Task<'_>, WordsEnd>, source: &str, image: &str) -> bool {
+    match read {
+        Ok(Task::Assemble(task)) => task.source == source && task.image == image,
+        _ => false,
+    }
+}
+
+/// Lines as `asm SOURCE IMAGE`, each with the source and the image that it asks for.
+const ASM_LINES: [(&[&str], (&str, &str)); 9] = [
+    (&["asm", "a.s", "a.img"], ("a.s", "a.img")),
+    (&["asm", "a.img", "a.s"], ("a.img", "a.s")),
+    (&["asm", "a", "a"], ("a", "a")),
+    (&["asm", "asm", "dis"], ("asm", "dis")),
+    (&["asm", "--", "a.s", "a.img"], ("a.s", "a.img")),
+    (&["asm", "--", "--cache", "-5"], ("--cache", "-5")),
+    (&["asm", "a.s", "--", "-a.img"], ("a.s", "-a.img")),
+    (&["asm", "-", "a.img"], ("-", "a.img")),
+    (&["asm", "", ""], ("", "")),
+];
+
+#[test]
+fn each_line_asks_for_its_assembly(rt: HostRuntime) -> Result<(), Fail> {
+    for (words, want) in ASM_LINES {
+        let line = words_of(rt.alloc(), words)?;
+        let (source, image) = want;
+        let read = read_task(rt.alloc(), &line);
+        assert!(rt; is_assembly(read, source, image), "{words:?}");
+    }
+    Ok(())
+}
+
+fn is_listing(read: Result<Task<'_>, WordsEnd>, image: &str) -> bool {
+    match read {
+        Ok(Task::Disassemble(task)) => task.image == image,
+        _ => false,
+    }
+}
+
+/// Lines as `dis IMAGE`, each with the image that it asks for.
+const DIS_LINES: [(&[&str], &str); 7] = [
+    (&["dis", "a.img"], "a.img"),
+    (&["dis", "dis"], "dis"),
+    (&["dis", "run"], "run"),
+    (&["dis", "--", "a.img"], "a.img"),
+    (&["dis", "--", "--cache"], "--cache"),
+    (&["dis", "-"], "-"),
+    (&["dis", ""], ""),
+];
+
+#[test]
+fn each_line_asks_for_its_listing(rt: HostRuntime) -> Result<(), Fail> {
+    for (words, image) in DIS_LINES {
+        let line = words_of(rt.alloc(), words)?;
+        let read = read_task(rt.alloc(), &line);
+        assert!(rt; is_listing(read, image), "{words:?}");
+    }
+    Ok(())
+}
+
+fn is_bad(read: Result<Task<'_>, WordsEnd>) -> bool {
+    matches!(read, Err(WordsEnd::Bad))
+}
+
 /// Lines that are none, with words before their values.
 const BAD_LINES: [&[&str]; 37] = [
     &[],
@@ -270,8 +333,42 @@ fn every_other_line_is_bad(rt: HostRuntime) -> Result<(), Fail> {
     match_law();
     for words in BAD_LINES {
         let line = words_of(rt.alloc(), words)?;
-        let read = read_task(rt.alloc(), &line);
-        assert!(rt; matches!(read, Err(WordsEnd::Bad)), "{words:?}");
+        assert!(rt; is_bad(read_task(rt.alloc(), &line)), "{words:?}");
+    }
+    Ok(())
+}
+
+/// Lines of `asm` and `dis` that are none: an operand is missing, there is one too many, or an option.
+const BAD_FILE_LINES: [&[&str]; 22] = [
+    &["asm"],
+    &["asm", "a.s"],
+    &["asm", "a.s", "--"],
+    &["asm", "a.s", "a.img", "b.img"],
+    &["asm", "a.s", "a.img", "--policy", "none"],
+    &["asm", "--cache", "5", "a.s", "a.img"],
+    &["asm", "a.s", "--tags=5", "a.img"],
+    &["asm", "a.s", "a.img", "--turns", "5"],
+    &["asm", "a.s", "--image", "a.img"],
+    &["asm", "a.s", "a.img", "-o"],
+    &["asm", "a.s", "a.img", "--help"],
+    &["assemble", "a.s", "a.img"],
+    &["dis"],
+    &["dis", "--"],
+    &["dis", "a.img", "b.img"],
+    &["dis", "a.img", "--policy", "none"],
+    &["dis", "a.img", "--cache", "5"],
+    &["dis", "--tags", "5", "a.img"],
+    &["dis", "a.img", "--turns", "5"],
+    &["dis", "--image=a.img"],
+    &["dis", "a.img", "--help"],
+    &["Dis", "a.img"],
+];
+
+#[test]
+fn every_other_line_of_files_is_bad(rt: HostRuntime) -> Result<(), Fail> {
+    for words in BAD_FILE_LINES {
+        let line = words_of(rt.alloc(), words)?;
+        assert!(rt; is_bad(read_task(rt.alloc(), &line)), "{words:?}");
     }
     Ok(())
 }

@@ -1,0 +1,6 @@
+pub mod AssembledLemmas
+pub mod DraftLemmas
+pub mod EdgeOrder
+pub mod PlaceLemmas
+pub mod RowLemmas
+pub mod RunLemmas

@@ -1,0 +1,7 @@
+pub mod Assembled
+pub mod Draft
+pub mod Edges
+pub mod Kept
+pub mod Runs
+pub mod Seen
+pub mod Values

@@ -1,0 +1,15 @@
+//! The image of an assembler source.
+//!
+//! `assemble` takes the lines of a source as they were read. It lets `asm_places` find the sizes and the places, takes from
+//! each line at its place what it adds (words, a label, an edge ..), and makes the image of all of it, or tells the first error.
+#![tactic(auto)]
+
+mod assembling;
+mod builder;
+mod marks;
+mod runs;
+#[cfg(test)]
+mod tests;
+mod values;
+
+pub use assembling::{assemble, assemble_source};

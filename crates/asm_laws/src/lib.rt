@@ -1,0 +1,24 @@
+//! What holds of the texts of words and of assembler source together: a word that is shown can be read back.
+//! The function does nothing; its contract is a law for callers that reason about texts.
+#![tactic(auto)]
+
+ghost use Rattle.std.specs.Prelude.{ℕ, ◌^◌, ◌<◌};
+ghost use Rattle.rv_decode.specs.Decoding.{decoded};
+ghost use Rattle.asm_show.specs.Instructions.{shown};
+ghost use Rattle.asm_laws.specs.Reassembly.{Assembles};
+
+#[cfg(test)]
+mod tests;
+
+use asm_words::laws::encoded_is_table;
+use rv_decode::laws::decoded_is_table;
+
+/// The text that is shown of a word at an address assembles there to that word, for every word and every address: it is read as
+/// a line without a name, whatever the line's number, and its statement emits that word alone, whatever names stand for.
+pub fn text_assembles()
+    ensures { (number pc w : ℕ) → pc < 2 ^ 32 → w < 2 ^ 32 →
+        Assembles number pc w (shown pc w (decoded w)) }
+{
+    decoded_is_table();
+    encoded_is_table();
+}

@@ -1,0 +1,86 @@
+//! How many harts and how many bytes of RAM a source asks for.
+
+ghost use Rattle.std.specs.Prelude.{◌≡◌};
+ghost use Rattle.std.specs.Option.{ok_or};
+ghost use Rattle.image_format.specs.Conditions.{is_harts, is_ram};
+ghost use Rattle.asm_read.specs.Source.{at_line};
+ghost use Rattle.asm_places.specs.Sizes.{harts_in, harts_of, natural_where, ram_in, ram_of};
+
+use asm_read::{AsmError, AsmErrorKind, Line, Statement};
+
+/// How many harts there are where no line says so.
+const HARTS: u32 = 1;
+
+/// How many bytes of RAM there are where no line says so.
+const RAM: u32 = 65536;
+
+/// The number of a `.harts`.
+fn harts_in(statement: &Option<Statement<'_>>) -> Option<i64>
+    ensures { result ≡ harts_in statement.now }
+{
+    match statement {
+        Some(Statement::Harts(number)) => Some(*number),
+        _ => None,
+    }
+}
+
+/// The number of a `.ram`.
+fn ram_in(statement: &Option<Statement<'_>>) -> Option<i64>
+    ensures { result ≡ ram_in statement.now }
+{
+    match statement {
+        Some(Statement::Ram(number)) => Some(*number),
+        _ => None,
+    }
+}
+
+/// The number of harts that a line asks for: 1 to 8, or else the line's error.
+fn harts_at(line: u64, number: i64) -> Result<u32, AsmError>
+    ensures { result ≡ at_line line (ok_or (natural_where is_harts number) AsmErrorKind.Range) }
+{
+    match u32::try_from(number) {
+        Ok(harts) if 1 <= harts && harts <= 8 => Ok(harts),
+        _ => Err(AsmError {
+            line,
+            kind: AsmErrorKind::Range,
+        }),
+    }
+}
+
+/// The bytes of RAM that a line asks for: a multiple of 4, 4 to 16,777,216, or else the line's error.
+fn ram_at(line: u64, number: i64) -> Result<u32, AsmError>
+    ensures { result ≡ at_line line (ok_or (natural_where is_ram number) AsmErrorKind.Range) }
+{
+    match u32::try_from(number) {
+        Ok(bytes) if bytes % 4 == 0 && 4 <= bytes && bytes <= 16_777_216 => Ok(bytes),
+        _ => Err(AsmError {
+            line,
+            kind: AsmErrorKind::Range,
+        }),
+    }
+}
+
+/// The number of harts that the first `.harts` asks for, 1 to 8, or else its error; 1 where there is none.
+pub(crate) fn harts_of(lines: &[Line<'_>]) -> Result<u32, AsmError>
+    ensures { result ≡ harts_of lines.now }
+{
+    for line in lines {
+        if let Some(number) = harts_in(&line.statement) {
+            return harts_at(line.number, number);
+        }
+    }
+    Ok(HARTS)
+}
+
+/// The bytes of RAM that the first `.ram` asks for, a multiple of 4, 4 to 16,777,216, or else its error; 65536 where there is
+/// none.
+pub(crate) fn ram_of(lines: &[Line<'_>]) -> Result<u32, AsmError>
+    ensures { result ≡ ram_of lines.now }
+{
+    for line in lines {
+        if let Some(number) = ram_in(&line.statement) {
+            return ram_at(line.number, number);
+        }
+    }
+    Ok(RAM)
+}

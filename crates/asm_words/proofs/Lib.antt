@@ -1,0 +1,3 @@
+pub mod CountLemmas
+pub mod EncodingLemmas
+pub mod RangeLemmas

@@ -1,0 +1,201 @@
+-- The words that a statement emits at its place, or what is wrong with its operands.
+use Rattle.std.specs.Prelude.{ℕ, ◌*◌, ◌^◌, ◌==◌, ℤ, pos, negsuc, List, [], ◌∷◌, replicate, Option, Some, None, Result, Ok, Err, if◌then◌else◌}
+use Rattle.std.specs.Option.{ok_or}
+use Rattle.rv_decode.specs.declared.instructions.Instr.{Instr}
+use Rattle.rv_decode.specs.declared.instructions.Instr.TheVariants.{Lui, Jal, Jalr, Addi, Fence, Ecall, Ebreak}
+use Rattle.asm_table.specs.declared.forms.ImmediateOperation.{ImmediateOperation}
+use Rattle.asm_table.specs.declared.forms.ShiftOperation.{ShiftOperation}
+use Rattle.asm_table.specs.declared.forms.UpperOperation.{UpperOperation}
+use Rattle.asm_table.specs.declared.forms.LoadOperation.{LoadOperation}
+use Rattle.asm_table.specs.declared.forms.StoreOperation.{StoreOperation}
+use Rattle.asm_table.specs.declared.forms.BranchOperation.{BranchOperation}
+use Rattle.asm_read.specs.declared.errors.AsmErrorKind.{AsmErrorKind}
+use Rattle.asm_read.specs.declared.errors.AsmErrorKind.TheVariants as kinds
+use Rattle.asm_read.specs.declared.statements.Statement.{Statement}
+use Rattle.asm_read.specs.declared.statements.Statement.TheVariants as statements
+use Rattle.asm_read.specs.declared.statements.Target.{Target}
+use Rattle.asm_read.specs.declared.statements.Target.TheVariants as targets
+use Rattle.asm_read.specs.Steps.{◌>>=◌, seen}
+use Rattle.asm_words.specs.declared.emissions.Emission.{Emission}
+use Rattle.asm_words.specs.declared.emissions.Emission.TheVariants as emissions
+use Rattle.asm_words.specs.Encoding.{encoded}
+use Rattle.asm_words.specs.Instructions.{branch_of, load_of, store_of, with_amount, with_immediate, with_registers, with_upper}
+use Rattle.asm_words.specs.Ranges.{amount_at, branch_offset, high_part, immediate_at, is_short, jump_offset, low_part, upper_at, wrapped}
+
+-- the words, in the order of their addresses
+abbrev pub words_of : Emission → List ℕ
+words_of emissions.Nothing = []
+words_of (emissions.One word) = word ∷ []
+words_of (emissions.Two first second) = first ∷ second ∷ []
+words_of (emissions.Zeros count) = replicate count 0
+
+-- names by their bytes, with the addresses that they stand for
+abbrev pub Places : Type 0
+Places = List ℕ → Option ℕ
+
+-- ---- targets
+
+-- the place of a name, or the number
+abbrev pub value_of : Places → Target → Result ℤ AsmErrorKind
+value_of places (targets.Name name) = seen pos (ok_or (places name) kinds.NoName)
+value_of places (targets.Number n) = Ok n
+
+-- that modulo 2 ^ 32
+unfoldable pub address_of : Places → Target → Result ℕ AsmErrorKind
+address_of places target = seen wrapped (value_of places target)
+
+-- ---- instructions
+
+abbrev pub one : Instr → Emission
+one instr = emissions.One (encoded instr)
+
+abbrev pub two : Instr → Instr → Emission
+two first second = emissions.Two (encoded first) (encoded second)
+
+unfoldable pub immediate : ImmediateOperation → ℕ → ℕ → ℤ → Result Emission AsmErrorKind
+immediate operation rd rs1 n = do
+  imm ← immediate_at n
+  Ok (one (with_immediate operation rd rs1 imm))
+
+unfoldable pub shift : ShiftOperation → ℕ → ℕ → ℤ → Result Emission AsmErrorKind
+shift operation rd rs1 n = do
+  amount ← amount_at n
+  Ok (one (with_amount operation rd rs1 amount))
+
+unfoldable pub upper : UpperOperation → ℕ → ℤ → Result Emission AsmErrorKind
+upper operation rd n = do
+  imm ← upper_at n
+  Ok (one (with_upper operation rd imm))
+
+unfoldable pub load : LoadOperation → ℕ → ℕ → ℤ → Result Emission AsmErrorKind
+load operation rd rs1 n = do
+  imm ← immediate_at n
+  Ok (one (load_of operation rd rs1 imm))
+
+unfoldable pub store : StoreOperation → ℕ → ℕ → ℤ → Result Emission AsmErrorKind
+store operation rs2 rs1 n = do
+  imm ← immediate_at n
+  Ok (one (store_of operation rs1 rs2 imm))
+
+unfoldable pub branch : Places → ℕ → BranchOperation → ℕ → ℕ → Target → Result Emission AsmErrorKind
+branch places place operation rs1 rs2 target = do
+  address ← address_of places target
+  offset ← branch_offset place address
+  Ok (one (branch_of operation rs1 rs2 offset))
+
+unfoldable pub jump : Places → ℕ → ℕ → Target → Result Emission AsmErrorKind
+jump places place rd target = do
+  address ← address_of places target
+  offset ← jump_offset place address
+  Ok (one (Jal rd offset))
+
+unfoldable pub jump_register : ℕ → ℕ → ℤ → Result Emission AsmErrorKind
+jump_register rd rs1 n = do
+  imm ← immediate_at n
+  Ok (one (Jalr rd rs1 imm))
+
+-- the FENCE of all reads and writes, and of all input and output, against all of them
+abbrev pub fence : Emission
+fence = one (Fence 0x0FF0000F)
+
+-- ---- loads of numbers
+
+-- both instructions, also where the lower part is 0
+abbrev pub both_parts : ℕ → ℕ → Emission
+both_parts rd word = two (Lui rd (high_part word * 2 ^ 12)) (Addi rd rd (low_part word))
+
+-- one instruction, where one writes the word
+abbrev pub load_word : ℕ → ℕ → Emission
+load_word rd word =
+    if is_short word then one (Addi rd 0 word) else
+    if low_part word == 0 then one (Lui rd (high_part word * 2 ^ 12)) else
+    both_parts rd word
+
+unfoldable pub load_number : ℕ → ℤ → Emission
+load_number rd n = load_word rd (wrapped n)
+
+unfoldable pub load_address : Places → ℕ → Target → Result Emission AsmErrorKind
+load_address places rd target = do
+  address ← address_of places target
+  Ok (both_parts rd address)
+
+-- ---- data
+
+unfoldable pub word : Places → Target → Result Emission AsmErrorKind
+word places target = do
+  address ← address_of places target
+  Ok (emissions.One address)
+
+abbrev pub zeros : ℤ → Result Emission AsmErrorKind
+zeros (pos count) = Ok (emissions.Zeros count)
+zeros (negsuc n) = Err kinds.Range
+
+-- ---- statements
+
+-- the words of the statement at the address `place`, which is below 2 ^ 32
+unfoldable pub emission_of : Places → ℕ → Statement → Result Emission AsmErrorKind
+emission_of places place (statements.Registers operation rd rs1 rs2) = Ok (one (with_registers operation rd rs1 rs2))
+emission_of places place (statements.Immediate operation rd rs1 n) = immediate operation rd rs1 n
+emission_of places place (statements.Shift operation rd rs1 n) = shift operation rd rs1 n
+emission_of places place (statements.Upper operation rd n) = upper operation rd n
+emission_of places place (statements.Load operation rd rs1 n) = load operation rd rs1 n
+emission_of places place (statements.Store operation rs2 rs1 n) = store operation rs2 rs1 n
+emission_of places place (statements.Branch operation rs1 rs2 target) = branch places place operation rs1 rs2 target
+emission_of places place (statements.Jump rd target) = jump places place rd target
+emission_of places place (statements.JumpRegister rd rs1 n) = jump_register rd rs1 n
+emission_of places place statements.Fence = Ok fence
+emission_of places place statements.Ecall = Ok (one Ecall)
+emission_of places place statements.Ebreak = Ok (one Ebreak)
+emission_of places place (statements.LoadNumber rd n) = Ok (load_number rd n)
+emission_of places place (statements.LoadAddress rd target) = load_address places rd target
+emission_of places place (statements.Harts n) = Ok emissions.Nothing
+emission_of places place (statements.Ram n) = Ok emissions.Nothing
+emission_of places place (statements.Heap base bytes) = Ok emissions.Nothing
+emission_of places place (statements.Entry hart target) = Ok emissions.Nothing
+emission_of places place (statements.Origin n) = Ok emissions.Nothing
+emission_of places place (statements.Word target) = word places target
+emission_of places place (statements.Zeros n) = zeros n
+emission_of places place statements.Text = Ok emissions.Nothing
+emission_of places place statements.Data = Ok emissions.Nothing
+emission_of places place (statements.Label n) = Ok emissions.Nothing
+emission_of places place (statements.Edge source destination) = Ok emissions.Nothing
+emission_of places place (statements.Compartment owner into write) = Ok emissions.Nothing
+
+-- ---- counts
+
+-- how many instructions write the word
+abbrev pub word_load_count : ℕ → ℕ
+word_load_count word = if is_short word then 1 else if low_part word == 0 then 1 else 2
+
+abbrev pub zero_count : ℤ → Option ℕ
+zero_count (pos count) = Some count
+zero_count (negsuc n) = None
+
+-- how many words the statement emits, which the places of names don't change; none for a negative `.zero`
+unfoldable pub count_of : Statement → Option ℕ
+count_of (statements.Registers operation rd rs1 rs2) = Some 1
+count_of (statements.Immediate operation rd rs1 n) = Some 1
+count_of (statements.Shift operation rd rs1 n) = Some 1
+count_of (statements.Upper operation rd n) = Some 1
+count_of (statements.Load operation rd rs1 n) = Some 1
+count_of (statements.Store operation rs2 rs1 n) = Some 1
+count_of (statements.Branch operation rs1 rs2 target) = Some 1
+count_of (statements.Jump rd target) = Some 1
+count_of (statements.JumpRegister rd rs1 n) = Some 1
+count_of statements.Fence = Some 1
+count_of statements.Ecall = Some 1
+count_of statements.Ebreak = Some 1
+count_of (statements.LoadNumber rd n) = Some (word_load_count (wrapped n))
+count_of (statements.LoadAddress rd target) = Some 2
+count_of (statements.Harts n) = Some 0
+count_of (statements.Ram n) = Some 0
+count_of (statements.Heap base bytes) = Some 0
+count_of (statements.Entry hart target) = Some 0
+count_of (statements.Origin n) = Some 0
+count_of (statements.Word target) = Some 1
+count_of (statements.Zeros n) = zero_count n
+count_of statements.Text = Some 0
+count_of statements.Data = Some 0
+count_of (statements.Label n) = Some 0
+count_of (statements.Edge source destination) = Some 0
+count_of (statements.Compartment owner into write) = Some 0

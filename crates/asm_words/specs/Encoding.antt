@@ -1,0 +1,75 @@
+-- The word of an instruction as a function, by putting its fields at their places.
+-- It promises nothing by itself: that it is the word of the instruction's line in the table is what `encoded_is_table` ensures.
+use Rattle.std.specs.Prelude.{ℕ, ◌+◌, ◌*◌, ◌^◌}
+use Rattle.rv_decode.specs.Fields.{bits_of}
+use Rattle.rv_decode.specs.declared.instructions.Instr.{Instr}
+use Rattle.rv_decode.specs.declared.instructions.Instr.TheVariants.{Lui, Auipc, Jal, Jalr, Beq, Bne, Blt, Bge, Bltu, Bgeu, Lb, Lh, Lw, Lbu, Lhu, Sb, Sh, Sw, Addi, Slti, Sltiu, Xori, Ori, Andi, Slli, Srli, Srai, Add, Sub, Sll, Slt, Sltu, Xor, Srl, Sra, Or, And, Fence, Ecall, Ebreak}
+
+-- ---- the formats: opcode, then f3 and f7 where the format has them
+
+abbrev pub register_word : ℕ → ℕ → ℕ → ℕ → ℕ → ℕ → ℕ
+register_word opcode f3 f7 rd rs1 rs2 = opcode + rd * 2 ^ 7 + f3 * 2 ^ 12 + rs1 * 2 ^ 15 + rs2 * 2 ^ 20 + f7 * 2 ^ 25
+
+abbrev pub immediate_word : ℕ → ℕ → ℕ → ℕ → ℕ → ℕ
+immediate_word opcode f3 rd rs1 imm = opcode + rd * 2 ^ 7 + f3 * 2 ^ 12 + rs1 * 2 ^ 15 + bits_of imm 0 12 * 2 ^ 20
+
+abbrev pub store_word : ℕ → ℕ → ℕ → ℕ → ℕ → ℕ
+store_word opcode f3 rs1 rs2 imm =
+    opcode + bits_of imm 0 5 * 2 ^ 7 + f3 * 2 ^ 12 + rs1 * 2 ^ 15 + rs2 * 2 ^ 20 + bits_of imm 5 7 * 2 ^ 25
+
+abbrev pub branch_word : ℕ → ℕ → ℕ → ℕ → ℕ → ℕ
+branch_word opcode f3 rs1 rs2 imm =
+    opcode + bits_of imm 11 1 * 2 ^ 7 + bits_of imm 1 4 * 2 ^ 8 + f3 * 2 ^ 12 + rs1 * 2 ^ 15 + rs2 * 2 ^ 20
+    + bits_of imm 5 6 * 2 ^ 25 + bits_of imm 12 1 * 2 ^ 31
+
+abbrev pub upper_word : ℕ → ℕ → ℕ → ℕ
+upper_word opcode rd imm = opcode + rd * 2 ^ 7 + bits_of imm 12 20 * 2 ^ 12
+
+abbrev pub jump_word : ℕ → ℕ → ℕ → ℕ
+jump_word opcode rd imm =
+    opcode + rd * 2 ^ 7 + bits_of imm 12 8 * 2 ^ 12 + bits_of imm 11 1 * 2 ^ 20 + bits_of imm 1 10 * 2 ^ 21
+    + bits_of imm 20 1 * 2 ^ 31
+
+-- ---- the instructions
+
+unfoldable pub encoded : Instr → ℕ
+encoded (Lui rd imm) = upper_word 0x37 rd imm
+encoded (Auipc rd imm) = upper_word 0x17 rd imm
+encoded (Jal rd imm) = jump_word 0x6F rd imm
+encoded (Jalr rd rs1 imm) = immediate_word 0x67 0 rd rs1 imm
+encoded (Beq rs1 rs2 imm) = branch_word 0x63 0 rs1 rs2 imm
+encoded (Bne rs1 rs2 imm) = branch_word 0x63 1 rs1 rs2 imm
+encoded (Blt rs1 rs2 imm) = branch_word 0x63 4 rs1 rs2 imm
+encoded (Bge rs1 rs2 imm) = branch_word 0x63 5 rs1 rs2 imm
+encoded (Bltu rs1 rs2 imm) = branch_word 0x63 6 rs1 rs2 imm
+encoded (Bgeu rs1 rs2 imm) = branch_word 0x63 7 rs1 rs2 imm
+encoded (Lb rd rs1 imm) = immediate_word 0x03 0 rd rs1 imm
+encoded (Lh rd rs1 imm) = immediate_word 0x03 1 rd rs1 imm
+encoded (Lw rd rs1 imm) = immediate_word 0x03 2 rd rs1 imm
+encoded (Lbu rd rs1 imm) = immediate_word 0x03 4 rd rs1 imm
+encoded (Lhu rd rs1 imm) = immediate_word 0x03 5 rd rs1 imm
+encoded (Sb rs1 rs2 imm) = store_word 0x23 0 rs1 rs2 imm
+encoded (Sh rs1 rs2 imm) = store_word 0x23 1 rs1 rs2 imm
+encoded (Sw rs1 rs2 imm) = store_word 0x23 2 rs1 rs2 imm
+encoded (Addi rd rs1 imm) = immediate_word 0x13 0 rd rs1 imm
+encoded (Slti rd rs1 imm) = immediate_word 0x13 2 rd rs1 imm
+encoded (Sltiu rd rs1 imm) = immediate_word 0x13 3 rd rs1 imm
+encoded (Xori rd rs1 imm) = immediate_word 0x13 4 rd rs1 imm
+encoded (Ori rd rs1 imm) = immediate_word 0x13 6 rd rs1 imm
+encoded (Andi rd rs1 imm) = immediate_word 0x13 7 rd rs1 imm
+encoded (Slli rd rs1 amount) = register_word 0x13 1 0x00 rd rs1 amount
+encoded (Srli rd rs1 amount) = register_word 0x13 5 0x00 rd rs1 amount
+encoded (Srai rd rs1 amount) = register_word 0x13 5 0x20 rd rs1 amount
+encoded (Add rd rs1 rs2) = register_word 0x33 0 0x00 rd rs1 rs2
+encoded (Sub rd rs1 rs2) = register_word 0x33 0 0x20 rd rs1 rs2
+encoded (Sll rd rs1 rs2) = register_word 0x33 1 0x00 rd rs1 rs2
+encoded (Slt rd rs1 rs2) = register_word 0x33 2 0x00 rd rs1 rs2
+encoded (Sltu rd rs1 rs2) = register_word 0x33 3 0x00 rd rs1 rs2
+encoded (Xor rd rs1 rs2) = register_word 0x33 4 0x00 rd rs1 rs2
+encoded (Srl rd rs1 rs2) = register_word 0x33 5 0x00 rd rs1 rs2
+encoded (Sra rd rs1 rs2) = register_word 0x33 5 0x20 rd rs1 rs2
+encoded (Or rd rs1 rs2) = register_word 0x33 6 0x00 rd rs1 rs2
+encoded (And rd rs1 rs2) = register_word 0x33 7 0x00 rd rs1 rs2
+encoded (Fence kept) = kept
+encoded Ecall = 0x00000073
+encoded Ebreak = 0x00100073

@@ -1,0 +1,5 @@
+pub mod Emission
+pub mod EmissionLaws
+pub mod Encoding
+pub mod Instructions
+pub mod Ranges
