@@ -1,6 +1,7 @@
 pub mod Assembled
 pub mod Draft
 pub mod Edges
+pub mod Emitted
 pub mod Kept
 pub mod Runs
 pub mod Seen

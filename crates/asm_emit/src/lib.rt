@@ -6,6 +6,7 @@
 
 mod assembling;
 mod builder;
+pub mod laws;
 mod marks;
 mod runs;
 #[cfg(test)]

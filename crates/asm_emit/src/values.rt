@@ -58,10 +58,8 @@ fn id_of(number: i64) -> Result<u32, AsmErrorKind>
 fn is_heap(ram: u32, base: u32, bytes: u32) -> bool
     ensures { result ≡ (is_heap_base ram base && is_heap_bytes ram base bytes) }
 {
-    base % 4 == 0
-        && base <= ram
-        && bytes % 4 == 0
-        && u64::from(base) + u64::from(bytes) <= u64::from(ram)
+    let end = u64::from(base) + u64::from(bytes);
+    base % 4 == 0 && base <= ram && bytes % 4 == 0 && end <= u64::from(ram)
 }
 
 /// `.heap B, N`.

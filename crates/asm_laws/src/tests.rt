@@ -33,20 +33,13 @@ const WORDS: [(u32, u32); 20] = [
     (0, 0x0273_02B3),
 ];
 
-/// What the text of the word at the address emits there, where no name has a place; nothing where a name stands in front.
-fn emitted(alloc: Global, pc: u32, word: u32) -> Result<Emission, AsmErrorKind> {
-    let mut text = Line::new();
-    show_instr(pc, word, &mut text);
+/// What the text emits at the address, where no name has a place; nothing where a name stands in front.
+fn emitted(alloc: Global, pc: u32, text: &[u8]) -> Result<Emission, AsmErrorKind> {
+    let line = line_of(1, text)?;
     let names = Names::new(alloc);
-    match line_of(1, text.as_slice()) {
-        Ok(line) => match &line.label {
-            Some(_) => Ok(Emission::Nothing),
-            None => match &line.statement {
-                Some(statement) => emission_of(&names, pc, statement),
-                None => Ok(Emission::Nothing),
-            },
-        },
-        Err(kind) => Err(kind),
+    match (&line.label, &line.statement) {
+        (None, Some(statement)) => emission_of(&names, pc, statement),
+        _ => Ok(Emission::Nothing),
     }
 }
 
@@ -54,8 +47,10 @@ fn emitted(alloc: Global, pc: u32, word: u32) -> Result<Emission, AsmErrorKind> 
 fn texts_emit_their_words(rt: HostRuntime) {
     text_assembles();
     for (pc, word) in WORDS {
+        let mut text = Line::new();
+        show_instr(pc, word, &mut text);
         assert_eq!(rt;
-            emitted(rt.alloc(), pc, word),
+            emitted(rt.alloc(), pc, text.as_slice()),
             Ok(Emission::One(word)),
             "{word} at {pc}"
         );

@@ -104,6 +104,7 @@ module _ (input input_now out out_now : ℕ) where
       → SessionFaultBy input input_now (counts out err) (counts out_now err_now) result
   ended_faults err err_now (Ok status) same faults = (ap (λ (all : ShellFaults). all.input) same, λ i. record { out = (same i).out; err = (faults out i).err })
   ended_faults err err_now (Err cut.ReadFailed) same faults = faults out
+  ended_faults err err_now (Err cut.WriteFailed) same faults = absurd (faults out)
   ended_faults err err_now (Err cut.InputFailed) same faults = absurd (faults out)
   ended_faults err err_now (Err cut.PutFailed) same faults = (
     ap (λ (all : ShellFaults). all.input) same,

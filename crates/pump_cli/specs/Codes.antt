@@ -1,18 +1,19 @@
 -- The number of each status, and kinds of statuses.
 use Rattle.std.specs.Prelude.{ℕ, Option, Some, None}
-use Rattle.pump_line.specs.Task.{Task, run, shell}
+use Rattle.pump_line.specs.Task.{Task, assemble, disassemble, run, shell}
 use Rattle.pump_cli.specs.declared.cut.Cut.{Cut}
 use Rattle.pump_cli.specs.declared.cut.Cut.TheVariants as cut
 use Rattle.pump_cli.specs.declared.refusal.Refusal.{Refusal}
 use Rattle.pump_cli.specs.declared.refusal.Refusal.TheVariants as refusal
 use Rattle.pump_cli.specs.declared.status.Status.{Status}
-use Rattle.pump_cli.specs.declared.status.Status.TheVariants.{Done, ExitedNonzero, BadWords, BadImage, Violated, Faulted, TurnsSpent, TagsOut, ReadFailed, InputFailed, PutFailed, Memory, TooLong}
+use Rattle.pump_cli.specs.declared.status.Status.TheVariants.{Done, ExitedNonzero, BadWords, BadImage, BadSource, Violated, Faulted, TurnsSpent, TagsOut, ReadFailed, InputFailed, PutFailed, Memory, WriteFailed, TooLong}
 
 abbrev pub code_of : Status → ℕ
 code_of Done = 0
 code_of ExitedNonzero = 1
 code_of BadWords = 2
 code_of BadImage = 3
+code_of BadSource = 3
 code_of Violated = 4
 code_of Faulted = 5
 code_of TurnsSpent = 6
@@ -21,15 +22,18 @@ code_of ReadFailed = 8
 code_of InputFailed = 9
 code_of PutFailed = 10
 code_of Memory = 11
+code_of WriteFailed = 12
 code_of TooLong = 13
 
 abbrev pub status_of_refusal : Refusal → Status
 status_of_refusal refusal.BadWords = BadWords
 status_of_refusal (refusal.BadImage error) = BadImage
+status_of_refusal (refusal.BadSource error) = BadSource
 status_of_refusal refusal.TooLong = TooLong
 
 abbrev pub status_of_cut : Cut → Status
 status_of_cut cut.ReadFailed = ReadFailed
+status_of_cut cut.WriteFailed = WriteFailed
 status_of_cut cut.InputFailed = InputFailed
 status_of_cut cut.PutFailed = PutFailed
 status_of_cut cut.Memory = Memory
@@ -51,30 +55,35 @@ IsOfSession TagsOut = Unit {0}
 IsOfSession TooLong = Unit {0}
 IsOfSession _ = ⊥
 
--- of such a task the whole input is read before anything is put, where a session replies to its lines as they come
+-- of such a task nothing is put before all that it reads is read, where a session replies to the input's lines as they come
 abbrev pub ReadsFirst : Option Task → Type 0
 ReadsFirst None = Unit {0}
 ReadsFirst (Some (run task)) = Unit {0}
 ReadsFirst (Some (shell task)) = ⊥
+ReadsFirst (Some (assemble task)) = Unit {0}
+ReadsFirst (Some (disassemble task)) = Unit {0}
 
 -- the status of a refusal that is told before anything else is: one line on standard error
 abbrev pub IsOfRefusal : Option Task → Status → Type 0
 IsOfRefusal task BadWords = Unit {0}
 IsOfRefusal task BadImage = Unit {0}
+IsOfRefusal task BadSource = Unit {0}
 IsOfRefusal task TooLong = ReadsFirst task
 IsOfRefusal task _ = ⊥
 
 -- the status of a call that nothing cut short: neither a fault of the outside nor want of memory
 abbrev pub IsFinal : Status → Type 0
 IsFinal ReadFailed = ⊥
+IsFinal WriteFailed = ⊥
 IsFinal InputFailed = ⊥
 IsFinal PutFailed = ⊥
 IsFinal Memory = ⊥
 IsFinal _ = Unit {0}
 
--- the status of a call that ended before anything was due to be written: a load or a read of the input failed
+-- the status of a call that ended before anything was due on the sinks: a load, a save or a read of the input failed
 abbrev pub IsSilent : Option Task → Status → Type 0
 IsSilent task ReadFailed = Unit {0}
+IsSilent task WriteFailed = Unit {0}
 IsSilent task InputFailed = ReadsFirst task
 IsSilent task _ = ⊥
 
@@ -82,9 +91,13 @@ IsSilent task _ = ⊥
 abbrev pub StartsFirst : Task → Type 0
 StartsFirst (run task) = ⊥
 StartsFirst (shell task) = Unit {0}
+StartsFirst (assemble task) = ⊥
+StartsFirst (disassemble task) = ⊥
 
--- the status of a call that ended before the input was asked for
+-- the status of a call that ended before the input was asked for: any, where a source is assembled or an image listed
 abbrev pub IsBeforeInput : Task → Status → Type 0
+IsBeforeInput (assemble task) status = Unit {0}
+IsBeforeInput (disassemble task) status = Unit {0}
 IsBeforeInput task BadWords = Unit {0}
 IsBeforeInput task BadImage = Unit {0}
 IsBeforeInput task ReadFailed = Unit {0}
@@ -95,3 +108,5 @@ IsBeforeInput task _ = ⊥
 abbrev pub ReadsAll : Task → Status → Type 0
 ReadsAll (run task) status = IsOfRun status
 ReadsAll (shell task) status = ⊥
+ReadsAll (assemble task) status = ⊥
+ReadsAll (disassemble task) status = ⊥

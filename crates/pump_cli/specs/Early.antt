@@ -18,15 +18,26 @@ abbrev pub ReadRoseBy : {A : Type 0} → (List ℕ → ℕ) → (List ℕ → �
 ReadRoseBy before now name (Ok _) = now ≡ before
 ReadRoseBy before now name (Err (early_end.Refused refusal)) = now ≡ before
 ReadRoseBy before now name (Err (early_end.Cut cut.ReadFailed)) = RoseAt before now name
+ReadRoseBy before now name (Err (early_end.Cut cut.WriteFailed)) = ⊥
 ReadRoseBy before now name (Err (early_end.Cut cut.InputFailed)) = ⊥
 ReadRoseBy before now name (Err (early_end.Cut cut.PutFailed)) = ⊥
 ReadRoseBy before now name (Err (early_end.Cut cut.Memory)) = now ≡ before
+
+-- the count of the named file rises where its save failed, and every other answer leaves all counts
+abbrev pub WriteRoseBy : {A : Type 0} → (List ℕ → ℕ) → (List ℕ → ℕ) → List ℕ → Result A Cut → Type 0
+WriteRoseBy before now name (Ok _) = now ≡ before
+WriteRoseBy before now name (Err cut.ReadFailed) = ⊥
+WriteRoseBy before now name (Err cut.WriteFailed) = RoseAt before now name
+WriteRoseBy before now name (Err cut.InputFailed) = ⊥
+WriteRoseBy before now name (Err cut.PutFailed) = ⊥
+WriteRoseBy before now name (Err cut.Memory) = now ≡ before
 
 -- the input's count rises where a read failed, and every other answer leaves it
 abbrev pub InputRoseBy : {A : Type 0} → ℕ → ℕ → Result A EarlyEnd → Type 0
 InputRoseBy before now (Ok _) = now ≡ before
 InputRoseBy before now (Err (early_end.Refused refusal)) = now ≡ before
 InputRoseBy before now (Err (early_end.Cut cut.ReadFailed)) = ⊥
+InputRoseBy before now (Err (early_end.Cut cut.WriteFailed)) = ⊥
 InputRoseBy before now (Err (early_end.Cut cut.InputFailed)) = Rose before now
 InputRoseBy before now (Err (early_end.Cut cut.PutFailed)) = ⊥
 InputRoseBy before now (Err (early_end.Cut cut.Memory)) = now ≡ before
@@ -36,6 +47,7 @@ InputRoseBy before now (Err (early_end.Cut cut.Memory)) = now ≡ before
 abbrev pub SessionFaultBy : {A : Type 0} → ℕ → ℕ → PutFaults → PutFaults → Result A Cut → Type 0
 SessionFaultBy input input_now before now (Ok _) = (input_now ≡ input) × (now ≡ before)
 SessionFaultBy input input_now before now (Err cut.ReadFailed) = ⊥
+SessionFaultBy input input_now before now (Err cut.WriteFailed) = ⊥
 SessionFaultBy input input_now before now (Err cut.InputFailed) = Rose input input_now × (now ≡ before)
 SessionFaultBy input input_now before now (Err cut.PutFailed) = (input_now ≡ input) × OneRose before now
 SessionFaultBy input input_now before now (Err cut.Memory) = (input_now ≡ input) × (now ≡ before)
@@ -44,6 +56,7 @@ SessionFaultBy input input_now before now (Err cut.Memory) = (input_now ≡ inpu
 abbrev pub IsOfFile : Refusal → Type 0
 IsOfFile refusal.BadWords = ⊥
 IsOfFile (refusal.BadImage error) = Unit {0}
+IsOfFile (refusal.BadSource error) = Unit {0}
 IsOfFile refusal.TooLong = Unit {0}
 
 -- The refusal is told on standard error, which ends the program, whatever standard output has taken beside it.

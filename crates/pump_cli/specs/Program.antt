@@ -14,7 +14,8 @@ use Rattle.pump_shell.specs.Told.{Told, told_of}
 use Rattle.pump_shell.specs.declared.ends.SessionEnd.{SessionEnd}
 use Rattle.pump_shell.specs.declared.ends.SessionEnd.TheVariants as session_end
 use Rattle.pump_shell.specs.declared.setup.Setup.{Setup}
-use Rattle.pump_line.specs.Task.{RunTask, ShellTask, Task, run, shell, task_of}
+use Rattle.image_listing.specs.Listing.{listing}
+use Rattle.pump_line.specs.Task.{RunTask, ShellTask, Task, assemble, disassemble, run, shell, task_of}
 use Rattle.pump_cli.specs.Endings.{Outcome, out_at_start, outcome_of_course}
 use Rattle.pump_cli.specs.Codes.{status_of_refusal}
 use Rattle.pump_cli.specs.Reading.{file_read, input_limit, input_read}
@@ -86,17 +87,31 @@ abbrev pub outcome_of_session : ShellTask → Picture → Option (List ℕ) → 
 outcome_of_session task picture None = None
 outcome_of_session task picture (Some input) = Some (outcome_of_lines task picture input)
 
+-- ---- `asm` and `dis`
+
+-- the file of the image is saved, and nothing is told
+abbrev pub outcome_of_saving : Outcome
+outcome_of_saving = record { pieces = []; status = Done }
+
+-- a line for each word of the image
+unfoldable pub outcome_of_listing : Picture → Outcome
+outcome_of_listing picture = record { pieces = listing picture; status = Done }
+
 -- ---- the whole
 
--- the file that a task names
-abbrev pub image_in : Task → List ℕ
-image_in (run task) = task.image
-image_in (shell task) = task.image
+-- the file that a task loads
+abbrev pub file_in : Task → List ℕ
+file_in (run task) = task.image
+file_in (shell task) = task.image
+file_in (assemble task) = task.source
+file_in (disassemble task) = task.image
 
 -- what is done with an image and the input's bytes, where these are told
 abbrev pub outcome_of_picture : Task → Picture → Option (List ℕ) → Option Outcome
 outcome_of_picture (run task) picture input = outcome_of_input task picture input
 outcome_of_picture (shell task) picture input = outcome_of_session task picture input
+outcome_of_picture (assemble task) picture input = Some outcome_of_saving
+outcome_of_picture (disassemble task) picture input = Some (outcome_of_listing picture)
 
 -- where the file is refused, the input is not looked at
 abbrev pub outcome_of_image : Task → Result Picture Refusal → Option (List ℕ) → Option Outcome
@@ -106,10 +121,10 @@ outcome_of_image task (Err refusal) input = Some (refused refusal)
 -- a file whose content is not told leaves the outcome unsaid too
 abbrev pub outcome_of_file : Task → Option (List ℕ) → Option (List ℕ) → Option Outcome
 outcome_of_file task None input = None
-outcome_of_file task (Some bytes) input = outcome_of_image task (file_read bytes) input
+outcome_of_file task (Some bytes) input = outcome_of_image task (file_read task bytes) input
 
 abbrev pub outcome_of_task : Task → (List ℕ → Option (List ℕ)) → Option (List ℕ) → Option Outcome
-outcome_of_task task held input = outcome_of_file task (held (image_in task)) input
+outcome_of_task task held input = outcome_of_file task (held (file_in task)) input
 
 abbrev pub outcome_of_words : Option Task → (List ℕ → Option (List ℕ)) → Option (List ℕ) → Option Outcome
 outcome_of_words None held input = Some (refused BadWords)

@@ -1,12 +1,15 @@
--- What is read before a run: the image's file and the whole input, each within its limit.
+-- What is read: the file of an image or of a source, and the whole input, each within its limit.
 use Rattle.std.specs.Prelude.{ℕ, nat_le, List, length, Result, Ok, Err, if◌then◌else◌}
 use Rattle.image_format.specs.Picture.{Picture}
 use Rattle.image_format.specs.Reading.{image_of}
 use Rattle.image_format.specs.declared.errors.ImageError.{ImageError}
+use Rattle.asm_read.specs.declared.errors.AsmError.{AsmError}
+use Rattle.asm_emit.specs.Assembled.{image_of_source}
+use Rattle.pump_line.specs.Task.{Task, assemble, disassemble, run, shell}
 use Rattle.pump_cli.specs.declared.refusal.Refusal.{Refusal}
 use Rattle.pump_cli.specs.declared.refusal.Refusal.TheVariants as refusal
 
--- the most bytes of an image's file
+-- the most bytes of a file
 unfoldable pub file_limit : ℕ
 file_limit = 33554432
 
@@ -22,13 +25,30 @@ abbrev pub image_or_refusal : Result Picture ImageError → Result Picture Refus
 image_or_refusal (Ok picture) = Ok picture
 image_or_refusal (Err error) = Err (refusal.BadImage error)
 
-abbrev pub file_image : Result (List ℕ) Refusal → Result Picture Refusal
-file_image (Ok bytes) = image_or_refusal (image_of bytes)
-file_image (Err refused) = Err refused
+-- the first error of a source is told
+abbrev pub source_or_refusal : Result Picture AsmError → Result Picture Refusal
+source_or_refusal (Ok picture) = Ok picture
+source_or_refusal (Err error) = Err (refusal.BadSource error)
+
+-- what a file's bytes are read as, where there are not too many
+abbrev pub file_as : (List ℕ → Result Picture Refusal) → Result (List ℕ) Refusal → Result Picture Refusal
+file_as read (Ok bytes) = read bytes
+file_as read (Err refused) = Err refused
 
 -- the image of a file that holds these bytes, or why there is none
-unfoldable pub file_read : List ℕ → Result Picture Refusal
-file_read bytes = file_image (within_limit file_limit bytes)
+unfoldable pub image_read : List ℕ → Result Picture Refusal
+image_read bytes = file_as (λ file. image_or_refusal (image_of file)) (within_limit file_limit bytes)
+
+-- the image that a source of these bytes is assembled to, or why there is none
+unfoldable pub source_read : List ℕ → Result Picture Refusal
+source_read bytes = file_as (λ file. source_or_refusal (image_of_source file)) (within_limit file_limit bytes)
+
+-- the image in the file that a task loads, which of `asm` is a source
+abbrev pub file_read : Task → List ℕ → Result Picture Refusal
+file_read (run task) bytes = image_read bytes
+file_read (shell task) bytes = image_read bytes
+file_read (assemble task) bytes = source_read bytes
+file_read (disassemble task) bytes = image_read bytes
 
 -- the whole input, or why it is not taken
 unfoldable pub input_read : List ℕ → Result (List ℕ) Refusal

@@ -11,8 +11,8 @@ use Rattle.shell_run.specs.Session.{fresh}
 use Rattle.shell_script.specs.Scripts.{items_along}
 use Rattle.shell_script.specs.Shell.{last_in, lines_in}
 use Rattle.pump_shell.specs.Told.{start_of_setup}
-use Rattle.pump_line.specs.Task.{RunTask, ShellTask, Task, run, shell, task_of}
-use Rattle.pump_cli.specs.Program.{course_of_run, image_in, setup_of}
+use Rattle.pump_line.specs.Task.{RunTask, ShellTask, Task, assemble, disassemble, run, shell, task_of}
+use Rattle.pump_cli.specs.Program.{course_of_run, file_in, setup_of}
 use Rattle.pump_cli.specs.Reading.{file_read, input_limit, input_read}
 use Rattle.pump_cli.specs.declared.refusal.Refusal.{Refusal}
 
@@ -62,10 +62,12 @@ module _ (Holds : Run → Type 0) where
   AfterLines task picture (Some input) =
       (front rest : List Answer) → front ++ rest ≡ lines_of input → Holds (run_after_lines task picture front)
 
-  -- a case for each subcommand
+  -- a case for each subcommand; `asm` and `dis` make no run
   abbrev pub AfterPicture : Task → Picture → Option (List ℕ) → Type 0
   AfterPicture (run task) picture input = AfterInput task picture input
   AfterPicture (shell task) picture input = AfterLines task picture input
+  AfterPicture (assemble task) picture input = Unit {0}
+  AfterPicture (disassemble task) picture input = Unit {0}
 
   abbrev pub AfterImage : Task → Result Picture Refusal → Option (List ℕ) → Type 0
   AfterImage task (Ok picture) input = AfterPicture task picture input
@@ -73,11 +75,11 @@ module _ (Holds : Run → Type 0) where
 
   abbrev pub AfterFile : Task → Option (List ℕ) → Option (List ℕ) → Type 0
   AfterFile task None input = Unit {0}
-  AfterFile task (Some bytes) input = AfterImage task (file_read bytes) input
+  AfterFile task (Some bytes) input = AfterImage task (file_read task bytes) input
 
   abbrev pub AfterWords : Option Task → (List ℕ → Option (List ℕ)) → Option (List ℕ) → Type 0
   AfterWords None held input = Unit {0}
-  AfterWords (Some task) held input = AfterFile task (held (image_in task)) input
+  AfterWords (Some task) held input = AfterFile task (held (file_in task)) input
 
 -- Of each run that the words ask for: of `run` the one, of `shell` those that a session has made after each of its lines, each since
 -- the start or the last reset. The files' content by name, and the bytes of the input, are known where they are told.

@@ -1,10 +1,30 @@
 -- The lines of refusals.
 use Rattle.std.specs.Prelude.{ℕ, List, ◌++◌, codes}
 use Rattle.std.specs.Fmt.{decimal}
+use Rattle.asm_read.specs.declared.errors.AsmError.{AsmError}
+use Rattle.asm_read.specs.declared.errors.AsmErrorKind.{AsmErrorKind}
+use Rattle.asm_read.specs.declared.errors.AsmErrorKind.TheVariants as kinds
 use Rattle.image_format.specs.declared.errors.ImageError.{ImageError}
 use Rattle.image_format.specs.declared.errors.ImageError.TheVariants as image
 use Rattle.pump_cli.specs.declared.refusal.Refusal.{Refusal}
 use Rattle.pump_cli.specs.declared.refusal.Refusal.TheVariants as refusal
+
+-- what is wrong with a line of source
+abbrev pub kind_text : AsmErrorKind → List ℕ
+kind_text kinds.Byte = codes "byte"
+kind_text kinds.Mnemonic = codes "mnemonic"
+kind_text kinds.Directive = codes "directive"
+kind_text kinds.Operand = codes "operand"
+kind_text kinds.Register = codes "register"
+kind_text kinds.Number = codes "number"
+kind_text kinds.Duplicate = codes "duplicate"
+kind_text kinds.Order = codes "order"
+kind_text kinds.Range = codes "range"
+kind_text kinds.NoName = codes "noname"
+
+-- the first error of a source: its line, in decimal, and what is wrong there
+abbrev pub source_error_text : AsmError → List ℕ
+source_error_text error = codes "line " ++ (decimal error.line ++ (codes " " ++ kind_text error.kind))
 
 -- the first condition of the image format that bytes fail; numbers and offsets are decimal
 abbrev pub image_error_text : ImageError → List ℕ
@@ -18,4 +38,5 @@ image_error_text (image.Trailing offset) = codes "trailing at " ++ decimal offse
 abbrev pub refusal_text : Refusal → List ℕ
 refusal_text refusal.BadWords = codes "pump: bad command line"
 refusal_text (refusal.BadImage error) = codes "pump: bad image: " ++ image_error_text error
+refusal_text (refusal.BadSource error) = codes "pump: bad source: " ++ source_error_text error
 refusal_text refusal.TooLong = codes "pump: too long"

@@ -5,7 +5,7 @@ use Rattle.host_io.specs.Pieces.{PutsFront}
 use Rattle.pump_line.specs.Task.{Task}
 use Rattle.pump_cli.specs.Codes.{IsFinal, IsOfRefusal, IsSilent}
 use Rattle.pump_cli.specs.Endings.{Outcome}
-use Rattle.pump_cli.specs.Facts.{AllStayed, FaultBy, Finishes, TaskFacts, name_in}
+use Rattle.pump_cli.specs.Facts.{AllStayed, FaultBy, Finishes, HeldBy, TaskFacts}
 use Rattle.pump_cli.specs.declared.status.Status.{Status}
 use Rattle.pump_cli.specs.declared.status.Status.TheVariants.{BadWords, Memory}
 
@@ -19,14 +19,14 @@ pub record Answers {I : Type 0} (due : Option Outcome) (task : Option Task) (sta
   -- Where no count of faults rose, nothing but want of memory stands in the way of that.
   pub complete : AllStayed before.faults after.faults → status ≢ Memory → IsFinal status
   -- Where a count rose the status is that count's: no fault is passed over, and none is made up.
-  pub faults : FaultBy (name_in task) status before.faults after.faults
+  pub faults : FaultBy task status before.faults after.faults
   -- Words are refused for themselves alone.
   pub bad_words : status ≡ BadWords → task ≡ None
-  -- Nothing is written where the load failed, or where a read of the input failed that comes before anything else, and nothing
-  -- on standard output where something was refused then.
+  -- Nothing is put where the load or the save failed, or where a read of the input failed that comes before anything else, and
+  -- nothing on standard output where something was refused then.
   pub silent : IsSilent task status → after.taken ≡ before.taken
   pub no_out : IsOfRefusal task status → after.taken.out ≡ before.taken.out
-  -- No name changes what it holds.
-  pub held : after.held ≡ before.held
+  -- No name changes what it holds but the one that `asm` saves, which holds the file of its source's image.
+  pub held : HeldBy task status before after
   -- What the subcommand does to files and to the input.
   pub asked : TaskFacts task status before after

@@ -2,20 +2,23 @@ ghost use Rattle.std.specs.Prelude.{◌≡◌};
 ghost use Rattle.pump_cli.specs.Codes.{status_of_cut};
 
 use crate::status::Status;
-use host_io::PutEnd;
+use host_io::{PutEnd, SaveFile};
 use pump_shell::SessionCut;
 use rounds::RoundsEnd;
+use std::alloc::AllocError;
 
 /// Why a call was cut short.
 #[derive(Clone, Copy)]
 pub(crate) enum Cut {
-    /// The image's file could not be read.
+    /// The file of the image or of the source could not be read.
     ReadFailed,
+    /// The image's file could not be written.
+    WriteFailed,
     /// A read of the input failed.
     InputFailed,
     /// A put failed.
     PutFailed,
-    /// Memory ran out: for a put, in the engine, at its start, or for what was read.
+    /// Memory ran out: for a put, in the engine, at its start, or for what was read or is saved.
     Memory,
 }
 
@@ -26,6 +29,7 @@ impl Cut {
     {
         match self {
             Cut::ReadFailed => Status::ReadFailed,
+            Cut::WriteFailed => Status::WriteFailed,
             Cut::InputFailed => Status::InputFailed,
             Cut::PutFailed => Status::PutFailed,
             Cut::Memory => Status::Memory,
@@ -43,6 +47,29 @@ impl From<PutEnd> for Cut {
             PutEnd::Failed => Cut::PutFailed,
             PutEnd::Memory => Cut::Memory,
         }
+    }
+}
+
+impl From<SaveFile> for Cut {
+    ghost use Rattle.pump_cli.specs.Cuts.{cut_of_save};
+
+    ghost from_gives = { λ end cut. cut ≡ cut_of_save end };
+
+    fn from(end: SaveFile) -> Cut {
+        match end {
+            SaveFile::Failed => Cut::WriteFailed,
+            SaveFile::Memory => Cut::Memory,
+        }
+    }
+}
+
+impl From<AllocError> for Cut {
+    ghost use Rattle.pump_cli.specs.declared.cut.Cut.TheVariants.{Memory};
+
+    ghost from_gives = { λ _ cut. cut ≡ Memory };
+
+    fn from(_error: AllocError) -> Cut {
+        Cut::Memory
     }
 }
 

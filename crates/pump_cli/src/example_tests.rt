@@ -4,7 +4,7 @@ use crate::status::Status;
 use crate::tests::{Expected, NO_ROWS, Program, Run, check_run};
 use std::test::Fail;
 
-/// Copies its input: the program of `examples/filter.txt`, as those below are of the examples with their names.
+/// Copies its input: the program of `examples/filter.s`, as those below are of the examples with their names.
 const FILTER: Program<'static> = Program {
     entries: &[0],
     ram: 64,

@@ -1,6 +1,9 @@
-//! The program `pump`: runs an image of a tagged RISC-V machine and tells how it ended, or obeys the lines of a monitor shell over it.
+//! The program `pump`: runs an image of a tagged RISC-V machine and tells how it ended, obeys the lines of a monitor shell over
+//! it, assembles a source to an image, or lists an image's words.
 #![tactic(auto)]
 
+#[cfg(test)]
+mod assembly_tests;
 #[cfg(test)]
 mod attack_tests;
 mod cut;
@@ -9,10 +12,12 @@ mod ending;
 mod example_tests;
 #[cfg(test)]
 mod limit_tests;
+mod listing;
 mod program;
 mod reading;
 mod refusal;
 mod runs;
+mod saving;
 #[cfg(test)]
 mod session_tests;
 mod sessions;

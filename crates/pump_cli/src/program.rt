@@ -10,9 +10,11 @@ ghost use Rattle.pump_cli.specs.Runs.{EachRun, IsSafeRun, TellBytes};
 ghost use Rattle.pump_cli.specs.Theorem.{Answers};
 
 use crate::cut::Cut;
-use crate::reading::{load_image, read_input};
+use crate::listing::list_words;
+use crate::reading::{load_image, load_source, read_input};
 use crate::refusal::{Refusal, end_early, refuse};
 use crate::runs::run_image;
+use crate::saving::save_image;
 use crate::sessions::obey_lines;
 use crate::status::Status;
 use host_io::{Files, Sink, Source};
@@ -33,10 +35,10 @@ fn run_task<F: Files, S: Source, K: Sink, L: Sink>(
         (outcome_of_file (run (run_told task.entry)) (F.held files.old task.entry.image.now)
         (S.left input.old))
         (Some (run (run_told task.entry))) (status_in result)
-        (outside F.held F.read_faults F.calls S.left S.closed S.faults K.taken K.faults
-        L.taken L.faults files.old input.old out.old err.old)
-        (outside F.held F.read_faults F.calls S.left S.closed S.faults K.taken K.faults
-        L.taken L.faults files.new input.new out.new err.new) }
+        (outside F.tells F.held F.read_faults F.write_faults F.calls S.left S.closed S.faults
+        K.taken K.faults L.taken L.faults files.old input.old out.old err.old)
+        (outside F.tells F.held F.read_faults F.write_faults F.calls S.left S.closed S.faults
+        K.taken K.faults L.taken L.faults files.new input.new out.new err.new) }
 {
     let image = match load_image(alloc, files, task.image) {
         Ok(image) => image,
@@ -63,10 +65,10 @@ fn shell_task<F: Files, S: Source, K: Sink, L: Sink>(
         (outcome_of_file (shell (shell_told task.entry)) (F.held files.old task.entry.image.now)
         (S.left input.old))
         (Some (shell (shell_told task.entry))) (status_in result)
-        (outside F.held F.read_faults F.calls S.left S.closed S.faults K.taken K.faults
-        L.taken L.faults files.old input.old out.old err.old)
-        (outside F.held F.read_faults F.calls S.left S.closed S.faults K.taken K.faults
-        L.taken L.faults files.new input.new out.new err.new) }
+        (outside F.tells F.held F.read_faults F.write_faults F.calls S.left S.closed S.faults
+        K.taken K.faults L.taken L.faults files.old input.old out.old err.old)
+        (outside F.tells F.held F.read_faults F.write_faults F.calls S.left S.closed S.faults
+        K.taken K.faults L.taken L.faults files.new input.new out.new err.new) }
 {
     match load_image(alloc, files, task.image) {
         Ok(image) => obey_lines(alloc, task, &image, input, out, err),
@@ -87,14 +89,22 @@ fn do_task<F: Files, S: Source, K: Sink, L: Sink>(
     ensures { Answers
         (outcome_of_task (told task.entry) (F.held files.old) (S.left input.old))
         (Some (told task.entry)) (status_in result)
-        (outside F.held F.read_faults F.calls S.left S.closed S.faults K.taken K.faults
-        L.taken L.faults files.old input.old out.old err.old)
-        (outside F.held F.read_faults F.calls S.left S.closed S.faults K.taken K.faults
-        L.taken L.faults files.new input.new out.new err.new) }
+        (outside F.tells F.held F.read_faults F.write_faults F.calls S.left S.closed S.faults
+        K.taken K.faults L.taken L.faults files.old input.old out.old err.old)
+        (outside F.tells F.held F.read_faults F.write_faults F.calls S.left S.closed S.faults
+        K.taken K.faults L.taken L.faults files.new input.new out.new err.new) }
 {
     match task {
         Task::Run(task) => run_task(alloc, task, files, input, out, err),
         Task::Shell(task) => shell_task(alloc, task, files, input, out, err),
+        Task::Assemble(task) => match load_source(alloc, files, task.source) {
+            Ok(image) => save_image(alloc, files, task.image, &image),
+            Err(end) => end_early(err, end),
+        },
+        Task::Disassemble(task) => match load_image(alloc, files, task.image) {
+            Ok(image) => list_words(&image, out),
+            Err(end) => end_early(err, end),
+        },
     }
 }
 
@@ -110,10 +120,10 @@ fn run_words<F: Files, S: Source, K: Sink, L: Sink>(
     ensures { Answers
         (program (texts_of words.now.items) (F.held files.old) (S.left input.old))
         (task_of (texts_of words.now.items)) (status_in result)
-        (outside F.held F.read_faults F.calls S.left S.closed S.faults K.taken K.faults
-        L.taken L.faults files.old input.old out.old err.old)
-        (outside F.held F.read_faults F.calls S.left S.closed S.faults K.taken K.faults
-        L.taken L.faults files.new input.new out.new err.new) }
+        (outside F.tells F.held F.read_faults F.write_faults F.calls S.left S.closed S.faults
+        K.taken K.faults L.taken L.faults files.old input.old out.old err.old)
+        (outside F.tells F.held F.read_faults F.write_faults F.calls S.left S.closed S.faults
+        K.taken K.faults L.taken L.faults files.new input.new out.new err.new) }
 {
     match read_task(alloc, words) {
         Ok(task) => do_task(alloc, task, files, input, out, err),
@@ -124,7 +134,8 @@ fn run_words<F: Files, S: Source, K: Sink, L: Sink>(
 
 /// The program: what the words ask for, with the files, the input and the two sinks, and the status that the process ends
 /// with. The first word is the program's name. The input is read only once the image is taken: by `run` as a whole before its
-/// first turn, by `shell` line by line.
+/// first turn, by `shell` line by line; `asm` and `dis` leave it alone. The one file that is changed is that which `asm` saves: it
+/// holds the one spelling of the image that the source is assembled to, and a source that is refused saves nothing.
 ///
 /// Without fault and want of memory the bytes and the status are those of the machine that asks the chosen policies at
 /// every turn of every hart, however many rules are kept: on the whole input, or at the commands of its lines. Where some rules
@@ -145,10 +156,10 @@ pub fn pump<F: Files, S: Source, K: Sink, L: Sink>(
     ensures answers { Answers
         (program (texts_of words.now.items) (F.held files.old) (S.left input.old))
         (task_of (texts_of words.now.items)) result
-        (outside F.held F.read_faults F.calls S.left S.closed S.faults K.taken K.faults
-        L.taken L.faults files.old input.old out.old err.old)
-        (outside F.held F.read_faults F.calls S.left S.closed S.faults K.taken K.faults
-        L.taken L.faults files.new input.new out.new err.new) }
+        (outside F.tells F.held F.read_faults F.write_faults F.calls S.left S.closed S.faults
+        K.taken K.faults L.taken L.faults files.old input.old out.old err.old)
+        (outside F.tells F.held F.read_faults F.write_faults F.calls S.left S.closed S.faults
+        K.taken K.faults L.taken L.faults files.new input.new out.new err.new) }
     ensures safe { TellBytes (F.held files.old)
         → EachRun IsSafeRun (texts_of words.now.items) (F.held files.old) (S.left input.old) }
 {

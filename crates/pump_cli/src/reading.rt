@@ -1,33 +1,59 @@
-//! What is read before a run: the image's file and the whole input.
+//! What is read: the file of an image or of a source, and the whole input.
 
 ghost use Rattle.std.specs.Prelude.{◌≡◌, ◌+◌, Ok, Err, IfOk, IfSome, IsTrue, OnOk};
 ghost use Rattle.host_io.specs.Causes.{count_after};
 ghost use Rattle.host_io.specs.Fronts.{LosesFront};
+ghost use Rattle.asm_emit.specs.Assembled.{image_of_source};
 ghost use Rattle.image_format.specs.Reading.{image_of};
 ghost use Rattle.pump_cli.specs.Early.{InputRoseBy, IsOfFile, ReadRoseBy};
-ghost use Rattle.pump_cli.specs.Reading.{file_read, image_or_refusal, input_limit, input_read};
+ghost use Rattle.pump_cli.specs.Reading.{file_limit, image_or_refusal, image_read, input_limit, input_read, source_or_refusal, source_read, within_limit};
 ghost use Rattle.pump_cli.specs.declared.cut.Cut.{Cut};
 ghost use Rattle.pump_cli.specs.declared.refusal.Refusal.{Refusal};
 
 use crate::cut::Cut;
 use crate::refusal::Refusal;
+use asm_emit::assemble_source;
+use asm_read::AsmEnd;
 use host_io::{Files, LoadFile, ReadEnd, Source, read_to_end};
 use image_format::{Image, ImageEnd, read_image};
 use std::alloc::Global;
 
-/// The most bytes of an image's file.
+/// The most bytes of a file.
 const FILE_LIMIT: usize = 33_554_432;
 
 /// The most bytes of the input.
 pub(crate) const INPUT_LIMIT: usize = 16_777_216;
 
-/// Why nothing runs.
+/// Why nothing is done.
 #[derive(Clone, Copy)]
 pub(crate) enum EarlyEnd {
     /// The task is refused.
     Refused(Refusal),
     /// The call is cut short.
     Cut(Cut),
+}
+
+/// The bytes of the file of this name.
+#[tactic(auto, unfolding(crate::specs::Reading::file_limit))]
+fn load_file<F: Files>(alloc: Global, files: &mut F, name: &str) -> Result<Vec<u8>, EarlyEnd>
+    ensures taken { IfOk result (λ bytes. IfSome (F.held files.old name.now) (λ all.
+        within_limit file_limit all ≡ Ok bytes.items)) }
+    ensures refused { (refusal : Refusal) → result ≡ Err (EarlyEnd.Refused refusal) →
+        IfSome (F.held files.old name.now) (λ all. within_limit file_limit all ≡ Err refusal) }
+    ensures long { (refusal : Refusal) → result ≡ Err (EarlyEnd.Refused refusal)
+        → refusal ≡ Refusal.TooLong }
+    ensures faults { ReadRoseBy (F.read_faults files.old) (F.read_faults files.new)
+        name.now result }
+    ensures writes { F.write_faults files.new ≡ F.write_faults files.old }
+    ensures calls { F.calls files.new ≡ count_after (F.calls files.old) }
+    ensures held { F.held files.new ≡ F.held files.old }
+{
+    match files.load(alloc, name, FILE_LIMIT) {
+        Ok(bytes) => Ok(bytes),
+        Err(LoadFile::TooLong) => Err(EarlyEnd::Refused(Refusal::TooLong)),
+        Err(LoadFile::Failed) => Err(EarlyEnd::Cut(Cut::ReadFailed)),
+        Err(LoadFile::Memory) => Err(EarlyEnd::Cut(Cut::Memory)),
+    }
 }
 
 /// The image of the file of this name.
@@ -37,21 +63,44 @@ pub(crate) fn load_image<F: Files>(
     name: &str,
 ) -> Result<Image, EarlyEnd>
     ensures taken { IfOk result (λ image. IfSome (F.held files.old name.now) (λ bytes.
-        file_read bytes ≡ Ok image)) }
+        image_read bytes ≡ Ok image)) }
     ensures refused { (refusal : Refusal) → result ≡ Err (EarlyEnd.Refused refusal) →
-        IfSome (F.held files.old name.now) (λ bytes. file_read bytes ≡ Err refusal) }
+        IfSome (F.held files.old name.now) (λ bytes. image_read bytes ≡ Err refusal) }
     ensures of_file { (refusal : Refusal) → result ≡ Err (EarlyEnd.Refused refusal) →
         IsOfFile refusal }
     ensures faults { ReadRoseBy (F.read_faults files.old) (F.read_faults files.new)
         name.now result }
+    ensures writes { F.write_faults files.new ≡ F.write_faults files.old }
     ensures calls { F.calls files.new ≡ count_after (F.calls files.old) }
     ensures held { F.held files.new ≡ F.held files.old }
 {
-    match files.load(alloc, name, FILE_LIMIT) {
+    match load_file(alloc, files, name) {
         Ok(bytes) => image_of(alloc, &bytes),
-        Err(LoadFile::TooLong) => Err(EarlyEnd::Refused(Refusal::TooLong)),
-        Err(LoadFile::Failed) => Err(EarlyEnd::Cut(Cut::ReadFailed)),
-        Err(LoadFile::Memory) => Err(EarlyEnd::Cut(Cut::Memory)),
+        Err(end) => Err(end),
+    }
+}
+
+/// The image that the source in the file of this name is assembled to.
+pub(crate) fn load_source<F: Files>(
+    alloc: Global,
+    files: &mut F,
+    name: &str,
+) -> Result<Image, EarlyEnd>
+    ensures taken { IfOk result (λ image. IfSome (F.held files.old name.now) (λ bytes.
+        source_read bytes ≡ Ok image)) }
+    ensures refused { (refusal : Refusal) → result ≡ Err (EarlyEnd.Refused refusal) →
+        IfSome (F.held files.old name.now) (λ bytes. source_read bytes ≡ Err refusal) }
+    ensures of_file { (refusal : Refusal) → result ≡ Err (EarlyEnd.Refused refusal) →
+        IsOfFile refusal }
+    ensures faults { ReadRoseBy (F.read_faults files.old) (F.read_faults files.new)
+        name.now result }
+    ensures writes { F.write_faults files.new ≡ F.write_faults files.old }
+    ensures calls { F.calls files.new ≡ count_after (F.calls files.old) }
+    ensures held { F.held files.new ≡ F.held files.old }
+{
+    match load_file(alloc, files, name) {
+        Ok(bytes) => image_of_source(alloc, &bytes),
+        Err(end) => Err(end),
     }
 }
 
@@ -68,6 +117,23 @@ fn image_of(alloc: Global, bytes: &[u8]) -> Result<Image, EarlyEnd>
         Ok(image) => Ok(image),
         Err(ImageEnd::Bad(error)) => Err(EarlyEnd::Refused(Refusal::BadImage(error))),
         Err(ImageEnd::Memory) => Err(EarlyEnd::Cut(Cut::Memory)),
+    }
+}
+
+/// The image that a source of these bytes is assembled to.
+fn image_of_source(alloc: Global, bytes: &[u8]) -> Result<Image, EarlyEnd>
+    ensures taken { IfOk result (λ image.
+        source_or_refusal (image_of_source bytes.now) ≡ Ok image) }
+    ensures refused { (refusal : Refusal) → result ≡ Err (EarlyEnd.Refused refusal) →
+        source_or_refusal (image_of_source bytes.now) ≡ Err refusal }
+    ensures of_file { (refusal : Refusal) → result ≡ Err (EarlyEnd.Refused refusal) →
+        IsOfFile refusal }
+    ensures cut { (cut : Cut) → result ≡ Err (EarlyEnd.Cut cut) → cut ≡ Cut.Memory }
+{
+    match assemble_source(alloc, bytes) {
+        Ok(image) => Ok(image),
+        Err(AsmEnd::Bad(error)) => Err(EarlyEnd::Refused(Refusal::BadSource(error))),
+        Err(AsmEnd::Memory) => Err(EarlyEnd::Cut(Cut::Memory)),
     }
 }
 

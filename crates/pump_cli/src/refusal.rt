@@ -9,18 +9,21 @@ ghost use Rattle.pump_cli.specs.Texts.{refusal_text};
 use crate::cut::Cut;
 use crate::reading::EarlyEnd;
 use crate::status::Status;
-use crate::texts::write_image_error;
+use crate::texts::{write_image_error, write_source_error};
+use asm_read::AsmError;
 use host_io::Sink;
 use image_format::ImageError;
 use pump_words::{Line, write_text};
 
-/// Why a task is refused before anything runs.
+/// Why a task is refused before anything is done.
 #[derive(Clone, Copy)]
 pub(crate) enum Refusal {
     /// The words are no command line.
     BadWords,
     /// The file is no image.
     BadImage(ImageError),
+    /// The file is no source that can be assembled.
+    BadSource(AsmError),
     /// The file or the input is longer than its limit.
     TooLong,
 }
@@ -33,6 +36,7 @@ impl Refusal {
         match self {
             Refusal::BadWords => Status::BadWords,
             Refusal::BadImage(_) => Status::BadImage,
+            Refusal::BadSource(_) => Status::BadSource,
             Refusal::TooLong => Status::TooLong,
         }
     }
@@ -49,6 +53,10 @@ fn write_refusal(to: &mut Line, refusal: Refusal)
         Refusal::BadImage(error) => {
             write_text(to, b"pump: bad image: ");
             write_image_error(to, error);
+        }
+        Refusal::BadSource(error) => {
+            write_text(to, b"pump: bad source: ");
+            write_source_error(to, error);
         }
         Refusal::TooLong => write_text(to, b"pump: too long"),
     }

@@ -4,7 +4,7 @@ ghost use Rattle.pump_cli.specs.Codes.{code_of};
 /// How the program ended.
 #[derive(Clone, Copy, Debug, PartialEq, Eq)]
 pub enum Status {
-    /// Every hart exited with 0.
+    /// Every hart exited with 0, or what was asked for is done.
     Done,
     /// Every hart exited, some with another code than 0.
     ExitedNonzero,
@@ -12,6 +12,8 @@ pub enum Status {
     BadWords,
     /// The file is no image that is taken.
     BadImage,
+    /// The file is no source that is assembled.
+    BadSource,
     /// A policy stopped some hart.
     Violated,
     /// One of the machine's checks stopped some hart, and no policy one.
@@ -20,7 +22,7 @@ pub enum Status {
     TurnsSpent,
     /// The engine ran out of tag words.
     TagsOut,
-    /// The image's file could not be read.
+    /// The file of the image or of the source could not be read.
     ReadFailed,
     /// A read of the input failed.
     InputFailed,
@@ -28,7 +30,9 @@ pub enum Status {
     PutFailed,
     /// Memory ran out.
     Memory,
-    /// The image's file or the input is longer than its limit.
+    /// The image's file could not be written.
+    WriteFailed,
+    /// The file or the input is longer than its limit.
     TooLong,
 }
 
@@ -42,6 +46,7 @@ impl Status {
             Status::ExitedNonzero => 1,
             Status::BadWords => 2,
             Status::BadImage => 3,
+            Status::BadSource => 3,
             Status::Violated => 4,
             Status::Faulted => 5,
             Status::TurnsSpent => 6,
@@ -50,6 +55,7 @@ impl Status {
             Status::InputFailed => 9,
             Status::PutFailed => 10,
             Status::Memory => 11,
+            Status::WriteFailed => 12,
             Status::TooLong => 13,
         }
     }

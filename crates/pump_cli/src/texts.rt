@@ -1,9 +1,10 @@
-//! The text of what is wrong with an image.
+//! The texts of what is wrong with an image or a source.
 
 ghost use Rattle.std.specs.Prelude.{◌≡◌, ◌+◌, ◌≤◌, ◌++◌};
 ghost use Rattle.arrayvec.specs.ArrayVec.{array_vec_len};
-ghost use Rattle.pump_cli.specs.Texts.{image_error_text};
+ghost use Rattle.pump_cli.specs.Texts.{image_error_text, kind_text, source_error_text};
 
+use asm_read::{AsmError, AsmErrorKind};
 use image_format::ImageError;
 use pump_words::{Line, write_text};
 use tag_text::write_number;
@@ -27,5 +28,36 @@ pub(crate) fn write_image_error(line: &mut Line, error: ImageError)
             write_number(line, b" row ", u64::from(row));
         }
         ImageError::Trailing(offset) => write_number(line, b"trailing at ", offset as u64),
+    }
+}
+
+/// Appends the first error of a source.
+pub(crate) fn write_source_error(line: &mut Line, error: AsmError)
+    requires { array_vec_len line.old + 60 ≤ 512 }
+    ensures text { line.new.items ≡ line.old.items ++ source_error_text error }
+    ensures short { array_vec_len line.new ≤ array_vec_len line.old + 60 }
+{
+    write_number(line, b"line ", error.line);
+    write_text(line, b" ");
+    write_kind(line, error.kind);
+}
+
+/// Appends what is wrong with a line of source.
+fn write_kind(line: &mut Line, kind: AsmErrorKind)
+    requires { array_vec_len line.old + 10 ≤ 512 }
+    ensures text { line.new.items ≡ line.old.items ++ kind_text kind }
+    ensures short { array_vec_len line.new ≤ array_vec_len line.old + 10 }
+{
+    match kind {
+        AsmErrorKind::Byte => write_text(line, b"byte"),
+        AsmErrorKind::Mnemonic => write_text(line, b"mnemonic"),
+        AsmErrorKind::Directive => write_text(line, b"directive"),
+        AsmErrorKind::Operand => write_text(line, b"operand"),
+        AsmErrorKind::Register => write_text(line, b"register"),
+        AsmErrorKind::Number => write_text(line, b"number"),
+        AsmErrorKind::Duplicate => write_text(line, b"duplicate"),
+        AsmErrorKind::Order => write_text(line, b"order"),
+        AsmErrorKind::Range => write_text(line, b"range"),
+        AsmErrorKind::NoName => write_text(line, b"noname"),
     }
 }

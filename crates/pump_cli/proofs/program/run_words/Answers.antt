@@ -10,7 +10,7 @@ returns-in-Ok g c =
 
 pub returns-in-Err-Bad : goal.returns-in-Err-Bad
 returns-in-Err-Bad g c =
-    words_refused (texts_of c.args.words.now.items) _ _ c.refuse.result (c.in-Err-Bad.ensures.bad c.in-Err-Bad.field-0-is) c.refuse.ensures refl refl refl refl refl refl refl
+    words_refused (texts_of c.args.words.now.items) _ _ c.refuse.result (c.in-Err-Bad.ensures.bad c.in-Err-Bad.field-0-is) c.refuse.ensures refl refl refl refl refl refl refl refl
 
 pub returns-in-Err-Memory : goal.returns-in-Err-Memory
 returns-in-Err-Memory g c = words_unread _ _ _

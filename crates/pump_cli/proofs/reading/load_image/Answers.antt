@@ -1,20 +1,20 @@
-use Rattle.std.proofs.Common.{◌≡◌, List, ℕ, rules, Err, IfSome, ap, subst}
-use Rattle.pump_cli.specs.Reading.{file_read}
-use Rattle.pump_cli.specs.declared.refusal.Refusal.{Refusal}
-use Rattle.pump_cli.specs.declared.refusal.Refusal.TheVariants.{TooLong}
-use Rattle.pump_cli.proofs.Gathering.{file_refused_as, file_taken, file_too_long}
+use Rattle.std.proofs.Common.{◌≡◌, Err, ap}
+use Rattle.pump_cli.specs.declared.reading.EarlyEnd.TheVariants.{Refused}
+use Rattle.pump_cli.proofs.Gathering.{image_refused, image_taken, lent_taken, no_image_taken}
 use Rattle.pump_cli.proofs.reading.load_image.Goals as goal
 
 pub returns-in-Ok-clause-taken : goal.returns-in-Ok-clause-taken
 returns-in-Ok-clause-taken g c =
-    file_taken c.deref.result.now (search (rules, c.in-Ok.ensures.within)) (g.F.Files.held c.args.files.now c.args.name.now) c.image_of.result (search (rules, c.in-Ok.ensures.ok)) c.image_of.ensures.taken
+    let held = g.F.Files.held c.args.files.now c.args.name.now in
+    image_taken held c.deref.result.now (lent_taken held c.deref.result.now c.in-Ok.bytes.items c.deref.ensures.value c.in-Ok.ensures.taken) c.image_of.result c.image_of.ensures.taken
 
 pub returns-in-Ok-clause-refused : goal.returns-in-Ok-clause-refused
 returns-in-Ok-clause-refused g c = λ refusal is.
-    file_refused_as c.deref.result.now (search (rules, c.in-Ok.ensures.within)) (g.F.Files.held c.args.files.now c.args.name.now) refusal (search (rules, c.in-Ok.ensures.ok)) (c.image_of.ensures.refused refusal is)
+    let held = g.F.Files.held c.args.files.now c.args.name.now in
+    image_refused held c.deref.result.now (lent_taken held c.deref.result.now c.in-Ok.bytes.items c.deref.ensures.value c.in-Ok.ensures.taken) refusal
+    (c.image_of.ensures.refused refusal is)
 
-pub returns-in-Err-TooLong-clause-refused : goal.returns-in-Err-TooLong-clause-refused
-returns-in-Err-TooLong-clause-refused g c = λ refusal is.
-    let same : TooLong ≡ refusal = cc in
-    subst (λ (r : Refusal). IfSome (g.F.Files.held c.args.files.now c.args.name.now) (λ (bytes : List ℕ). file_read bytes ≡ Err r)) same
-    (file_too_long (g.F.Files.held c.args.files.now c.args.name.now) (c.in-Err-TooLong.ensures.too_long (ap Err c.in-Err-TooLong.field-0-is)))
+pub returns-in-Err-clause-refused : goal.returns-in-Err-clause-refused
+returns-in-Err-clause-refused g c = λ refusal is.
+    let same : c.in-Err.end ≡ Refused refusal = cc in
+    no_image_taken (g.F.Files.held c.args.files.now c.args.name.now) refusal (c.in-Err.ensures.refused refusal (ap Err same))
