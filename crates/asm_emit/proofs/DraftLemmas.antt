@@ -17,7 +17,7 @@ use Rattle.asm_emit.specs.declared.marks.Marks.{Marks}
 use Rattle.asm_emit.specs.declared.values.Addition.{Addition}
 use Rattle.asm_emit.specs.declared.values.Addition.TheVariants.{Nothing, Words, Heap, Entry, Code, Data, Edge, Compartment}
 use Rattle.asm_emit.specs.declared.values.Addition.TheVariants as additions
-use Rattle.asm_emit.specs.Assembled.{additions_of, drafted}
+use Rattle.asm_emit.specs.Assembled.{additions_of, draft_with}
 use Rattle.asm_emit.specs.Edges.{edges_in_order}
 use Rattle.asm_emit.specs.Draft.{Draft, empty_draft, picture_of, with_addition, with_marked, with_words}
 use Rattle.asm_places.specs.Counts.{count_in}
@@ -200,29 +200,29 @@ entries_kept draft place (Compartment protection) = refl
 
 -- one more addition, and those behind it
 regroup : (draft : Draft) (place : ℕ) (addition : Addition) (others : Result (List (ℕ × Addition)) AsmError)
-    → drafted draft (others >>= λ more. Ok ((place, addition) ∷ more)) ≡ drafted (with_addition draft place addition) others
+    → draft_with draft (others >>= λ more. Ok ((place, addition) ∷ more)) ≡ draft_with (with_addition draft place addition) others
 regroup draft place addition (Ok more) = refl
 regroup draft place addition (Err error) = refl
 
 pub goes_on : (harts ram : ℕ) (names : Places) (draft : Draft) (left : List Line) (places : List ℕ) (line : Line) (place : ℕ) (lines : List Line) (others : List ℕ) (addition : Addition) (total : Result Draft AsmError)
     → left ≡ line ∷ lines → places ≡ place ∷ others → at_line line.number (addition_in harts ram names place line.statement) ≡ Ok addition
-    → drafted draft (additions_of harts ram names left places) ≡ total → drafted (with_addition draft place addition) (additions_of harts ram names lines others) ≡ total
+    → draft_with draft (additions_of harts ram names left places) ≡ total → draft_with (with_addition draft place addition) (additions_of harts ram names lines others) ≡ total
 unfolding additions_of
 goes_on harts ram names draft left places line place lines others addition total first second given so_far =
-    let one : drafted draft (additions_of harts ram names left places) ≡ drafted (with_addition draft place addition) (additions_of harts ram names lines others) =
+    let one : draft_with draft (additions_of harts ram names left places) ≡ draft_with (with_addition draft place addition) (additions_of harts ram names lines others) =
     rw (first, second, given) (regroup draft place addition (additions_of harts ram names lines others)) in
     sym one ∙ so_far
 
 pub stops : (harts ram : ℕ) (names : Places) (error : AsmError) (draft : Draft) (left : List Line) (places : List ℕ) (line : Line) (place : ℕ) (lines : List Line) (others : List ℕ) (total : Result Draft AsmError)
     → left ≡ line ∷ lines → places ≡ place ∷ others → at_line line.number (addition_in harts ram names place line.statement) ≡ Err error
-    → drafted draft (additions_of harts ram names left places) ≡ total → total ≡ Err error
+    → draft_with draft (additions_of harts ram names left places) ≡ total → total ≡ Err error
 unfolding additions_of
 stops harts ram names error draft left places line place lines others total first second refused so_far =
-    let one : drafted draft (additions_of harts ram names left places) ≡ Err error = rw (first, second, refused) refl in
+    let one : draft_with draft (additions_of harts ram names left places) ≡ Err error = rw (first, second, refused) refl in
     sym so_far ∙ one
 
 pub is_done : (harts ram : ℕ) (names : Places) (draft : Draft) (left : List Line) (places : List ℕ) (total : Result Draft AsmError) → length left ≡ 0
-    → drafted draft (additions_of harts ram names left places) ≡ total → total ≡ Ok draft
+    → draft_with draft (additions_of harts ram names left places) ≡ total → total ≡ Ok draft
 unfolding additions_of
 is_done harts ram names draft [] places total none so_far = sym so_far
 is_done harts ram names draft (line ∷ left) places total none so_far = absurd (omega arith)

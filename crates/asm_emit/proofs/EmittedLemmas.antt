@@ -5,8 +5,8 @@ use Rattle.asm_words.specs.Emission.{words_of}
 use Rattle.asm_emit.specs.declared.marks.Marks.{Marks}
 use Rattle.asm_emit.specs.declared.values.Addition.{Addition}
 use Rattle.asm_emit.specs.declared.values.Addition.TheVariants as additions
-use Rattle.asm_emit.specs.Draft.{Draft, empty_draft, unlabelled, with_addition, with_additions, with_marked, with_words}
-use Rattle.asm_emit.specs.Emitted.{AreMadeOfWords, Word, WordLists, edge_in, edges_of, emitted, lists_in, lists_of, marked_words, marks_behind, marks_past, with_next_word, words_in}
+use Rattle.asm_emit.specs.Draft.{Draft, empty_draft, without_label, with_addition, with_additions, with_marked, with_words}
+use Rattle.asm_emit.specs.Emitted.{AreMadeOfWords, Word, WordLists, edge_in, edges_of, words_of_additions, lists_in, lists_of, marked_words, marks_behind, marks_past, with_next_word, words_in}
 
 -- ---- words
 
@@ -15,7 +15,7 @@ unfolding with_words lists_of marked_words
 words_lists draft address [] = refl
 words_lists draft address (word ∷ words) = words_lists (with_marked draft address word) (address + 4) words
 
-past_again : (marks : Marks) (words : List ℕ) → marks_past (unlabelled marks) words ≡ unlabelled marks
+past_again : (marks : Marks) (words : List ℕ) → marks_past (without_label marks) words ≡ without_label marks
 past_again marks [] = refl
 past_again marks (word ∷ words) = refl
 
@@ -74,16 +74,16 @@ unfolding lists_of
 lists_append lists [] back = refl
 lists_append lists (word ∷ front) back = lists_append (with_next_word lists word) front back
 
-all_lists : (draft : Draft) (all : List (ℕ × Addition)) → lists_in (with_additions draft all) ≡ lists_of (lists_in draft) (emitted draft.marks all)
-unfolding lists_of emitted
+all_lists : (draft : Draft) (all : List (ℕ × Addition)) → lists_in (with_additions draft all) ≡ lists_of (lists_in draft) (words_of_additions draft.marks all)
+unfolding lists_of words_of_additions
 all_lists draft [] = refl
 all_lists draft (first ∷ more) =
     let next = with_addition draft first.0 first.1 in
     let front = marked_words draft.marks first.0 (words_in first.1) in
-    let here : lists_of (lists_in next) (emitted next.marks more) ≡ lists_of (lists_of (lists_in draft) front) (emitted (marks_behind draft.marks first.1) more) =
-    ap (λ (lists : WordLists). lists_of lists (emitted next.marks more)) (line_lists draft first.0 first.1)
-    ∙ ap (λ (marks : Marks). lists_of (lists_of (lists_in draft) front) (emitted marks more)) (line_marks draft first.0 first.1) in
-    all_lists next more ∙ here ∙ sym (lists_append (lists_in draft) front (emitted (marks_behind draft.marks first.1) more))
+    let here : lists_of (lists_in next) (words_of_additions next.marks more) ≡ lists_of (lists_of (lists_in draft) front) (words_of_additions (marks_behind draft.marks first.1) more) =
+    ap (λ (lists : WordLists). lists_of lists (words_of_additions next.marks more)) (line_lists draft first.0 first.1)
+    ∙ ap (λ (marks : Marks). lists_of (lists_of (lists_in draft) front) (words_of_additions marks more)) (line_marks draft first.0 first.1) in
+    all_lists next more ∙ here ∙ sym (lists_append (lists_in draft) front (words_of_additions (marks_behind draft.marks first.1) more))
 
 all_edges : (draft : Draft) (all : List (ℕ × Addition)) → (with_additions draft all).edges ≡ draft.edges ++ edges_of all
 unfolding edges_of

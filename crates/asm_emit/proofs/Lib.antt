@@ -1,7 +1,14 @@
+pub mod AdditionLemmas
 pub mod AssembledLemmas
 pub mod DraftLemmas
-pub mod EdgeOrder
+pub mod EdgeLemmas
+pub mod EdgeOrderLemmas
 pub mod EmittedLemmas
+pub mod ImageLemmas
 pub mod PlaceLemmas
+pub mod RegisterLemmas
 pub mod RowLemmas
 pub mod RunLemmas
+pub mod SourceLemmas
+pub mod StepLemmas
+pub mod WordLemmas

@@ -1,46 +1,23 @@
 -- Where a layout puts lines, each one's words end at or below the next one's place.
 use Rattle.std.proofs.Common.{◌≡◌, ℕ, ◌+◌, ◌*◌, ◌%◌, ◌≤◌, Bool, true, false, List, [], ◌∷◌, ◌++◌, refl, sym, ap, subst, arith}
 use Rattle.std.specs.Prelude.{not, nat_le, int_lt, ℤ, pos, negsuc, Option, Some, None, Result, Ok, Err, if◌then◌else◌}
-use Rattle.std.specs.Option.{ok_or, unwrap_or}
+use Rattle.std.specs.Option.{unwrap_or}
 use Rattle.std.proofs.lemmas.Bool.Decides.{nat_tests}
 use Rattle.asm_read.specs.declared.errors.AsmError.{AsmError}
-use Rattle.asm_read.specs.declared.errors.AsmErrorKind.{AsmErrorKind}
 use Rattle.asm_read.specs.declared.errors.AsmErrorKind.TheVariants as kinds
 use Rattle.asm_read.specs.declared.statements.Line.{Line}
 use Rattle.asm_read.specs.declared.statements.Statement.{Statement}
 use Rattle.asm_read.specs.declared.statements.Statement.TheVariants as statements
 use Rattle.asm_read.specs.Source.{at_line}
-use Rattle.asm_read.specs.Steps.{◌>>=◌, demand}
+use Rattle.asm_read.specs.Steps.{demand}
 use Rattle.asm_places.specs.Layouts.{Layout, layout_of}
-use Rattle.asm_places.specs.Places.{goes_back, is_below, is_reached, moved, next_place, origin_in, place_past, places_from}
+use Rattle.asm_places.specs.Places.{goes_back, is_below, is_reached, place_after_line, next_place, origin_in, place_past, places_from}
 use Rattle.asm_places.specs.Seen.{is_again, is_named}
 use Rattle.asm_places.specs.Sizes.{harts_of, natural_where, ram_of}
 use Rattle.asm_places.specs.Counts.{count_in}
-use Rattle.asm_emit.specs.Kept.{ArePlaced, place_or}
 use Rattle.asm_words.specs.Emission.{count_of}
-
--- ---- steps
-
-record Passes {E A B : Type 0} (r : Result A E) (f : A → Result B E) (b : B) : Type 0 where
-  value : A
-  first : r ≡ Ok value
-  rest : f value ≡ Ok b
-
-passes : {E A B : Type 0} (r : Result A E) (f : A → Result B E) (b : B) → (r >>= f) ≡ Ok b → Passes r f b
-passes (Ok value) f b is = record { value = value; first = refl; rest = is }
-passes (Err error) f b is = absurd cc
-
-of_line : {A : Type 0} (number : ℕ) (r : Result A AsmErrorKind) (x : A) → at_line number r ≡ Ok x → r ≡ Ok x
-of_line number (Ok y) x is = let same : y ≡ x = cc in rw same refl
-of_line number (Err kind) x is = absurd cc
-
-demanded : {E : Type 0} (t : Bool) (e : E) (u : Unit {0}) → demand (not t) e ≡ Ok u → t ≡ false
-demanded true e u is = absurd cc
-demanded false e u is = refl
-
-from_some : {A : Type 0} (o : Option A) (kind : AsmErrorKind) (x : A) → ok_or o kind ≡ Ok x → o ≡ Some x
-from_some (Some y) kind x is = let same : y ≡ x = cc in rw same refl
-from_some None kind x is = absurd cc
+use Rattle.asm_emit.specs.Kept.{ArePlaced, place_or}
+use Rattle.asm_emit.proofs.StepLemmas.{from_some, gives, of_line, passes, refuted}
 
 -- ---- one line
 
@@ -91,7 +68,7 @@ moved_to ram place behind n onward is =
       words = rw (no_words n) (omega (arith, le));
     }
 
-is_behind : (ram place behind : ℕ) (statement : Option Statement) → place % 4 ≡ 0 → is_below place (origin_in statement) ≡ false → moved ram place (origin_in statement) (count_in statement) ≡ Some behind → IsBehind ram place behind statement
+is_behind : (ram place behind : ℕ) (statement : Option Statement) → place % 4 ≡ 0 → is_below place (origin_in statement) ≡ false → place_after_line ram place (origin_in statement) (count_in statement) ≡ Some behind → IsBehind ram place behind statement
 is_behind ram place behind None aligned onward is = moved_on ram place behind None aligned is
 is_behind ram place behind (Some (statements.Origin n)) aligned onward is = moved_to ram place behind n onward is
 is_behind ram place behind (Some statement) aligned onward is = moved_on ram place behind (Some statement) aligned is
@@ -102,8 +79,8 @@ line_behind ram place behind before line aligned is =
     let new = passes (demand (not (is_named line.label before)) kinds.Duplicate) _ behind is in
     let once = passes (demand (not (is_again line.statement before)) kinds.Order) _ behind new.rest in
     let onward = passes (demand (not (goes_back place line.statement)) kinds.Order) _ behind once.rest in
-    is_behind ram place behind line.statement aligned (demanded (goes_back place line.statement) kinds.Order onward.value onward.first)
-    (from_some (moved ram place (origin_in line.statement) (count_in line.statement)) kinds.Range behind onward.rest)
+    is_behind ram place behind line.statement aligned (refuted (goes_back place line.statement) kinds.Order onward.value onward.first)
+    (from_some (place_after_line ram place (origin_in line.statement) (count_in line.statement)) kinds.Range behind onward.rest)
 
 -- ---- all lines
 
@@ -137,9 +114,6 @@ all_placed ram before place (line ∷ lines) r aligned is =
     let more = all_placed ram (before ++ line ∷ []) behind.value lines others.value b.aligned others.first in
     subst (λ (ps : List ℕ). ArePlaced ram (line ∷ lines) ps) front (aligned, omega (arith, b.words, first), more)
 
-layout_same : (x y : Layout) → ◌≡◌ {A = Result Layout AsmError} (Ok x) (Ok y) → x ≡ y
-layout_same x y e = cc
-
 -- the lines of a layout stand at its places
 pub are_placed : (lines : List Line) (layout : Layout) → layout_of lines ≡ Ok layout → ArePlaced layout.ram lines layout.places
 unfolding layout_of
@@ -147,5 +121,5 @@ are_placed lines layout is =
     let harts = passes (harts_of lines) _ layout is in
     let ram = passes (ram_of lines) _ layout harts.rest in
     let found = passes (places_from ram.value [] 0 lines) _ layout ram.rest in
-    let same : record { harts = harts.value; ram = ram.value; places = found.value.0; end = found.value.1 } ≡ layout = layout_same _ layout found.rest in
+    let same : record { harts = harts.value; ram = ram.value; places = found.value.0; end = found.value.1 } ≡ layout = gives _ layout found.rest in
     subst (λ (l : Layout). ArePlaced l.ram lines l.places) same (all_placed ram.value [] 0 lines found.value refl found.first)

@@ -4,7 +4,7 @@ use Rattle.image_format.specs.Picture.{Picture}
 use Rattle.asm_read.specs.declared.errors.AsmError.{AsmError}
 use Rattle.asm_read.specs.declared.statements.Line.{Line}
 use Rattle.asm_read.specs.Source.{at_line, source_of}
-use Rattle.asm_read.specs.Steps.{◌>>=◌, seen}
+use Rattle.asm_read.specs.Steps.{◌>>=◌, result_view}
 use Rattle.asm_words.specs.Emission.{Places}
 use Rattle.asm_places.specs.Layouts.{Layout, layout_of}
 use Rattle.asm_places.specs.Names.{place_of_name}
@@ -21,8 +21,8 @@ additions_of harts ram names (line ∷ lines) (place ∷ places) = do
 additions_of harts ram names lines places = Ok []
 
 -- the draft that what the lines add makes of a draft
-abbrev pub drafted : Draft → Result (List (ℕ × Addition)) AsmError → Result Draft AsmError
-drafted draft additions = seen (with_additions draft) additions
+abbrev pub draft_with : Draft → Result (List (ℕ × Addition)) AsmError → Result Draft AsmError
+draft_with draft additions = result_view (with_additions draft) additions
 
 -- the image of lines that stand at their places
 unfoldable pub picture_at : List Line → Layout → Result Picture AsmError
@@ -31,8 +31,8 @@ picture_at lines layout = do
   Ok (picture_of layout.ram (with_additions (empty_draft layout.harts) additions))
 
 -- sizes and places first, and then by line what each one adds
-unfoldable pub assembled : List Line → Result Picture AsmError
-assembled lines = do
+unfoldable pub picture_of_lines : List Line → Result Picture AsmError
+picture_of_lines lines = do
   layout ← layout_of lines
   picture_at lines layout
 
@@ -40,4 +40,4 @@ assembled lines = do
 unfoldable pub image_of_source : List ℕ → Result Picture AsmError
 image_of_source source = do
   lines ← source_of source
-  assembled lines
+  picture_of_lines lines

@@ -43,8 +43,8 @@ empty_draft harts = record {
 }
 
 -- a label is of one word
-abbrev pub unlabelled : Marks → Marks
-unlabelled marks = record marks { label = None }
+abbrev pub without_label : Marks → Marks
+without_label marks = record marks { label = None }
 
 -- a word at an address behind those before it, with its marks
 abbrev pub with_marked : Draft → ℕ → ℕ → Draft
@@ -53,7 +53,7 @@ with_marked draft address word = record draft {
   code = with_code draft.marks.is_code draft.code address;
   labels = with_label draft.marks.label draft.labels address;
   compartments = with_protected draft.marks.protection draft.compartments address;
-  marks = unlabelled draft.marks;
+  marks = without_label draft.marks;
 }
 
 -- words from an address on

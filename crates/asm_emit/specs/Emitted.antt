@@ -9,7 +9,7 @@ use Rattle.asm_words.specs.Emission.{words_of}
 use Rattle.asm_emit.specs.declared.marks.Marks.{Marks}
 use Rattle.asm_emit.specs.declared.values.Addition.{Addition}
 use Rattle.asm_emit.specs.declared.values.Addition.TheVariants as additions
-use Rattle.asm_emit.specs.Draft.{Draft, empty_draft, first_marks, unlabelled, with_additions}
+use Rattle.asm_emit.specs.Draft.{Draft, empty_draft, first_marks, without_label, with_additions}
 use Rattle.asm_emit.specs.Runs.{with_code, with_label, with_protected}
 
 -- ---- words
@@ -23,7 +23,7 @@ pub record Word : Type 0 where
 -- words from an address on, of which the first alone has the label
 unfoldable pub marked_words : Marks → ℕ → List ℕ → List Word
 marked_words marks address [] = []
-marked_words marks address (word ∷ words) = record { address = address; word = word; marks = marks } ∷ marked_words (unlabelled marks) (address + 4) words
+marked_words marks address (word ∷ words) = record { address = address; word = word; marks = marks } ∷ marked_words (without_label marks) (address + 4) words
 
 -- the words of what a line adds
 abbrev pub words_in : Addition → List ℕ
@@ -33,7 +33,7 @@ words_in _ = []
 -- a label isn't left behind a word
 abbrev pub marks_past : Marks → List ℕ → Marks
 marks_past marks [] = marks
-marks_past marks (word ∷ words) = unlabelled marks
+marks_past marks (word ∷ words) = without_label marks
 
 -- the marks of the next word behind a line
 abbrev pub marks_behind : Marks → Addition → Marks
@@ -45,9 +45,9 @@ marks_behind marks (additions.Compartment protection) = record marks { protectio
 marks_behind marks _ = marks
 
 -- the words of all lines, from the marks of the first word on
-unfoldable pub emitted : Marks → List (ℕ × Addition) → List Word
-emitted marks [] = []
-emitted marks (first ∷ more) = marked_words marks first.0 (words_in first.1) ++ emitted (marks_behind marks first.1) more
+unfoldable pub words_of_additions : Marks → List (ℕ × Addition) → List Word
+words_of_additions marks [] = []
+words_of_additions marks (first ∷ more) = marked_words marks first.0 (words_in first.1) ++ words_of_additions (marks_behind marks first.1) more
 
 -- ---- lists
 
@@ -92,7 +92,7 @@ edges_of (first ∷ more) = edge_in first.1 ++ edges_of more
 
 -- the lists of an image are those of the emitted words, and its edges those of the lines
 pub record IsMadeOfWords (additions : List (ℕ × Addition)) (draft : Draft) : Type 0 where
-  pub lists : lists_in draft ≡ lists_of no_lists (emitted first_marks additions)
+  pub lists : lists_in draft ≡ lists_of no_lists (words_of_additions first_marks additions)
   pub edges : draft.edges ≡ edges_of additions
 
 abbrev pub AreMadeOfWords : Type 0

@@ -59,6 +59,7 @@ IsAddition harts ram count (Words emission) = Fits emission × (count ≡ Some (
 IsAddition harts ram count (Heap base bytes) = IsTrue (is_heap_base ram base && is_heap_bytes ram base bytes)
 IsAddition harts ram count (Entry hart address) = IsTrue (nat_le (hart + 1) harts && is_place ram address)
 IsAddition harts ram count (additions.Label id) = IsTrue (is_u32 id)
+IsAddition harts ram count (Edge source target) = IsTrue (is_u32 source && is_u32 target)
 IsAddition harts ram count (Compartment protection) = IsTrue (is_protection protection)
 IsAddition harts ram count _ = Unit {0}
 

@@ -2,6 +2,7 @@ pub mod Assembled
 pub mod Draft
 pub mod Edges
 pub mod Emitted
+pub mod ImageLaws
 pub mod Kept
 pub mod Runs
 pub mod Seen

@@ -4,7 +4,7 @@ ghost use Rattle.std.specs.Prelude.{◌≡◌, ◌≤◌, IfOk, IsTrue, length};
 ghost use Rattle.std.specs.FinMap as map;
 ghost use Rattle.image_format.specs.Conditions.{is_harts, is_ram};
 ghost use Rattle.asm_read.specs.Source.{Gives, at_line};
-ghost use Rattle.asm_emit.specs.Assembled.{additions_of, assembled, drafted, image_of_source};
+ghost use Rattle.asm_emit.specs.Assembled.{additions_of, picture_of_lines, draft_with, image_of_source};
 ghost use Rattle.asm_emit.specs.Draft.{empty_draft, picture_of};
 ghost use Rattle.asm_places.specs.Counts.{count_in};
 ghost use Rattle.asm_emit.specs.Kept.{ArePlaced, IsAddition, IsDraft};
@@ -51,7 +51,7 @@ fn builder_of<'a>(
     requires ram { IsTrue (is_ram layout.now.ram) }
     requires count { length layout.now.places.items ≡ length lines.now }
     requires placed { ArePlaced layout.now.ram lines.now layout.now.places.items }
-    ensures value { Gives draft_of result (drafted (empty_draft layout.now.harts) (additions_of
+    ensures value { Gives draft_of result (draft_with (empty_draft layout.now.harts) (additions_of
         layout.now.harts layout.now.ram (map.get names.now) lines.now layout.now.places.items)) }
     ensures harts { IfOk result (λ builder. length builder.entries.items ≡ layout.now.harts) }
     ensures kept { IfOk result (λ builder.
@@ -103,9 +103,9 @@ fn image_of(alloc: Global, ram: u32, builder: Builder) -> Result<Image, AllocErr
 /// The image has as segments the maximal runs of emitted words, as code ranges those that stand in a text, as compartment ranges
 /// the maximal runs of one protection other than 0, 0, 0, the labels of words, and each edge once. `Memory` says nothing of the
 /// source, but that it has at most 2^32 - 1 edges if there is memory enough. The time is O(n log n) in lines and words.
-#[tactic(auto, unfolding(crate::specs::Assembled::assembled, crate::specs::Assembled::picture_at))]
+#[tactic(auto, unfolding(crate::specs::Assembled::picture_of_lines, crate::specs::Assembled::picture_at))]
 pub fn assemble<'a>(alloc: Global, lines: &[Line<'a>]) -> Result<Image, AsmEnd>
-    ensures { Gives (λ image. image) result (assembled lines.now) }
+    ensures { Gives (λ image. image) result (picture_of_lines lines.now) }
 {
     let layout = layout_of(alloc, lines)?;
     let names = names_of(alloc, lines, &layout)?;

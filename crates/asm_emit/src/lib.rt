@@ -14,3 +14,5 @@ mod tests;
 mod values;
 
 pub use assembling::{assemble, assemble_source};
+pub use marks::{Marks, Protection};
+pub use values::Addition;

@@ -3,7 +3,7 @@
 /// Who owns words, a compartment from 0 to 31. Bit i of `into` lets compartment i jump to them, and bit i of `write` lets it
 /// write them.
 #[derive(Clone, Copy, Debug, PartialEq, Eq)]
-pub(crate) struct Protection {
+pub struct Protection {
     pub owner: u32,
     pub into: u32,
     pub write: u32,
@@ -20,7 +20,7 @@ impl Protection {
 
 /// The marks of the next word.
 #[derive(Clone, Copy, Debug)]
-pub(crate) struct Marks {
+pub struct Marks {
     /// Whether it is code.
     pub is_code: bool,
     /// The id of its label.

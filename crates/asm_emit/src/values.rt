@@ -12,12 +12,12 @@ use crate::marks::Protection;
 use asm_names::Names;
 use asm_places::Layout;
 use asm_read::{AsmErrorKind, Statement, Target};
-use asm_words::laws::emissions_are_counted;
+use asm_words::laws::count_law;
 use asm_words::{Emission, address_of, emission_of};
 
 /// What a line adds to an image. Addresses and sizes are in bytes.
 #[derive(Clone, Copy, Debug)]
-pub(crate) enum Addition {
+pub enum Addition {
     Nothing,
     /// Words at the line's place.
     Words(Emission),
@@ -148,7 +148,7 @@ fn words_of<'a>(
     ensures value { result ≡ words_at (map.get names.now) place statement.now }
     ensures fits { (harts ram : ℕ) → IfOk result (IsAddition harts ram (count_of statement.now)) }
 {
-    emissions_are_counted();
+    count_law();
     let emission = emission_of(names, place, statement)?;
     Ok(Addition::Words(emission))
 }

@@ -1,6 +1,6 @@
-pub mod Operands
-pub mod Pieces
-pub mod Rows
-pub mod Shapes
-pub mod Targets
-pub mod Texts
+pub mod OperandLemmas
+pub mod PieceLemmas
+pub mod RowLemmas
+pub mod ShapeLemmas
+pub mod TargetLemmas
+pub mod TextLemmas

@@ -3,22 +3,22 @@
 #![tactic(auto)]
 
 ghost use Rattle.std.specs.Prelude.{ℕ, ◌^◌, ◌<◌};
-ghost use Rattle.rv_decode.specs.Decoding.{decoded};
-ghost use Rattle.asm_show.specs.Instructions.{shown};
+ghost use Rattle.rv_decode.specs.Decoding.{instr_of_word};
+ghost use Rattle.asm_show.specs.Instructions.{text_at};
 ghost use Rattle.asm_laws.specs.Reassembly.{Assembles};
 
 #[cfg(test)]
 mod tests;
 
-use asm_words::laws::encoded_is_table;
-use rv_decode::laws::decoded_is_table;
+use asm_words::laws::encoding_law;
+use rv_decode::laws::table_law;
 
 /// The text that is shown of a word at an address assembles there to that word, for every word and every address: it is read as
 /// a line without a name, whatever the line's number, and its statement emits that word alone, whatever names stand for.
-pub fn text_assembles()
+pub fn reassembly_law()
     ensures { (number pc w : ℕ) → pc < 2 ^ 32 → w < 2 ^ 32 →
-        Assembles number pc w (shown pc w (decoded w)) }
+        Assembles number pc w (text_at pc w (instr_of_word w)) }
 {
-    decoded_is_table();
-    encoded_is_table();
+    table_law();
+    encoding_law();
 }

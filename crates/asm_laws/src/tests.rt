@@ -1,6 +1,6 @@
 //! Texts of words that are read and put back into words.
 
-use crate::text_assembles;
+use crate::reassembly_law;
 use asm_names::Names;
 use asm_read::{AsmErrorKind, line_of};
 use asm_show::show_instr;
@@ -45,7 +45,7 @@ fn emitted(alloc: Global, pc: u32, text: &[u8]) -> Result<Emission, AsmErrorKind
 
 #[test]
 fn texts_emit_their_words(rt: HostRuntime) {
-    text_assembles();
+    reassembly_law();
     for (pc, word) in WORDS {
         let mut text = Line::new();
         show_instr(pc, word, &mut text);

@@ -1,5 +1,5 @@
-pub mod BooleanLaws
-pub mod NameLaws
-pub mod PlaceLaws
-pub mod SeenLaws
-pub mod SizeLaws
+pub mod BooleanLemmas
+pub mod NameLemmas
+pub mod PlaceLemmas
+pub mod SeenLemmas
+pub mod SizeLemmas

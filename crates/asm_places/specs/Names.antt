@@ -28,6 +28,6 @@ place_of_name (line ∷ lines) [] end name = None
 place_of_name (line ∷ lines) (place ∷ places) end name = if is_label name line.label then Some (next_word (line ∷ lines) (place ∷ places) end) else place_of_name lines places end name
 
 -- the names, with the label's place instead of what it had
-abbrev pub labelled : Places → Option (List ℕ) → ℕ → Places
-labelled names None place = names
-labelled names (Some name) place = map.insert names name place
+abbrev pub names_with_label : Places → Option (List ℕ) → ℕ → Places
+names_with_label names None place = names
+names_with_label names (Some name) place = map.insert names name place

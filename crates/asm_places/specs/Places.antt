@@ -37,13 +37,13 @@ place_past ram place None = None
 place_past ram place (Some words) = if nat_le (place + 4 * words) ram then Some (place + 4 * words) else None
 
 -- the place that an `.org` asks for, or else the one behind the words
-abbrev pub moved : ℕ → ℕ → Option ℤ → Option ℕ → Option ℕ
-moved ram place (Some number) words = natural_where (is_reached ram) number
-moved ram place None words = place_past ram place words
+abbrev pub place_after_line : ℕ → ℕ → Option ℤ → Option ℕ → Option ℕ
+place_after_line ram place (Some number) words = natural_where (is_reached ram) number
+place_after_line ram place None words = place_past ram place words
 
 -- the place behind a statement that begins at a place
 abbrev pub place_behind : ℕ → ℕ → Option Statement → Result ℕ AsmErrorKind
-place_behind ram place statement = ok_or (moved ram place (origin_in statement) (count_in statement)) kinds.Range
+place_behind ram place statement = ok_or (place_after_line ram place (origin_in statement) (count_in statement)) kinds.Range
 
 -- the place behind a line that begins at a place, with the lines before it
 unfoldable pub next_place : ℕ → List Line → ℕ → Line → Result ℕ AsmErrorKind

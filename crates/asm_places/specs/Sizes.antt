@@ -25,16 +25,16 @@ natural_where fits (pos n) = if fits n then Some n else None
 natural_where fits (negsuc n) = None
 
 -- the number that a line asks for, which must meet the condition, or else what the others ask for
-abbrev pub asked : (ℕ → Bool) → ℕ → Option ℤ → Result ℕ AsmError → Result ℕ AsmError
-asked fits number None others = others
-asked fits number (Some wanted) others = at_line number (ok_or (natural_where fits wanted) kinds.Range)
+abbrev pub size_from : (ℕ → Bool) → ℕ → Option ℤ → Result ℕ AsmError → Result ℕ AsmError
+size_from fits number None others = others
+size_from fits number (Some wanted) others = at_line number (ok_or (natural_where fits wanted) kinds.Range)
 
 -- the number of harts: that of the first `.harts`, or 1
 abbrev pub harts_of : List Line → Result ℕ AsmError
 harts_of [] = Ok 1
-harts_of (line ∷ lines) = asked is_harts line.number (harts_in line.statement) (harts_of lines)
+harts_of (line ∷ lines) = size_from is_harts line.number (harts_in line.statement) (harts_of lines)
 
 -- the bytes of RAM: those of the first `.ram`, or 65536
 abbrev pub ram_of : List Line → Result ℕ AsmError
 ram_of [] = Ok 65536
-ram_of (line ∷ lines) = asked is_ram line.number (ram_in line.statement) (ram_of lines)
+ram_of (line ∷ lines) = size_from is_ram line.number (ram_in line.statement) (ram_of lines)

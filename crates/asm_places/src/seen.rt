@@ -4,7 +4,7 @@ ghost use Rattle.std.specs.Prelude.{◌≡◌, ℤ, ◌||◌, List, [], ◌∷�
 ghost use Rattle.std.specs.BTreeSet.{contains};
 ghost use Rattle.std.specs.Ordering.{int_cmp};
 ghost use Rattle.asm_read.specs.declared.statements.Line.{Line};
-ghost use Rattle.asm_places.specs.Names.{labelled};
+ghost use Rattle.asm_places.specs.Names.{names_with_label};
 ghost use Rattle.asm_places.specs.Seen.{IsSeen, enters, is_again, is_named, sets_heap, some_before};
 ghost use Rattle.asm_places.specs.Sizes.{harts_in, ram_in};
 
@@ -29,7 +29,7 @@ pub(crate) fn give_label<'a>(
     label: &Option<Name<'a>>,
     place: u32,
 ) -> Result<(), AllocError>
-    ensures { OnOk result (names.new ≡ labelled names.old label.now place) }
+    ensures { OnOk result (names.new ≡ names_with_label names.old label.now place) }
 {
     match label {
         Some(name) => names.give(name.text(), place),

@@ -7,6 +7,7 @@ ghost use Rattle.asm_read.specs.Source.{at_line};
 ghost use Rattle.asm_places.specs.Sizes.{harts_in, harts_of, natural_where, ram_in, ram_of};
 
 use asm_read::{AsmError, AsmErrorKind, Line, Statement};
+use image_format::{MOST_HARTS, MOST_RAM};
 
 /// How many harts there are where no line says so.
 const HARTS: u32 = 1;
@@ -39,7 +40,7 @@ fn harts_at(line: u64, number: i64) -> Result<u32, AsmError>
     ensures { result ≡ at_line line (ok_or (natural_where is_harts number) AsmErrorKind.Range) }
 {
     match u32::try_from(number) {
-        Ok(harts) if 1 <= harts && harts <= 8 => Ok(harts),
+        Ok(harts) if 1 <= harts && harts <= u32::from(MOST_HARTS) => Ok(harts),
         _ => Err(AsmError {
             line,
             kind: AsmErrorKind::Range,
@@ -52,7 +53,7 @@ fn ram_at(line: u64, number: i64) -> Result<u32, AsmError>
     ensures { result ≡ at_line line (ok_or (natural_where is_ram number) AsmErrorKind.Range) }
 {
     match u32::try_from(number) {
-        Ok(bytes) if bytes % 4 == 0 && 4 <= bytes && bytes <= 16_777_216 => Ok(bytes),
+        Ok(bytes) if bytes % 4 == 0 && 4 <= bytes && bytes <= MOST_RAM => Ok(bytes),
         _ => Err(AsmError {
             line,
             kind: AsmErrorKind::Range,

@@ -10,7 +10,7 @@ use Rattle.asm_read.specs.declared.errors.AsmError.{AsmError}
 use Rattle.asm_read.specs.declared.statements.Line.{Line}
 use Rattle.asm_read.specs.Lines.{line_of}
 use Rattle.asm_read.specs.Operands.{Text}
-use Rattle.asm_read.specs.Source.{at_line, lines_of, said, source_of}
+use Rattle.asm_read.specs.Source.{at_line, lines_of, line_if_said, source_of}
 use Rattle.asm_read.specs.Steps.{◌>>=◌}
 
 -- ---- one line
@@ -88,8 +88,8 @@ with_front front (Ok read) = Ok (front ++ read)
 with_front front (Err error) = Err error
 
 -- one more line behind the front, and what comes behind it
-regroup : (front : List Line) (line : Line) (read : Result (List Line) AsmError) → with_front front (read >>= λ others. Ok (said line ++ others)) ≡ with_front (front ++ said line) read
-regroup front line (Ok others) = ap (λ (all : List Line). Ok all) (sym (append_assoc front (said line) others))
+regroup : (front : List Line) (line : Line) (read : Result (List Line) AsmError) → with_front front (read >>= λ others. Ok (line_if_said line ++ others)) ≡ with_front (front ++ line_if_said line) read
+regroup front line (Ok others) = ap (λ (all : List Line). Ok all) (sym (append_assoc front (line_if_said line) others))
 regroup front line (Err error) = refl
 
 -- nothing was read yet
@@ -103,10 +103,10 @@ starts source = go (lines_of 1 (lines source))
 
 -- a line was read: the loop goes on behind it
 pub goes_on : (front : List Line) (number : ℕ) (text : Text) (left more : List Text) (line : Line) (total : Result (List Line) AsmError) → left ≡ text ∷ more → at_line number (line_of number text) ≡ Ok line
-    → with_front front (lines_of number left) ≡ total → with_front (front ++ said line) (lines_of (number + 1) more) ≡ total
+    → with_front front (lines_of number left) ≡ total → with_front (front ++ line_if_said line) (lines_of (number + 1) more) ≡ total
 unfolding lines_of
 goes_on front number text left more line total first read so_far =
-    let one : with_front front (lines_of number left) ≡ with_front (front ++ said line) (lines_of (number + 1) more) = rw (first, read) (regroup front line (lines_of (number + 1) more)) in
+    let one : with_front front (lines_of number left) ≡ with_front (front ++ line_if_said line) (lines_of (number + 1) more) = rw (first, read) (regroup front line (lines_of (number + 1) more)) in
     sym one ∙ so_far
 
 -- a line was refused, and so is the whole

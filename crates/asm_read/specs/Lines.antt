@@ -3,7 +3,7 @@ use Rattle.std.specs.Prelude.{ℕ, ◌==◌, [], ◌∷◌, Option, Some, None, 
 use Rattle.std.specs.List.{list_all}
 use Rattle.std.specs.Option.{ok_or}
 use Rattle.asm_text.specs.Bytes.{is_allowed, is_name}
-use Rattle.asm_text.specs.Cuts.{after, after_word, before, first_word, trimmed}
+use Rattle.asm_text.specs.Cuts.{after, after_word, before, first_word, without_blanks}
 use Rattle.asm_table.specs.declared.forms.Form.{Form}
 use Rattle.asm_table.specs.declared.forms.Form.TheVariants as forms
 use Rattle.asm_table.specs.Words.{form_named}
@@ -66,12 +66,12 @@ statement_in (byte ∷ more) = do
   Ok (Some statement)
 
 -- what stands before the first colon must be a name
-abbrev pub labelled : Text → Text → Result (Option Text × Text) AsmErrorKind
-labelled name rest = if is_name name then Ok (Some name, rest) else Err kinds.Mnemonic
+abbrev pub label_and_rest : Text → Text → Result (Option Text × Text) AsmErrorKind
+label_and_rest name rest = if is_name name then Ok (Some name, rest) else Err kinds.Mnemonic
 
 abbrev pub label_before : Text → Option Text → Result (Option Text × Text) AsmErrorKind
 label_before text None = Ok (None, text)
-label_before text (Some rest) = labelled (trimmed (before colon text)) rest
+label_before text (Some rest) = label_and_rest (without_blanks (before colon text)) rest
 
 -- the name before the first colon, if there is one, and the text of the statement
 unfoldable pub label_in : Text → Result (Option Text × Text) AsmErrorKind
@@ -82,5 +82,5 @@ unfoldable pub line_of : ℕ → Text → Result Line AsmErrorKind
 line_of number text = do
   allowed ← demand (list_all is_allowed text) kinds.Byte
   label ← label_in (before hash text)
-  statement ← statement_in (trimmed label.1)
+  statement ← statement_in (without_blanks label.1)
   Ok (record { number = number; label = label.0; statement = statement })

@@ -1,6 +1,6 @@
 -- The operands of a statement as texts, with commas between them.
 use Rattle.std.specs.Prelude.{ℕ, List, [], ◌∷◌, Option, Some, None, Result, Ok, Err}
-use Rattle.asm_text.specs.Cuts.{after, before, trimmed}
+use Rattle.asm_text.specs.Cuts.{after, before, without_blanks}
 use Rattle.asm_read.specs.declared.errors.AsmErrorKind.{AsmErrorKind}
 use Rattle.asm_read.specs.declared.errors.AsmErrorKind.TheVariants as kinds
 use Rattle.asm_read.specs.Steps.{◌>>=◌}
@@ -21,7 +21,7 @@ nonempty (byte ∷ more) = Ok (byte ∷ more)
 unfoldable pub next_operand : Option Text → Result (Text × Option Text) AsmErrorKind
 next_operand None = Err kinds.Operand
 next_operand (Some text) = do
-  operand ← nonempty (trimmed (before comma text))
+  operand ← nonempty (without_blanks (before comma text))
   Ok (operand, after comma text)
 
 -- no comma stands behind the last one
@@ -34,7 +34,7 @@ nothing [] = Ok tt
 nothing (byte ∷ more) = Err kinds.Operand
 
 unfoldable pub no_operand : Text → Result (Unit {0}) AsmErrorKind
-no_operand text = nothing (trimmed text)
+no_operand text = nothing (without_blanks text)
 
 unfoldable pub one_operand : Text → Result Text AsmErrorKind
 one_operand text = do

@@ -20,8 +20,8 @@ abbrev pub is_said : Line → Bool
 is_said line = is_some line.label || is_some line.statement
 
 -- the line, where it says something
-abbrev pub said : Line → List Line
-said line = if is_said line then line ∷ [] else []
+abbrev pub line_if_said : Line → List Line
+line_if_said line = if is_said line then line ∷ [] else []
 
 -- the lines that say something, numbered from the given number on
 unfoldable pub lines_of : ℕ → List Text → Result (List Line) AsmError
@@ -29,7 +29,7 @@ lines_of number [] = Ok []
 lines_of number (text ∷ more) = do
   line ← at_line number (line_of number text)
   others ← lines_of (number + 1) more
-  Ok (said line ++ others)
+  Ok (line_if_said line ++ others)
 
 -- a newline ends a line, which the last may lack; a carriage return right before a newline is dropped; lines count from 1
 unfoldable pub source_of : List ℕ → Result (List Line) AsmError

@@ -12,6 +12,6 @@ demand true refusal = Ok tt
 demand false refusal = Err refusal
 
 -- a result by what is seen of its value
-abbrev pub seen : {E A B : Type 0} → (A → B) → Result A E → Result B E
-seen view (Ok x) = Ok (view x)
-seen view (Err refusal) = Err refusal
+abbrev pub result_view : {E A B : Type 0} → (A → B) → Result A E → Result B E
+result_view view (Ok x) = Ok (view x)
+result_view view (Err refusal) = Err refusal

@@ -3,7 +3,7 @@
 ghost use Rattle.std.specs.Prelude.{◌≡◌};
 ghost use Rattle.std.specs.List.{list_all};
 ghost use Rattle.asm_read.specs.Addresses.{access, is_plain, parts_at};
-ghost use Rattle.asm_read.specs.Steps.{seen};
+ghost use Rattle.asm_read.specs.Steps.{result_view};
 
 use crate::errors::AsmErrorKind;
 use crate::operands::two_operands;
@@ -21,7 +21,7 @@ fn has_no_parenthesis(text: &[u8]) -> bool
 /// The texts of `n` and `r` in `n(r)`, as they stand there. They may be empty, and have no parenthesis.
 #[tactic(auto, unfolding(crate::specs::Addresses::parts_at))]
 fn parts(text: &[u8]) -> Result<(&[u8], &[u8]), AsmErrorKind>
-    ensures { seen (λ x. (x.0.now, x.1.now)) result ≡ parts_at text.now }
+    ensures { result_view (λ x. (x.0.now, x.1.now)) result ≡ parts_at text.now }
 {
     let (offset, inside) = cut(text, b'(');
     let inside = inside.ok_or(AsmErrorKind::Operand)?;

@@ -2,7 +2,7 @@
 
 ghost use Rattle.std.specs.Prelude.{◌≡◌};
 ghost use Rattle.asm_read.specs.Lines.{form_at, label_in, line_of, statement_in, statement_of, unknown};
-ghost use Rattle.asm_read.specs.Steps.{seen};
+ghost use Rattle.asm_read.specs.Steps.{result_view};
 
 use crate::directives::directive_of;
 use crate::errors::AsmErrorKind;
@@ -89,7 +89,7 @@ fn statement_in<'a>(text: &'a [u8]) -> Result<Option<Statement<'a>>, AsmErrorKin
 /// The name before the first colon, if there is one, and the text of the statement.
 #[tactic(auto, unfolding(crate::specs::Lines::label_in))]
 fn label_in<'a>(text: &'a [u8]) -> Result<(Option<Name<'a>>, &'a [u8]), AsmErrorKind>
-    ensures { seen (λ x. (x.0, x.1.now)) result ≡ label_in text.now }
+    ensures { result_view (λ x. (x.0, x.1.now)) result ≡ label_in text.now }
 {
     let (name, statement) = cut(text, b':');
     let Some(statement) = statement else {

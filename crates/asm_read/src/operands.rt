@@ -3,7 +3,7 @@
 ghost use Rattle.std.specs.Prelude.{◌≡◌};
 ghost use Rattle.std.specs.Option.{option_copied};
 ghost use Rattle.asm_read.specs.Operands.{next_operand, no_more, no_operand, one_operand, three_operands, two_operands};
-ghost use Rattle.asm_read.specs.Steps.{seen};
+ghost use Rattle.asm_read.specs.Steps.{result_view};
 
 use crate::errors::AsmErrorKind;
 use asm_text::{cut, trim};
@@ -11,7 +11,7 @@ use asm_text::{cut, trim};
 /// The operand in front without the blanks at its ends, and what stands behind its comma, if it has one.
 #[tactic(auto, unfolding(crate::specs::Operands::next_operand))]
 fn next_operand(left: Option<&[u8]>) -> Result<(&[u8], Option<&[u8]>), AsmErrorKind>
-    ensures { seen (λ x. (x.0.now, option_copied x.1)) result
+    ensures { result_view (λ x. (x.0.now, option_copied x.1)) result
         ≡ next_operand (option_copied left.entry) }
 {
     let text = left.ok_or(AsmErrorKind::Operand)?;
@@ -48,7 +48,7 @@ pub(crate) fn no_operand(text: &[u8]) -> Result<(), AsmErrorKind>
 /// The only operand.
 #[tactic(auto, unfolding(crate::specs::Operands::one_operand))]
 pub(crate) fn one_operand(text: &[u8]) -> Result<&[u8], AsmErrorKind>
-    ensures { seen (λ x. x.now) result ≡ one_operand text.now }
+    ensures { result_view (λ x. x.now) result ≡ one_operand text.now }
 {
     let (only, left) = next_operand(Some(text))?;
     no_more(left)?;
@@ -58,7 +58,7 @@ pub(crate) fn one_operand(text: &[u8]) -> Result<&[u8], AsmErrorKind>
 /// The only two operands.
 #[tactic(auto, unfolding(crate::specs::Operands::two_operands))]
 pub(crate) fn two_operands(text: &[u8]) -> Result<(&[u8], &[u8]), AsmErrorKind>
-    ensures { seen (λ x. (x.0.now, x.1.now)) result ≡ two_operands text.now }
+    ensures { result_view (λ x. (x.0.now, x.1.now)) result ≡ two_operands text.now }
 {
     let (first, left) = next_operand(Some(text))?;
     let (second, left) = next_operand(left)?;
@@ -69,7 +69,7 @@ pub(crate) fn two_operands(text: &[u8]) -> Result<(&[u8], &[u8]), AsmErrorKind>
 /// The only three operands.
 #[tactic(auto, unfolding(crate::specs::Operands::three_operands))]
 pub(crate) fn three_operands(text: &[u8]) -> Result<(&[u8], &[u8], &[u8]), AsmErrorKind>
-    ensures { seen (λ x. (x.0.now, x.1.now, x.2.now)) result ≡ three_operands text.now }
+    ensures { result_view (λ x. (x.0.now, x.1.now, x.2.now)) result ≡ three_operands text.now }
 {
     let (first, left) = next_operand(Some(text))?;
     let (second, left) = next_operand(left)?;

@@ -3,7 +3,7 @@
 ghost use Rattle.std.specs.Prelude.{◌≡◌, ◌<◌, ◌∷◌, ◌++◌, length, OnOk};
 ghost use Rattle.std.specs.Str.Lines.{lines, strip_carriage_return};
 ghost use Rattle.asm_read.specs.Lines.{line_of};
-ghost use Rattle.asm_read.specs.Source.{Gives, at_line, is_said, said, source_of};
+ghost use Rattle.asm_read.specs.Source.{Gives, at_line, is_said, line_if_said, source_of};
 
 use crate::errors::{AsmEnd, AsmError};
 use crate::lines::line_of;
@@ -50,7 +50,7 @@ fn is_said(line: &Line<'_>) -> bool
 
 /// Appends the line, where it says something.
 fn keep<'a>(read: &mut Vec<Line<'a>>, line: Line<'a>) -> Result<(), AllocError>
-    ensures { OnOk result (read.new.items ≡ read.old.items ++ said line.entry) }
+    ensures { OnOk result (read.new.items ≡ read.old.items ++ line_if_said line.entry) }
 {
     if is_said(&line) {
         read.push(line)?;

@@ -57,6 +57,6 @@ instr_text pc Ecall = codes "ecall"
 instr_text pc Ebreak = codes "ebreak"
 
 -- the text of a word at the address pc, where it is the word of this instruction or of none
-unfoldable pub shown : ℕ → ℕ → Option Instr → Text
-shown pc word None = plain_word word
-shown pc word (Some instr) = instr_text pc instr
+unfoldable pub text_at : ℕ → ℕ → Option Instr → Text
+text_at pc word None = plain_word word
+text_at pc word (Some instr) = instr_text pc instr

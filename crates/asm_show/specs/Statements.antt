@@ -2,17 +2,17 @@
 use Rattle.std.specs.Prelude.{ℕ, List, [], ◌∷◌, ◌++◌, codes}
 use Rattle.asm_show.specs.Operands.{Text, register, immediate, amount, upper, whole, target, place}
 
-abbrev pub listed : List Text → Text
-listed [] = []
-listed (operand ∷ []) = operand
-listed (operand ∷ next ∷ more) = operand ++ codes ", " ++ listed (next ∷ more)
+abbrev pub comma_list : List Text → Text
+comma_list [] = []
+comma_list (operand ∷ []) = operand
+comma_list (operand ∷ next ∷ more) = operand ++ codes ", " ++ comma_list (next ∷ more)
 
 abbrev pub statement : Text → List Text → Text
-statement name operands = name ++ codes " " ++ listed operands
+statement name operands = name ++ codes " " ++ comma_list operands
 
 -- a statement up to its second operand, behind the comma
-abbrev pub begun : Text → ℕ → Text
-begun name r = name ++ codes " " ++ register r ++ codes ", "
+abbrev pub statement_start : Text → ℕ → Text
+statement_start name r = name ++ codes " " ++ register r ++ codes ", "
 
 -- ---- the statements of instructions, by their operands
 

@@ -2,8 +2,8 @@
 
 ghost use Rattle.std.specs.Prelude.{◌≡◌, ◌+◌, ◌≤◌, ◌++◌};
 ghost use Rattle.arrayvec.specs.ArrayVec.{array_vec_len};
-ghost use Rattle.rv_decode.specs.Decoding.{decoded};
-ghost use Rattle.asm_show.specs.Instructions.{fence_text, instr_text, shown};
+ghost use Rattle.rv_decode.specs.Decoding.{instr_of_word};
+ghost use Rattle.asm_show.specs.Instructions.{fence_text, instr_text, text_at};
 
 use crate::statements::{
     write_branch, write_jump, write_plain_word, write_with_amount, write_with_immediate,
@@ -19,10 +19,10 @@ use rv_decode::{FenceWord, Instr, decode};
 /// have the address that they go to, as `0x` and eight. A word that is no instruction, and a FENCE other than 0FF0000F (which
 /// is `fence` with no operand), is `.word` with the word as `0x` and eight digits. No text has more than 32 bytes, for which
 /// the line must have room.
-#[tactic(auto, unfolding(crate::specs::Instructions::shown))]
+#[tactic(auto, unfolding(crate::specs::Instructions::text_at))]
 pub fn show_instr(pc: u32, word: u32, line: &mut Line)
     requires { array_vec_len line.old + 32 ≤ 512 }
-    ensures text { line.new.items ≡ line.old.items ++ shown pc word (decoded word) }
+    ensures text { line.new.items ≡ line.old.items ++ text_at pc word (instr_of_word word) }
     ensures short { array_vec_len line.new ≤ array_vec_len line.old + 32 }
 {
     match decode(word) {

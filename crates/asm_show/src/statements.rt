@@ -3,7 +3,7 @@
 ghost use Rattle.std.specs.Prelude.{◌≡◌, ◌+◌, ◌≤◌, ◌++◌, codes, length};
 ghost use Rattle.arrayvec.specs.ArrayVec.{array_vec_len};
 ghost use Rattle.asm_show.specs.Operands.{register};
-ghost use Rattle.asm_show.specs.Statements.{begun, branch, jump, plain_word, with_amount, with_immediate, with_place, with_registers, with_upper};
+ghost use Rattle.asm_show.specs.Statements.{statement_start, branch, jump, plain_word, with_amount, with_immediate, with_place, with_registers, with_upper};
 
 use crate::operands::{
     write_amount, write_immediate, write_place, write_register, write_target, write_upper,
@@ -15,7 +15,7 @@ use rv_decode::{BranchOffset, Immediate, JumpOffset, Register, ShiftAmount, Uppe
 /// Appends a name, its first operand, and what stands before the next one.
 fn write_first(line: &mut Line, name: &[u8], r: Register)
     requires { array_vec_len line.old + length name.now + 6 ≤ 512 }
-    ensures text { line.new.items ≡ line.old.items ++ begun name.now r }
+    ensures text { line.new.items ≡ line.old.items ++ statement_start name.now r }
     ensures short { array_vec_len line.new ≤ array_vec_len line.old + length name.now + 6 }
 {
     write_text(line, name);

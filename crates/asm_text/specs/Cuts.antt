@@ -32,5 +32,5 @@ abbrev pub without_end : List ℕ → List ℕ
 without_end text = reverse (without_front (reverse text))
 
 -- without the blanks at both ends
-abbrev pub trimmed : List ℕ → List ℕ
-trimmed text = without_end (without_front text)
+abbrev pub without_blanks : List ℕ → List ℕ
+without_blanks text = without_end (without_front text)

@@ -2,7 +2,7 @@
 
 ghost use Rattle.std.specs.Prelude.{◌≡◌};
 ghost use Rattle.std.specs.Option.{option_copied};
-ghost use Rattle.asm_text.specs.Cuts.{after, after_word, before, first_word, trimmed, without_end, without_front};
+ghost use Rattle.asm_text.specs.Cuts.{after, after_word, before, first_word, without_blanks, without_end, without_front};
 
 use crate::bytes::is_blank;
 
@@ -60,7 +60,7 @@ fn trim_end(text: &[u8]) -> &[u8]
 
 /// The text without the blanks at its ends.
 pub fn trim(text: &[u8]) -> &[u8]
-    ensures { result.now ≡ trimmed text.now }
+    ensures { result.now ≡ without_blanks text.now }
 {
     trim_end(trim_front(text))
 }

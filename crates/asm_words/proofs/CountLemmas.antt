@@ -12,7 +12,7 @@ use Rattle.asm_words.specs.declared.emissions.Emission.TheVariants as emissions
 use Rattle.asm_words.specs.Emission.{address_of, both_parts, branch, count_of, emission_of, fence, immediate, jump, jump_register, load, load_address, load_number, load_word, one, shift, store, upper, word, word_load_count, words_of, zero_count, zeros}
 use Rattle.asm_words.specs.EmissionLaws.{IsCounted}
 use Rattle.asm_words.specs.Instructions.{branch_of, load_of, store_of, with_amount, with_immediate, with_registers, with_upper}
-use Rattle.asm_words.specs.Ranges.{amount_at, branch_offset, high_part, immediate_at, is_short, jump_offset, low_part, upper_at, wrapped}
+use Rattle.asm_words.specs.Ranges.{amount_at, branch_offset, high_part, immediate_at, is_short, jump_offset, low_part, upper_at, word_modulo}
 
 -- what is emitted, if anything is, has so many words
 abbrev Emits : Option ℕ → Result Emission AsmErrorKind → Type 0
@@ -55,7 +55,7 @@ counted places place (statements.JumpRegister rd rs1 n) = bound (Some 1) (immedi
 counted places place statements.Fence = given (Some 1) (fence) refl
 counted places place statements.Ecall = given (Some 1) (one Ecall) refl
 counted places place statements.Ebreak = given (Some 1) (one Ebreak) refl
-counted places place (statements.LoadNumber rd n) = given (Some (word_load_count (wrapped n))) (load_number rd n) (load_counted rd (wrapped n))
+counted places place (statements.LoadNumber rd n) = given (Some (word_load_count (word_modulo n))) (load_number rd n) (load_counted rd (word_modulo n))
 counted places place (statements.LoadAddress rd target) = bound (Some 2) (address_of places target) (λ address. Ok (both_parts rd address)) (λ address. given (Some 2) (both_parts rd address) refl)
 counted places place (statements.Harts n) = given (Some 0) (emissions.Nothing) refl
 counted places place (statements.Ram n) = given (Some 0) (emissions.Nothing) refl

@@ -1,29 +1,11 @@
 -- The word of a line of the table is the one whose fields are put at their places.
-use Rattle.std.proofs.Common.{◌≡◌, ℕ, ◌+◌, ◌-◌, ◌*◌, ◌%◌, ◌^◌, ◌<◌, sym, ap, ◌∙◌, arith}
-use Rattle.std.proofs.Common.{ltb}
-use Rattle.std.proofs.lemmas.Bool.{cond_both}
-use Rattle.pump_words.specs.Words.{sign_extended}
+use Rattle.std.proofs.Common.{◌≡◌, ℕ, ◌+◌, ◌*◌, ◌%◌, ◌^◌, sym, ap, ◌∙◌, arith}
 use Rattle.rv_decode.specs.Formats.{IsRegisterWord, IsImmediateWord, IsStoreWord, IsBranchWord, IsUpperWord, IsJumpWord}
 use Rattle.rv_decode.specs.Table.{Table}
 use Rattle.rv_decode.specs.declared.instructions.Instr.{Instr}
 use Rattle.rv_decode.specs.declared.instructions.Instr.TheVariants.{Lui, Auipc, Jal, Jalr, Beq, Bne, Blt, Bge, Bltu, Bgeu, Lb, Lh, Lw, Lbu, Lhu, Sb, Sh, Sw, Addi, Slti, Sltiu, Xori, Ori, Andi, Slli, Srli, Srai, Add, Sub, Sll, Slt, Sltu, Xor, Srl, Sra, Or, And, Fence, Ecall, Ebreak}
-use Rattle.asm_words.specs.Encoding.{encoded, register_word, immediate_word, store_word, branch_word, upper_word, jump_word}
-
--- the low bits of a sign extension are those that were extended
-low12 : (n : ℕ) → n < 2 ^ 12 → sign_extended 12 n % 2 ^ 12 ≡ n
-low12 n fits =
-    cond_both (ltb (n % 2 ^ 12) (2 ^ 11)) (n % 2 ^ 12) (2 ^ 32 - 2 ^ 12 + n % 2 ^ 12) (λ m. m % 2 ^ 12 ≡ n)
-    (λ _. omega arith) (λ _. omega arith)
-
-low13 : (n : ℕ) → n < 2 ^ 13 → sign_extended 13 n % 2 ^ 13 ≡ n
-low13 n fits =
-    cond_both (ltb (n % 2 ^ 13) (2 ^ 12)) (n % 2 ^ 13) (2 ^ 32 - 2 ^ 13 + n % 2 ^ 13) (λ m. m % 2 ^ 13 ≡ n)
-    (λ _. omega arith) (λ _. omega arith)
-
-low21 : (n : ℕ) → n < 2 ^ 21 → sign_extended 21 n % 2 ^ 21 ≡ n
-low21 n fits =
-    cond_both (ltb (n % 2 ^ 21) (2 ^ 20)) (n % 2 ^ 21) (2 ^ 32 - 2 ^ 21 + n % 2 ^ 21) (λ m. m % 2 ^ 21 ≡ n)
-    (λ _. omega arith) (λ _. omega arith)
+use Rattle.rv_decode.proofs.FormatLemmas.{low12, low13, low21}
+use Rattle.asm_words.specs.Encoding.{word_of_instr, register_word, immediate_word, store_word, branch_word, upper_word, jump_word}
 
 -- ---- the formats
 
@@ -58,8 +40,8 @@ is_jump w opcode rd imm is =
 
 -- ---- the table
 
-pub table_encoded : (w : ℕ) (instr : Instr) → Table w instr → w ≡ encoded instr
-unfolding encoded
+pub table_encoded : (w : ℕ) (instr : Instr) → Table w instr → w ≡ word_of_instr instr
+unfolding word_of_instr
 table_encoded w (Lui rd imm) row = is_upper w 0x37 rd imm row
 table_encoded w (Auipc rd imm) row = is_upper w 0x17 rd imm row
 table_encoded w (Jal rd imm) row = is_jump w 0x6F rd imm row

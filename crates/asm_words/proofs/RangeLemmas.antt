@@ -8,7 +8,7 @@ use Rattle.std.proofs.lemmas.Bool.Decides.{nat_tests}
 use Rattle.pump_words.specs.Words.{sign_extended, signed}
 use Rattle.asm_read.specs.declared.errors.AsmErrorKind.{AsmErrorKind}
 use Rattle.asm_read.specs.declared.errors.AsmErrorKind.TheVariants as kinds
-use Rattle.asm_words.specs.Ranges.{even_within, is_short, is_within, low_part, within, wrapped}
+use Rattle.asm_words.specs.Ranges.{even_within, is_short, is_within, low_part, within, word_modulo}
 
 -- ---- numbers as they are written
 
@@ -20,12 +20,12 @@ kept false x y is = absurd cc
 pub immediate_kept : (n : ℤ) (w : ℕ) → within (neg_ℤ (pos 2048)) (pos 2047) n ≡ Ok w → sign_extended 12 w ≡ w
 unfolding within
 immediate_kept (pos m) w is =
-    let both : (is_within (neg_ℤ (pos 2048)) (pos 2047) (pos m) ≡ true) × (wrapped (pos m) ≡ w) = kept _ _ _ is in
+    let both : (is_within (neg_ℤ (pos 2048)) (pos 2047) (pos m) ≡ true) × (word_modulo (pos m) ≡ w) = kept _ _ _ is in
     let small : leb m 2047 ≡ true = both.0 in
     let word : m % 2 ^ 32 ≡ w = both.1 in
     grind (arith, nat_tests, small, word)
 immediate_kept (negsuc m) w is =
-    let both : (is_within (neg_ℤ (pos 2048)) (pos 2047) (negsuc m) ≡ true) × (wrapped (negsuc m) ≡ w) = kept _ _ _ is in
+    let both : (is_within (neg_ℤ (pos 2048)) (pos 2047) (negsuc m) ≡ true) × (word_modulo (negsuc m) ≡ w) = kept _ _ _ is in
     let small : (leb m 2047 && true) ≡ true = both.0 in
     let word : 2 ^ 32 - 1 - m % 2 ^ 32 ≡ w = both.1 in
     grind (arith, nat_tests, small, word)
@@ -33,7 +33,7 @@ immediate_kept (negsuc m) w is =
 pub amount_kept : (n : ℤ) (w : ℕ) → within (pos 0) (pos 31) n ≡ Ok w → w < 32
 unfolding within
 amount_kept (pos m) w is =
-    let both : (is_within (pos 0) (pos 31) (pos m) ≡ true) × (wrapped (pos m) ≡ w) = kept _ _ _ is in
+    let both : (is_within (pos 0) (pos 31) (pos m) ≡ true) × (word_modulo (pos m) ≡ w) = kept _ _ _ is in
     let small : (leb 0 m && leb m 31) ≡ true = both.0 in
     let word : m % 2 ^ 32 ≡ w = both.1 in
     grind (arith, nat_tests, small, word)
@@ -42,7 +42,7 @@ amount_kept (negsuc m) w is = absurd cc
 pub upper_kept : (n : ℤ) (w : ℕ) → within (pos 0) (pos 1048575) n ≡ Ok w → w < 2 ^ 20
 unfolding within
 upper_kept (pos m) w is =
-    let both : (is_within (pos 0) (pos 1048575) (pos m) ≡ true) × (wrapped (pos m) ≡ w) = kept _ _ _ is in
+    let both : (is_within (pos 0) (pos 1048575) (pos m) ≡ true) × (word_modulo (pos m) ≡ w) = kept _ _ _ is in
     let small : (leb 0 m && leb m 1048575) ≡ true = both.0 in
     let word : m % 2 ^ 32 ≡ w = both.1 in
     grind (arith, nat_tests, small, word)
@@ -55,7 +55,7 @@ is_false true h isnt = absurd (isnt (h refl))
 is_false false h isnt = refl
 
 -- what holds of a word's signed number, by cases on its sign
-signed_by : (P : ℤ → Type 0) (w : ℕ) → (w < 2 ^ 31 → P (pos w)) → (2 ^ 31 ≤ w → P (negsuc (2 ^ 32 - suc w))) → P (signed w)
+pub signed_by : (P : ℤ → Type 0) (w : ℕ) → (w < 2 ^ 31 → P (pos w)) → (2 ^ 31 ≤ w → P (negsuc (2 ^ 32 - suc w))) → P (signed w)
 signed_by P w low high = go (ltb w (2 ^ 31)) refl
   where
     go : (t : Bool) → ltb w (2 ^ 31) ≡ t → P (signed w)

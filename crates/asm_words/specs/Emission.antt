@@ -15,12 +15,12 @@ use Rattle.asm_read.specs.declared.statements.Statement.{Statement}
 use Rattle.asm_read.specs.declared.statements.Statement.TheVariants as statements
 use Rattle.asm_read.specs.declared.statements.Target.{Target}
 use Rattle.asm_read.specs.declared.statements.Target.TheVariants as targets
-use Rattle.asm_read.specs.Steps.{◌>>=◌, seen}
+use Rattle.asm_read.specs.Steps.{◌>>=◌, result_view}
 use Rattle.asm_words.specs.declared.emissions.Emission.{Emission}
 use Rattle.asm_words.specs.declared.emissions.Emission.TheVariants as emissions
-use Rattle.asm_words.specs.Encoding.{encoded}
+use Rattle.asm_words.specs.Encoding.{word_of_instr}
 use Rattle.asm_words.specs.Instructions.{branch_of, load_of, store_of, with_amount, with_immediate, with_registers, with_upper}
-use Rattle.asm_words.specs.Ranges.{amount_at, branch_offset, high_part, immediate_at, is_short, jump_offset, low_part, upper_at, wrapped}
+use Rattle.asm_words.specs.Ranges.{amount_at, branch_offset, high_part, immediate_at, is_short, jump_offset, low_part, upper_at, word_modulo}
 
 -- the words, in the order of their addresses
 abbrev pub words_of : Emission → List ℕ
@@ -37,20 +37,20 @@ Places = List ℕ → Option ℕ
 
 -- the place of a name, or the number
 abbrev pub value_of : Places → Target → Result ℤ AsmErrorKind
-value_of places (targets.Name name) = seen pos (ok_or (places name) kinds.NoName)
+value_of places (targets.Name name) = result_view pos (ok_or (places name) kinds.NoName)
 value_of places (targets.Number n) = Ok n
 
 -- that modulo 2 ^ 32
 unfoldable pub address_of : Places → Target → Result ℕ AsmErrorKind
-address_of places target = seen wrapped (value_of places target)
+address_of places target = result_view word_modulo (value_of places target)
 
 -- ---- instructions
 
 abbrev pub one : Instr → Emission
-one instr = emissions.One (encoded instr)
+one instr = emissions.One (word_of_instr instr)
 
 abbrev pub two : Instr → Instr → Emission
-two first second = emissions.Two (encoded first) (encoded second)
+two first second = emissions.Two (word_of_instr first) (word_of_instr second)
 
 unfoldable pub immediate : ImmediateOperation → ℕ → ℕ → ℤ → Result Emission AsmErrorKind
 immediate operation rd rs1 n = do
@@ -112,7 +112,7 @@ load_word rd word =
     both_parts rd word
 
 unfoldable pub load_number : ℕ → ℤ → Emission
-load_number rd n = load_word rd (wrapped n)
+load_number rd n = load_word rd (word_modulo n)
 
 unfoldable pub load_address : Places → ℕ → Target → Result Emission AsmErrorKind
 load_address places rd target = do
@@ -132,34 +132,33 @@ zeros (negsuc n) = Err kinds.Range
 
 -- ---- statements
 
--- the words of the statement at the address `place`, which is below 2 ^ 32
+-- the words of `.zero`; the other directives emit nothing
+abbrev pub directive_emission : Statement → Result Emission AsmErrorKind
+directive_emission (statements.Zeros n) = zeros n
+directive_emission _ = Ok emissions.Nothing
+
+-- the words of an instruction of registers and numbers alone; the rest is directives
+abbrev pub computation_emission : Statement → Result Emission AsmErrorKind
+computation_emission (statements.Registers operation rd rs1 rs2) = Ok (one (with_registers operation rd rs1 rs2))
+computation_emission (statements.Immediate operation rd rs1 n) = immediate operation rd rs1 n
+computation_emission (statements.Shift operation rd rs1 n) = shift operation rd rs1 n
+computation_emission (statements.Upper operation rd n) = upper operation rd n
+computation_emission statements.Fence = Ok fence
+computation_emission statements.Ecall = Ok (one Ecall)
+computation_emission statements.Ebreak = Ok (one Ebreak)
+computation_emission (statements.LoadNumber rd n) = Ok (load_number rd n)
+computation_emission statement = directive_emission statement
+
+-- the words of the statement at the address `place`, which is below 2 ^ 32: here those that access memory, jump or name an address
 unfoldable pub emission_of : Places → ℕ → Statement → Result Emission AsmErrorKind
-emission_of places place (statements.Registers operation rd rs1 rs2) = Ok (one (with_registers operation rd rs1 rs2))
-emission_of places place (statements.Immediate operation rd rs1 n) = immediate operation rd rs1 n
-emission_of places place (statements.Shift operation rd rs1 n) = shift operation rd rs1 n
-emission_of places place (statements.Upper operation rd n) = upper operation rd n
 emission_of places place (statements.Load operation rd rs1 n) = load operation rd rs1 n
 emission_of places place (statements.Store operation rs2 rs1 n) = store operation rs2 rs1 n
 emission_of places place (statements.Branch operation rs1 rs2 target) = branch places place operation rs1 rs2 target
 emission_of places place (statements.Jump rd target) = jump places place rd target
 emission_of places place (statements.JumpRegister rd rs1 n) = jump_register rd rs1 n
-emission_of places place statements.Fence = Ok fence
-emission_of places place statements.Ecall = Ok (one Ecall)
-emission_of places place statements.Ebreak = Ok (one Ebreak)
-emission_of places place (statements.LoadNumber rd n) = Ok (load_number rd n)
 emission_of places place (statements.LoadAddress rd target) = load_address places rd target
-emission_of places place (statements.Harts n) = Ok emissions.Nothing
-emission_of places place (statements.Ram n) = Ok emissions.Nothing
-emission_of places place (statements.Heap base bytes) = Ok emissions.Nothing
-emission_of places place (statements.Entry hart target) = Ok emissions.Nothing
-emission_of places place (statements.Origin n) = Ok emissions.Nothing
 emission_of places place (statements.Word target) = word places target
-emission_of places place (statements.Zeros n) = zeros n
-emission_of places place statements.Text = Ok emissions.Nothing
-emission_of places place statements.Data = Ok emissions.Nothing
-emission_of places place (statements.Label n) = Ok emissions.Nothing
-emission_of places place (statements.Edge source destination) = Ok emissions.Nothing
-emission_of places place (statements.Compartment owner into write) = Ok emissions.Nothing
+emission_of places place statement = computation_emission statement
 
 -- ---- counts
 
@@ -185,7 +184,7 @@ count_of (statements.JumpRegister rd rs1 n) = Some 1
 count_of statements.Fence = Some 1
 count_of statements.Ecall = Some 1
 count_of statements.Ebreak = Some 1
-count_of (statements.LoadNumber rd n) = Some (word_load_count (wrapped n))
+count_of (statements.LoadNumber rd n) = Some (word_load_count (word_modulo n))
 count_of (statements.LoadAddress rd target) = Some 2
 count_of (statements.Harts n) = Some 0
 count_of (statements.Ram n) = Some 0

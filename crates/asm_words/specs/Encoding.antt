@@ -1,5 +1,5 @@
 -- The word of an instruction as a function, by putting its fields at their places.
--- It promises nothing by itself: that it is the word of the instruction's line in the table is what `encoded_is_table` ensures.
+-- It promises nothing by itself: that it is the word of the instruction's line in the table is what `encoding_law` ensures.
 use Rattle.std.specs.Prelude.{ℕ, ◌+◌, ◌*◌, ◌^◌}
 use Rattle.rv_decode.specs.Fields.{bits_of}
 use Rattle.rv_decode.specs.declared.instructions.Instr.{Instr}
@@ -32,44 +32,44 @@ jump_word opcode rd imm =
 
 -- ---- the instructions
 
-unfoldable pub encoded : Instr → ℕ
-encoded (Lui rd imm) = upper_word 0x37 rd imm
-encoded (Auipc rd imm) = upper_word 0x17 rd imm
-encoded (Jal rd imm) = jump_word 0x6F rd imm
-encoded (Jalr rd rs1 imm) = immediate_word 0x67 0 rd rs1 imm
-encoded (Beq rs1 rs2 imm) = branch_word 0x63 0 rs1 rs2 imm
-encoded (Bne rs1 rs2 imm) = branch_word 0x63 1 rs1 rs2 imm
-encoded (Blt rs1 rs2 imm) = branch_word 0x63 4 rs1 rs2 imm
-encoded (Bge rs1 rs2 imm) = branch_word 0x63 5 rs1 rs2 imm
-encoded (Bltu rs1 rs2 imm) = branch_word 0x63 6 rs1 rs2 imm
-encoded (Bgeu rs1 rs2 imm) = branch_word 0x63 7 rs1 rs2 imm
-encoded (Lb rd rs1 imm) = immediate_word 0x03 0 rd rs1 imm
-encoded (Lh rd rs1 imm) = immediate_word 0x03 1 rd rs1 imm
-encoded (Lw rd rs1 imm) = immediate_word 0x03 2 rd rs1 imm
-encoded (Lbu rd rs1 imm) = immediate_word 0x03 4 rd rs1 imm
-encoded (Lhu rd rs1 imm) = immediate_word 0x03 5 rd rs1 imm
-encoded (Sb rs1 rs2 imm) = store_word 0x23 0 rs1 rs2 imm
-encoded (Sh rs1 rs2 imm) = store_word 0x23 1 rs1 rs2 imm
-encoded (Sw rs1 rs2 imm) = store_word 0x23 2 rs1 rs2 imm
-encoded (Addi rd rs1 imm) = immediate_word 0x13 0 rd rs1 imm
-encoded (Slti rd rs1 imm) = immediate_word 0x13 2 rd rs1 imm
-encoded (Sltiu rd rs1 imm) = immediate_word 0x13 3 rd rs1 imm
-encoded (Xori rd rs1 imm) = immediate_word 0x13 4 rd rs1 imm
-encoded (Ori rd rs1 imm) = immediate_word 0x13 6 rd rs1 imm
-encoded (Andi rd rs1 imm) = immediate_word 0x13 7 rd rs1 imm
-encoded (Slli rd rs1 amount) = register_word 0x13 1 0x00 rd rs1 amount
-encoded (Srli rd rs1 amount) = register_word 0x13 5 0x00 rd rs1 amount
-encoded (Srai rd rs1 amount) = register_word 0x13 5 0x20 rd rs1 amount
-encoded (Add rd rs1 rs2) = register_word 0x33 0 0x00 rd rs1 rs2
-encoded (Sub rd rs1 rs2) = register_word 0x33 0 0x20 rd rs1 rs2
-encoded (Sll rd rs1 rs2) = register_word 0x33 1 0x00 rd rs1 rs2
-encoded (Slt rd rs1 rs2) = register_word 0x33 2 0x00 rd rs1 rs2
-encoded (Sltu rd rs1 rs2) = register_word 0x33 3 0x00 rd rs1 rs2
-encoded (Xor rd rs1 rs2) = register_word 0x33 4 0x00 rd rs1 rs2
-encoded (Srl rd rs1 rs2) = register_word 0x33 5 0x00 rd rs1 rs2
-encoded (Sra rd rs1 rs2) = register_word 0x33 5 0x20 rd rs1 rs2
-encoded (Or rd rs1 rs2) = register_word 0x33 6 0x00 rd rs1 rs2
-encoded (And rd rs1 rs2) = register_word 0x33 7 0x00 rd rs1 rs2
-encoded (Fence kept) = kept
-encoded Ecall = 0x00000073
-encoded Ebreak = 0x00100073
+unfoldable pub word_of_instr : Instr → ℕ
+word_of_instr (Lui rd imm) = upper_word 0x37 rd imm
+word_of_instr (Auipc rd imm) = upper_word 0x17 rd imm
+word_of_instr (Jal rd imm) = jump_word 0x6F rd imm
+word_of_instr (Jalr rd rs1 imm) = immediate_word 0x67 0 rd rs1 imm
+word_of_instr (Beq rs1 rs2 imm) = branch_word 0x63 0 rs1 rs2 imm
+word_of_instr (Bne rs1 rs2 imm) = branch_word 0x63 1 rs1 rs2 imm
+word_of_instr (Blt rs1 rs2 imm) = branch_word 0x63 4 rs1 rs2 imm
+word_of_instr (Bge rs1 rs2 imm) = branch_word 0x63 5 rs1 rs2 imm
+word_of_instr (Bltu rs1 rs2 imm) = branch_word 0x63 6 rs1 rs2 imm
+word_of_instr (Bgeu rs1 rs2 imm) = branch_word 0x63 7 rs1 rs2 imm
+word_of_instr (Lb rd rs1 imm) = immediate_word 0x03 0 rd rs1 imm
+word_of_instr (Lh rd rs1 imm) = immediate_word 0x03 1 rd rs1 imm
+word_of_instr (Lw rd rs1 imm) = immediate_word 0x03 2 rd rs1 imm
+word_of_instr (Lbu rd rs1 imm) = immediate_word 0x03 4 rd rs1 imm
+word_of_instr (Lhu rd rs1 imm) = immediate_word 0x03 5 rd rs1 imm
+word_of_instr (Sb rs1 rs2 imm) = store_word 0x23 0 rs1 rs2 imm
+word_of_instr (Sh rs1 rs2 imm) = store_word 0x23 1 rs1 rs2 imm
+word_of_instr (Sw rs1 rs2 imm) = store_word 0x23 2 rs1 rs2 imm
+word_of_instr (Addi rd rs1 imm) = immediate_word 0x13 0 rd rs1 imm
+word_of_instr (Slti rd rs1 imm) = immediate_word 0x13 2 rd rs1 imm
+word_of_instr (Sltiu rd rs1 imm) = immediate_word 0x13 3 rd rs1 imm
+word_of_instr (Xori rd rs1 imm) = immediate_word 0x13 4 rd rs1 imm
+word_of_instr (Ori rd rs1 imm) = immediate_word 0x13 6 rd rs1 imm
+word_of_instr (Andi rd rs1 imm) = immediate_word 0x13 7 rd rs1 imm
+word_of_instr (Slli rd rs1 amount) = register_word 0x13 1 0x00 rd rs1 amount
+word_of_instr (Srli rd rs1 amount) = register_word 0x13 5 0x00 rd rs1 amount
+word_of_instr (Srai rd rs1 amount) = register_word 0x13 5 0x20 rd rs1 amount
+word_of_instr (Add rd rs1 rs2) = register_word 0x33 0 0x00 rd rs1 rs2
+word_of_instr (Sub rd rs1 rs2) = register_word 0x33 0 0x20 rd rs1 rs2
+word_of_instr (Sll rd rs1 rs2) = register_word 0x33 1 0x00 rd rs1 rs2
+word_of_instr (Slt rd rs1 rs2) = register_word 0x33 2 0x00 rd rs1 rs2
+word_of_instr (Sltu rd rs1 rs2) = register_word 0x33 3 0x00 rd rs1 rs2
+word_of_instr (Xor rd rs1 rs2) = register_word 0x33 4 0x00 rd rs1 rs2
+word_of_instr (Srl rd rs1 rs2) = register_word 0x33 5 0x00 rd rs1 rs2
+word_of_instr (Sra rd rs1 rs2) = register_word 0x33 5 0x20 rd rs1 rs2
+word_of_instr (Or rd rs1 rs2) = register_word 0x33 6 0x00 rd rs1 rs2
+word_of_instr (And rd rs1 rs2) = register_word 0x33 7 0x00 rd rs1 rs2
+word_of_instr (Fence kept) = kept
+word_of_instr Ecall = 0x00000073
+word_of_instr Ebreak = 0x00100073

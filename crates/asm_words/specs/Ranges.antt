@@ -4,18 +4,18 @@ use Rattle.std.specs.Int.{int_rem_euclid}
 use Rattle.pump_words.specs.Words.{signed}
 use Rattle.asm_read.specs.declared.errors.AsmErrorKind.{AsmErrorKind}
 use Rattle.asm_read.specs.declared.errors.AsmErrorKind.TheVariants as kinds
-use Rattle.asm_read.specs.Steps.{seen}
+use Rattle.asm_read.specs.Steps.{result_view}
 
 -- the word that is the number modulo 2 ^ 32
-abbrev pub wrapped : ℤ → ℕ
-wrapped n = unsigned_abs (int_rem_euclid n (pos (2 ^ 32)))
+abbrev pub word_modulo : ℤ → ℕ
+word_modulo n = unsigned_abs (int_rem_euclid n (pos (2 ^ 32)))
 
 abbrev pub is_within : ℤ → ℤ → ℤ → Bool
 is_within least most n = int_le least n && int_le n most
 
 -- the word of a number that lies from `least` to `most`, as it is written
 unfoldable pub within : ℤ → ℤ → ℤ → Result ℕ AsmErrorKind
-within least most n = if is_within least most n then Ok (wrapped n) else Err kinds.Range
+within least most n = if is_within least most n then Ok (word_modulo n) else Err kinds.Range
 
 -- an immediate of 12 bits, sign-extended
 abbrev pub immediate_at : ℤ → Result ℕ AsmErrorKind
@@ -27,7 +27,7 @@ amount_at n = within (pos 0) (pos 31) n
 
 -- the word whose upper 20 bits are the number, with twelve zeros below
 abbrev pub upper_at : ℤ → Result ℕ AsmErrorKind
-upper_at n = seen (λ bits. bits * 2 ^ 12) (within (pos 0) (pos 1048575) n)
+upper_at n = result_view (λ bits. bits * 2 ^ 12) (within (pos 0) (pos 1048575) n)
 
 -- ---- offsets
 

@@ -3,7 +3,7 @@
 ghost use Rattle.std.specs.Prelude.{◌≡◌};
 ghost use Rattle.asm_words.specs.Emission.{one, two};
 ghost use Rattle.asm_words.specs.EmissionLaws.{Fits};
-ghost use Rattle.asm_words.specs.Encoding.{encoded};
+ghost use Rattle.asm_words.specs.Encoding.{word_of_instr};
 
 use rv_decode::{Instr, encode};
 
@@ -22,7 +22,7 @@ pub enum Emission {
 
 /// The word of an instruction.
 fn word_of(instr: Instr) -> u32
-    ensures { result ≡ encoded instr }
+    ensures { result ≡ word_of_instr instr }
 {
     encode(&instr)
 }

@@ -5,14 +5,14 @@ ghost use Rattle.std.specs.Prelude.{◌≡◌, ℕ};
 ghost use Rattle.rv_decode.specs.Table.{Table};
 ghost use Rattle.rv_decode.specs.declared.instructions.Instr.{Instr};
 ghost use Rattle.asm_words.specs.EmissionLaws.{IsCounted};
-ghost use Rattle.asm_words.specs.Encoding.{encoded};
+ghost use Rattle.asm_words.specs.Encoding.{word_of_instr};
 
 /// The word that the table has for an instruction is the one whose fields are put at their places.
-pub fn encoded_is_table()
-    ensures { (w : ℕ) (instr : Instr) → Table w instr → w ≡ encoded instr }
+pub fn encoding_law()
+    ensures { (w : ℕ) (instr : Instr) → Table w instr → w ≡ word_of_instr instr }
 {}
 
 /// A statement emits as many words as are counted.
-pub fn emissions_are_counted()
+pub fn count_law()
     ensures { IsCounted }
 {}

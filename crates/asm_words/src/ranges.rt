@@ -1,7 +1,7 @@
 //! Numbers of the source as fields of instructions, each within its range.
 
 ghost use Rattle.std.specs.Prelude.{◌≡◌};
-ghost use Rattle.asm_words.specs.Ranges.{amount_at, branch_offset, immediate_at, jump_offset, upper_at, within, wrapped};
+ghost use Rattle.asm_words.specs.Ranges.{amount_at, branch_offset, immediate_at, jump_offset, upper_at, within, word_modulo};
 
 use asm_read::AsmErrorKind;
 use rv_decode::{BranchOffset, Immediate, JumpOffset, ShiftAmount, UpperImmediate};
@@ -11,7 +11,7 @@ const WORDS: i64 = 0x1_0000_0000;
 
 /// The word that is the number modulo 2^32.
 pub(crate) fn wrapped(number: i64) -> u32
-    ensures { result ≡ wrapped number }
+    ensures { result ≡ word_modulo number }
 {
     number.rem_euclid(WORDS).unsigned_abs() as u32
 }

@@ -2,7 +2,7 @@
 
 ghost use Rattle.std.specs.Prelude.{◌≡◌, IfOk};
 ghost use Rattle.std.specs.FinMap as map;
-ghost use Rattle.asm_words.specs.Emission.{branch, emission_of, fence, immediate, jump, jump_register, load, load_address, shift, store, upper, word, zeros};
+ghost use Rattle.asm_words.specs.Emission.{branch, computation_emission, directive_emission, emission_of, fence, immediate, jump, jump_register, load, load_address, shift, store, upper, word, zeros};
 ghost use Rattle.asm_words.specs.EmissionLaws.{Fits};
 
 use crate::emissions::{Emission, one};
@@ -178,19 +178,20 @@ fn fence() -> Emission
     one(Instr::Fence { word })
 }
 
-/// The words of the statement at the address `place`, where names stand for their places.
-///
-/// A name that has no place is `NoName`, and then a number that is outside the range of its field `Range`: 12-bit immediates
-/// -2048 to 2047, amounts of shifts 0 to 31, upper parts 0 to 1048575, offsets of branches even from -4096 to 4094 and of jumps
-/// even from -1048576 to 1048574, where an offset is the target minus the place, modulo 2^32, as a signed number; `.zero` isn't
-/// negative. The numbers of `li`, `la` and `.word` are taken modulo 2^32. What other directives say isn't asked here.
-#[tactic(auto, unfolding(crate::specs::Emission::emission_of))]
-pub fn emission_of<'a>(
-    names: &Names<'a>,
-    place: u32,
-    statement: &Statement<'a>,
-) -> Result<Emission, AsmErrorKind>
-    ensures value { result ≡ emission_of (map.get names.now) place statement.now }
+/// The words of `.zero`. The other directives emit nothing.
+fn directive_emission(statement: &Statement<'_>) -> Result<Emission, AsmErrorKind>
+    ensures value { result ≡ directive_emission statement.now }
+    ensures fits { IfOk result Fits }
+{
+    match statement {
+        Statement::Zeros(number) => zeros(*number),
+        _ => Ok(Emission::Nothing),
+    }
+}
+
+/// The words of an instruction of registers and numbers alone. The rest is directives.
+fn computation_emission(statement: &Statement<'_>) -> Result<Emission, AsmErrorKind>
+    ensures value { result ≡ computation_emission statement.now }
     ensures fits { IfOk result Fits }
 {
     match statement {
@@ -217,6 +218,30 @@ pub fn emission_of<'a>(
             rd,
             number,
         } => upper(*operation, *rd, *number),
+        Statement::Fence => Ok(fence()),
+        Statement::Ecall => Ok(one(Instr::Ecall)),
+        Statement::Ebreak => Ok(one(Instr::Ebreak)),
+        Statement::LoadNumber { rd, number } => Ok(load_number(*rd, *number)),
+        _ => directive_emission(statement),
+    }
+}
+
+/// The words of the statement at the address `place`, where names stand for their places.
+///
+/// A name that has no place is `NoName`, and then a number that is outside the range of its field `Range`: 12-bit immediates
+/// -2048 to 2047, amounts of shifts 0 to 31, upper parts 0 to 1048575, offsets of branches even from -4096 to 4094 and of jumps
+/// even from -1048576 to 1048574, where an offset is the target minus the place, modulo 2^32, as a signed number; `.zero` isn't
+/// negative. The numbers of `li`, `la` and `.word` are taken modulo 2^32. What other directives say isn't asked here.
+#[tactic(auto, unfolding(crate::specs::Emission::emission_of))]
+pub fn emission_of<'a>(
+    names: &Names<'a>,
+    place: u32,
+    statement: &Statement<'a>,
+) -> Result<Emission, AsmErrorKind>
+    ensures value { result ≡ emission_of (map.get names.now) place statement.now }
+    ensures fits { IfOk result Fits }
+{
+    match statement {
         Statement::Load {
             operation,
             rd,
@@ -237,22 +262,8 @@ pub fn emission_of<'a>(
         } => branch(names, place, *operation, *rs1, *rs2, target),
         Statement::Jump { rd, target } => jump(names, place, *rd, target),
         Statement::JumpRegister { rd, rs1, offset } => jump_register(*rd, *rs1, *offset),
-        Statement::Fence => Ok(fence()),
-        Statement::Ecall => Ok(one(Instr::Ecall)),
-        Statement::Ebreak => Ok(one(Instr::Ebreak)),
-        Statement::LoadNumber { rd, number } => Ok(load_number(*rd, *number)),
         Statement::LoadAddress { rd, target } => load_address(names, *rd, target),
         Statement::Word(target) => word(names, target),
-        Statement::Zeros(number) => zeros(*number),
-        Statement::Harts(_)
-        | Statement::Ram(_)
-        | Statement::Heap { .. }
-        | Statement::Entry { .. }
-        | Statement::Origin(_)
-        | Statement::Text
-        | Statement::Data
-        | Statement::Label(_)
-        | Statement::Edge { .. }
-        | Statement::Compartment { .. } => Ok(Emission::Nothing),
+        _ => computation_emission(statement),
     }
 }

@@ -3,7 +3,7 @@ use Rattle.std.proofs.Common.{◌≡◌, ℕ, ◌==◌, ◌<◌, Bool, true, fal
 use Rattle.std.specs.List.{list_all}
 use Rattle.std.proofs.lemmas.Bool.Decides.{nat_tests}
 use Rattle.std.proofs.lemmas.List.{append-nil}
-use Rattle.policy_product.specs.Both.{joined}
+use Rattle.policy_product.specs.Both.{joint_text}
 
 -- no byte of the text is a bar
 abbrev pub is_bare : List ℕ → Bool
@@ -55,11 +55,11 @@ not_empty : (c : ℕ) (text : List ℕ) → (length (c ∷ text) == 0) ≡ false
 not_empty c text = grind (arith, nat_tests)
 
 -- the second text, or none, behind a first that is not empty
-joined_is : (x y : List ℕ) → 0 < length x → joined x y ≡ x ++ behind y
+joined_is : (x y : List ℕ) → 0 < length x → joint_text x y ≡ x ++ behind y
 joined_is [] y some = absurd (omega (arith, some))
 joined_is (c ∷ x) [] some = rw (not_empty c x) (sym (append-nil (c ∷ x)))
 joined_is (c ∷ x) (d ∷ y) some = rw (not_empty c x, not_empty d y) (append_assoc (c ∷ x) (124 ∷ []) (d ∷ y))
 
 -- joined texts that are the same have the same first piece and the same rest
-pub first_told : (x u y v : List ℕ) → IsPiece x → IsPiece u → joined x y ≡ joined u v → (x ≡ u) × (y ≡ v)
+pub first_told : (x u y v : List ℕ) → IsPiece x → IsPiece u → joint_text x y ≡ joint_text u v → (x ≡ u) × (y ≡ v)
 first_told x u y v x_is u_is e = cut x u y v x_is.bare u_is.bare (sym (joined_is x y x_is.some) ∙ e ∙ joined_is u v u_is.some)

@@ -18,9 +18,9 @@ use Rattle.flow_policy.proofs.TextLemmas.{texts_tell as flow_texts_tell}
 use Rattle.heap_policy.specs.Heap.{heap}
 use Rattle.heap_policy.specs.TextLaws.{HasSmallBlocks}
 use Rattle.heap_policy.proofs.TextLemmas.{texts_tell as heap_texts_tell}
-use Rattle.policy_product.specs.Both.{joined}
+use Rattle.policy_product.specs.Both.{joint_text}
 use Rattle.policy_product.specs.Maybe.{text_in}
-use Rattle.policy_choice.specs.All.{AllState, AllTag, all, chosen, part_if}
+use Rattle.policy_choice.specs.All.{AllState, AllTag, all, choice_state, part_if}
 use Rattle.policy_choice.specs.declared.choice.Choice.{Choice}
 use Rattle.choice_texts.specs.Texts.{HasSmallKey, IsComponentOf, IsOnIf, IsStateOf, IsTagOf}
 use Rattle.choice_texts.proofs.BarLemmas.{IsPiece, first_told}
@@ -49,7 +49,7 @@ record IsTold {T S : Type 0} (m : PolicyModel T S) (HasSmallNumbers : T → Type
 -- with the same text, two tags have the same component of this part, and the same text of the parts behind it
 part_told : {T S : Type 0} (m : PolicyModel T S) (HasSmallNumbers : T → Type 0) (chosen : Bool) (state : Option S) (x y : Option T) (rest others : List ℕ)
     → IsTold m HasSmallNumbers → is_some state ≡ chosen → IsComponentOf HasSmallNumbers chosen x → IsComponentOf HasSmallNumbers chosen y
-    → joined (text_in m state x) rest ≡ joined (text_in m state y) others → (x ≡ y) × (rest ≡ others)
+    → joint_text (text_in m state x) rest ≡ joint_text (text_in m state y) others → (x ≡ y) × (rest ≡ others)
 part_told m fits chosen None None None rest others told on x_is y_is e = (refl, e)
 part_told m fits chosen (Some s) (Some x) (Some y) rest others told on x_is y_is e =
     let x_fits = x_is.small x refl in
@@ -82,7 +82,7 @@ texts_tell choice state x y on x_is y_is e =
     let first = part_told sealing HasSmallKey choice.seal state.0.part x.0 y.0 _ _ seal_told on.seal x_is.seal y_is.seal e in
     let second = part_told compartments IsOfWords choice.comp state.1.0.part x.1.0 y.1.0 _ _ comp_told on.comp x_is.comp y_is.comp first.1 in
     let third = part_told flow HasSmallLabels choice.flow state.1.1.0.part x.1.1.0 y.1.1.0 _ _ flow_told on.flow x_is.flow y_is.flow second.1 in
-    let last = part_told heap HasSmallBlocks choice.heap state.1.1.1.part x.1.1.1 y.1.1.1 [] [] heap_told on.heap x_is.heap y_is.heap (ap (λ text. joined text []) third.1) in
+    let last = part_told heap HasSmallBlocks choice.heap state.1.1.1.part x.1.1.1 y.1.1.1 [] [] heap_told on.heap x_is.heap y_is.heap (ap (λ text. joint_text text []) third.1) in
     same_pair x y first.0 (same_pair x.1 y.1 second.0 (same_pair x.1.1 y.1.1 third.0 last.0))
 
 -- ---- the start
@@ -91,7 +91,7 @@ on_if : {S : Type 0} (chosen : Bool) (s : S) → IsOnIf chosen (part_if chosen s
 on_if true s = refl
 on_if false s = refl
 
-pub starts_so : (choice : Choice) (g : Picture) → IsStateOf choice (chosen choice g)
+pub starts_so : (choice : Choice) (g : Picture) → IsStateOf choice (choice_state choice g)
 starts_so choice g = record {
   seal = on_if choice.seal _;
   comp = on_if choice.comp _;

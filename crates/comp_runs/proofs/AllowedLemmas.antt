@@ -7,19 +7,19 @@ use Rattle.policy_trait.specs.declared.rules.Outs.{Outs}
 use Rattle.tag_memory.specs.Hart.{HartState}
 use Rattle.tag_memory.specs.Ram.{RamState}
 use Rattle.turn_steps.specs.declared.look.Look.{Look}
-use Rattle.engine_trait.specs.Events.{Event, retired, Touch, touch_of}
+use Rattle.engine_trait.specs.Events.{Event, is_retirement, Touch, touch_of}
 use Rattle.engine_trait.specs.Machine.{CoreState, Machine, hart_at, is_ready_in, with_hart}
 use Rattle.compartment_policy.specs.Compartments.{compartments, is_jump as is_jumping, may_write}
 use Rattle.compartment_policy.specs.declared.tag.CompartmentTag.{CompartmentTag}
 use Rattle.compartment_policy.specs.declared.tag.CompartmentTag.TheVariants.{Pc}
 use Rattle.part_turns.specs.Moments.{is_jalr}
 use Rattle.part_turns.specs.Turns.{Allows, is_jal_group}
-use Rattle.part_turns.proofs.Places.{hart_other, hart_same, ready_same, there}
+use Rattle.part_turns.proofs.PlaceLemmas.{hart_other, hart_same, ready_same, there}
 use Rattle.comp_runs.specs.CompLine.{Last, Standing, place_of, stands_after}
 use Rattle.comp_runs.specs.CompSafe.{MayFollow, WritesByRight, is_jump, owner_at, is_permitted}
 use Rattle.comp_runs.specs.OwnerBook.{Owned}
 use Rattle.comp_runs.proofs.RuleLemmas.{Obeys, obeys, same_jump}
-use Rattle.comp_runs.proofs.Standings.{is_own, last_other, last_own}
+use Rattle.comp_runs.proofs.StandingLemmas.{is_own, last_other, last_own}
 use Rattle.comp_runs.proofs.LineLemmas.{Promises, Stands}
 
 module _ (old : Standing) (s : Machine ℕ CompartmentTag) (line : Stands old s) (h : ℕ) (look : Look CompartmentTag)
@@ -52,7 +52,7 @@ module _ (old : Standing) (s : Machine ℕ CompartmentTag) (line : Stands old s)
 
   pub last_elsewhere : (n : ℕ) → n ≢ h → (stands_after old e).last n ≡ old.last n
   last_elsewhere n differs =
-      last_other old e n (ap (λ own. retired e && own) (ne_eqb e.hart n (λ same. differs (sym same ∙ allows.hart))) ∙ and-false (retired e))
+      last_other old e n (ap (λ own. is_retirement e && own) (ne_eqb e.hart n (λ same. differs (sym same ∙ allows.hart))) ∙ and-false (is_retirement e))
 
   -- the pc of each ready hart, where this one goes on
   module _ (hart : HartState CompartmentTag) (ram : RamState CompartmentTag) (pc : hart.pc_tag ≡ outs.pc) (plain : ram.plain ≡ s.core.ram.plain) where

@@ -12,7 +12,7 @@ use Rattle.compartment_policy.specs.Compartments.{compartments, may_write}
 use Rattle.compartment_policy.specs.declared.tag.CompartmentTag.{CompartmentTag}
 use Rattle.part_turns.specs.Moments.{service_of}
 use Rattle.part_turns.specs.Turns.{Allows, Does, after_step}
-use Rattle.part_turns.proofs.Places.{nth_tag}
+use Rattle.part_turns.proofs.PlaceLemmas.{nth_tag}
 use Rattle.comp_runs.specs.CompLine.{Standing, stands_after}
 use Rattle.comp_runs.specs.CompSafe.{WritesByRight}
 use Rattle.comp_runs.specs.OwnerBook.{OwnerBook}

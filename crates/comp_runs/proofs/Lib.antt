@@ -6,7 +6,7 @@ pub mod RuleLemmas
 pub mod SafeLemmas
 pub mod ServeLemmas
 pub mod ServiceLemmas
-pub mod Standings
+pub mod StandingLemmas
 pub mod StartLemmas
 pub mod StopLemmas
 pub mod TurnLemmas

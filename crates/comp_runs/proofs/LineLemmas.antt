@@ -1,18 +1,18 @@
 -- The line and the promise by what stands, and a turn that doesn't retire.
 use Rattle.std.proofs.Common.{◌≡◌, ℕ, ◌/◌, ◌<◌, true, false, List, [], ◌∷◌, ◌++◌, length, None, sym, ap, ◌∙◌, subst, if◌then◌else◌}
 use Rattle.policy_trait.specs.declared.birth.Birth.{Birth}
-use Rattle.engine_trait.specs.Events.{Event, retired}
+use Rattle.engine_trait.specs.Events.{Event, is_retirement}
 use Rattle.engine_trait.specs.Machine.{Machine, hart_at, is_ready_in}
 use Rattle.compartment_policy.specs.declared.tag.CompartmentTag.{CompartmentTag}
 use Rattle.compartment_policy.specs.declared.tag.CompartmentTag.TheVariants.{Pc}
 use Rattle.part_turns.specs.Moments.{service_of}
-use Rattle.part_turns.proofs.Places.{nth_tag}
+use Rattle.part_turns.proofs.PlaceLemmas.{nth_tag}
 use Rattle.comp_runs.specs.CompLine.{CompLine, Standing, last_after, standing_of, stands_after}
 use Rattle.comp_runs.specs.CompSafe.{MayFollow, WritesByRight}
 use Rattle.comp_runs.specs.CompTurn.{CompTurn}
 use Rattle.comp_runs.specs.OwnerBook.{OwnerBook, owners_by}
 use Rattle.comp_runs.proofs.ServiceLemmas.{IsKnown}
-use Rattle.comp_runs.proofs.Standings.{owners_are, stands_next}
+use Rattle.comp_runs.proofs.StandingLemmas.{owners_are, stands_next}
 
 -- ---- the line, and what a turn does, by what stands
 
@@ -21,8 +21,8 @@ pub record Stands (standing : Standing) (s : Machine ℕ CompartmentTag) : Type 
   pub pcs : (h : ℕ) → is_ready_in s.core h ≡ true → (hart_at s.core h).pc_tag ≡ Pc (standing.last h).owner (standing.last h).jumped
 
 pub record Promises (standing : Standing) (e : Event CompartmentTag) : Type 0 where
-  pub writes : retired e ≡ true → WritesByRight standing.owners e
-  pub follows : retired e ≡ true → MayFollow (standing.last e.hart).owner (standing.last e.hart).jumped (standing.owners (e.pc / 4))
+  pub writes : is_retirement e ≡ true → WritesByRight standing.owners e
+  pub follows : is_retirement e ≡ true → MayFollow (standing.last e.hart).owner (standing.last e.hart).jumped (standing.owners (e.pc / 4))
 
 module _ (birth : ℕ → Birth) (entries : List ℕ) where
   pub line_stands : (events : List (Event CompartmentTag)) (s : Machine ℕ CompartmentTag) → CompLine birth entries events s
@@ -47,12 +47,12 @@ module _ (birth : ℕ → Birth) (entries : List ℕ) where
 
 -- ---- a turn that doesn't retire
 
-promises_nothing : (standing : Standing) (e : Event CompartmentTag) → retired e ≡ false → Promises standing e
+promises_nothing : (standing : Standing) (e : Event CompartmentTag) → is_retirement e ≡ false → Promises standing e
 promises_nothing standing e unretired = record { writes = λ is. absurd cc; follows = λ is. absurd cc }
 
-stands_still : (standing : Standing) (e : Event CompartmentTag) → retired e ≡ false → service_of e ≡ None → stands_after standing e ≡ standing
+stands_still : (standing : Standing) (e : Event CompartmentTag) → is_retirement e ≡ false → service_of e ≡ None → stands_after standing e ≡ standing
 stands_still standing e unretired none =
-    ap (λ service. record { owners = owners_by standing.owners service; last = if retired e then last_after standing e else standing.last }) none
+    ap (λ service. record { owners = owners_by standing.owners service; last = if is_retirement e then last_after standing e else standing.last }) none
     ∙ ap (λ retires. record { owners = standing.owners; last = if retires then last_after standing e else standing.last }) unretired
 
 -- ---- any turn
@@ -67,7 +67,7 @@ module _ (old : Standing) (e : Event CompartmentTag) where
   pub same_owners : service_of e ≡ None → (stands_after old e).owners ≡ old.owners
   same_owners none = ap (owners_by old.owners) none
 
-  pub not_retired : (t : Machine ℕ CompartmentTag) → retired e ≡ false → service_of e ≡ None → Stands old t → IsKept old e t
+  pub not_retired : (t : Machine ℕ CompartmentTag) → is_retirement e ≡ false → service_of e ≡ None → Stands old t → IsKept old e t
   not_retired t unretired none stands = record {
     promises = promises_nothing old e unretired;
     stands = subst (λ standing. Stands standing t) (sym (stands_still old e unretired none)) stands;

@@ -8,7 +8,7 @@ use Rattle.policy_trait.specs.declared.rules.Ins.{Ins}
 use Rattle.policy_trait.specs.declared.rules.Outs.{Outs}
 use Rattle.policy_trait.specs.declared.rules.Refused.{Refused}
 use Rattle.policy_trait.specs.declared.rules.Why.TheVariants as why
-use Rattle.compartment_policy.specs.Compartments.{compartment_rule, entered, is_store, may_write, refused_for, run_by}
+use Rattle.compartment_policy.specs.Compartments.{compartment_rule, entry_owner, is_store, may_write, refused_for, run_by}
 use Rattle.compartment_policy.specs.Compartments.{is_jump as is_jumping}
 use Rattle.compartment_policy.specs.declared.tag.CompartmentTag.{CompartmentTag}
 use Rattle.compartment_policy.specs.declared.tag.CompartmentTag.TheVariants.{Pc, Plain}
@@ -78,4 +78,4 @@ module _ (from : ℕ) (jumped : Bool) (owned : Owned) (g : Group) (x : Ins Compa
   pub obeys : x.pc ≡ Pc from jumped → x.ci ≡ place_of owned → compartment_rule g x ≡ Ok outs → Obeys from jumped owned g x.tm outs
   obeys pc ci e =
       by_entry ((from == owned.owner) || (jumped && has owned.into from)) refl
-      (ap (λ tag. run_by (entered tag (place_of owned)) g x) (sym pc) ∙ ap (λ tag. run_by (entered x.pc tag) g x) (sym ci) ∙ e)
+      (ap (λ tag. run_by (entry_owner tag (place_of owned)) g x) (sym pc) ∙ ap (λ tag. run_by (entry_owner x.pc tag) g x) (sym ci) ∙ e)

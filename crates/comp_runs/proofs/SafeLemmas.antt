@@ -8,7 +8,7 @@ use Rattle.comp_runs.specs.CompLine.{Last, first_standing}
 use Rattle.comp_runs.specs.CompSafe.{CompSafe, MayFollow}
 use Rattle.comp_runs.specs.CompTurn.{CompTurn, last_of}
 use Rattle.comp_runs.specs.OwnerBook.{Owned, owner_book}
-use Rattle.comp_runs.proofs.Standings.{is_own, last_at, last_at_first, last_since}
+use Rattle.comp_runs.proofs.StandingLemmas.{is_own, last_at, last_at_first, last_since}
 
 -- a word that is obeyed without a jump has the same owner
 no_jump : (from : ℕ) (owned : Owned) → MayFollow from false owned → owned.owner ≡ from
@@ -49,8 +49,8 @@ module _ (birth : ℕ → Birth) (entries : List ℕ) (events : List (Event Comp
       (last_at_first birth entries x.moment.before x.moment.event.hart x.none_before)
       ((each x.moment).follows x.is_retired)
 
-  pub comp_safe : CompSafe birth entries events
-  comp_safe = record {
+  pub comp_law : CompSafe birth entries events
+  comp_law = record {
     writes = λ x. (each x).writes;
     follows = second_follows;
     enters = λ x.

@@ -4,7 +4,7 @@ use Rattle.std.proofs.lemmas.Bool.Decides.{nat_tests}
 use Rattle.std.specs.Option.{ForSome}
 use Rattle.rv_step.specs.declared.accesses.Access.TheVariants as access
 use Rattle.policy_trait.specs.declared.rules.Outs.{Outs}
-use Rattle.policy_trait.specs.Laws.{IsRange}
+use Rattle.policy_trait.specs.PolicyLaws.{IsRange}
 use Rattle.policy_trait.specs.declared.services.Args.{Args}
 use Rattle.policy_trait.specs.declared.services.Plan.{Plan}
 use Rattle.policy_trait.specs.declared.services.Words.{Words}
@@ -20,10 +20,10 @@ use Rattle.engine_trait.specs.Machine.{IsMachine, Machine, hart_at}
 use Rattle.engine_trait.specs.Turn.{core_served}
 use Rattle.compartment_policy.specs.Compartments.{compartments, is_writer}
 use Rattle.compartment_policy.specs.declared.tag.CompartmentTag.{CompartmentTag}
-use Rattle.policy_parts.specs.Part.{Planned, beside_others, committed}
+use Rattle.policy_parts.specs.Part.{Planned, beside_others, value_after}
 use Rattle.part_turns.specs.Moments.{service_of, Service}
 use Rattle.part_turns.specs.Turns.{Allows, after_service}
-use Rattle.part_turns.proofs.Places.{nth_tag, IsServed, each_served, kept, words_plain, written}
+use Rattle.part_turns.proofs.PlaceLemmas.{nth_tag, IsServed, each_served, kept, words_plain, written}
 use Rattle.comp_runs.specs.CompLine.{Standing, place_of}
 use Rattle.comp_runs.specs.CompSafe.{WritesByRight, owner_at, is_permitted}
 use Rattle.comp_runs.specs.OwnerBook.{owners_by, covers, is_covered, owned_after}
@@ -64,11 +64,11 @@ module _ (old : Standing) (s : Machine ℕ CompartmentTag) (line : Stands old s)
   module _ (planned : Planned compartments s.policy look.service arguments outs.pc p) (new : RamState CompartmentTag) (n : ℕ)
       (within : n < length s.core.ram.words) where
     abbrev KnownWhere : Bool → Type 0
-    KnownWhere has = IsKnown (committed compartments s.policy p) (nth_tag new n) (if has then owned_after service (old.owners n) else old.owners n)
+    KnownWhere has = IsKnown (value_after compartments s.policy p) (nth_tag new n) (if has then owned_after service (old.owners n) else old.owners n)
 
     -- what the book says of a word, whether the range has it or not
     word_known : IsServed compartments s.policy p s.core.ram new n
-        → IsKnown (committed compartments s.policy p) (nth_tag new n) (owners_by old.owners (Some service) n)
+        → IsKnown (value_after compartments s.policy p) (nth_tag new n) (owners_by old.owners (Some service) n)
     word_known (written range range_is low high tag word) =
         subst KnownWhere (sym (covered_within range p.range n range_is low high))
         (known_within s.policy look.service arguments outs.pc p (nth_tag s.core.ram n) (nth_tag new n) tag (old.owners n) planned (line.words n within))
@@ -121,7 +121,7 @@ module _ (old : Standing) (s : Machine ℕ CompartmentTag) (line : Stands old s)
       promises = promised old s line h look outs e allows service_writes;
       stands = record {
         words = λ n within.
-            subst (λ service. IsKnown (committed compartments s.policy p) (nth_tag ram_after n) (owners_by old.owners service n)) (sym called)
+            subst (λ service. IsKnown (value_after compartments s.policy p) (nth_tag ram_after n) (owners_by old.owners service n)) (sym called)
             (word_known planned ram_after n (subst (λ count. n < count) same_count within) (word_served n));
         pcs = pcs_after old s line h look outs e allows (moved_to (with_answer (hart_at s.core h) p.answer) look.effect.next outs.pc) ram_after refl
             (words_plain s.core.ram words);

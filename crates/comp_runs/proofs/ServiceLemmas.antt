@@ -10,11 +10,11 @@ use Rattle.policy_trait.specs.declared.services.Args.{Args}
 use Rattle.policy_trait.specs.declared.services.Plan.{Plan}
 use Rattle.policy_trait.specs.declared.services.PlanEnd.{PlanEnd}
 use Rattle.policy_trait.specs.declared.services.PlanEnd.TheVariants as plan_end
-use Rattle.compartment_policy.specs.Compartments.{compartment_knows, compartment_limit, compartment_plan, compartments, given_by, is_range, is_writer, let_plan, letting, refused_for, refused_plan, retagged, split_plan, splitting, words_of}
+use Rattle.compartment_policy.specs.Compartments.{compartment_knows, compartment_limit, compartment_plan, compartments, given_by, is_range, is_writer, let_plan, letting, refused_for, refused_plan, new_place, split_plan, splitting, words_of}
 use Rattle.compartment_policy.specs.declared.tag.CompartmentTag.{CompartmentTag}
 use Rattle.compartment_policy.specs.declared.tag.CompartmentTag.TheVariants.{Pc, Place, Plain}
 use Rattle.policy_product.specs.Both.{tag_beside}
-use Rattle.policy_parts.specs.Part.{Planned, committed, others, own, word_tag}
+use Rattle.policy_parts.specs.Part.{Planned, value_after, others, own, word_tag}
 use Rattle.part_turns.specs.Moments.{Service}
 use Rattle.comp_runs.specs.CompLine.{place_of}
 use Rattle.comp_runs.specs.OwnerBook.{Owned, owned_after, split_off}
@@ -77,7 +77,7 @@ allowed_tag : (test : Bool) (reason : Why) (tag new : CompartmentTag) → (if te
 allowed_tag true reason tag new e = record { allows = refl; same = sym (same_tag tag new e) }
 allowed_tag false reason tag new e = absurd cc
 
-given_tag : (number other : ℕ) (pc : CompartmentTag) (owned : Owned) (new : CompartmentTag) → retagged number other pc (place_of owned) ≡ Ok new
+given_tag : (number other : ℕ) (pc : CompartmentTag) (owned : Owned) (new : CompartmentTag) → new_place number other pc (place_of owned) ≡ Ok new
     → new ≡ given_by number other owned.owner owned.into owned.write
 given_tag number other (Pc caller jumped) owned new e =
     (allowed_tag (caller == owned.owner) why.NotOwner (given_by number other owned.owner owned.into owned.write) new e).same
@@ -114,7 +114,7 @@ module _ (count number : ℕ) (a : Args CompartmentTag) (pc : CompartmentTag) (o
   counted service = if service == 32 then count + 1 else count
 
   abbrev Known : Plan CompartmentTag → Type 0
-  Known p = retagged p.service p.note p.pc (place_of owned) ≡ Ok new → IsKnown (counted p.service) new (owned_after (service_of_plan number a p) owned)
+  Known p = new_place p.service p.note p.pc (place_of owned) ≡ Ok new → IsKnown (counted p.service) new (owned_after (service_of_plan number a p) owned)
 
   own_known : (p : Plan CompartmentTag) → compartment_knows number ≡ true → owned.owner < count → IsOwn count number a pc p → Known p
   own_known p knows few (splits is same) =
@@ -154,7 +154,7 @@ not_less false split count owner few = few
 
 module _ (count number : ℕ) (a : Args CompartmentTag) (pc : CompartmentTag) (p : Plan CompartmentTag) where
   -- a word that no service's range has
-  pub known_outside : (tag : CompartmentTag) (owned : Owned) → IsKnown count tag owned → IsKnown (committed compartments count p) tag owned
+  pub known_outside : (tag : CompartmentTag) (owned : Owned) → IsKnown count tag owned → IsKnown (value_after compartments count p) tag owned
   known_outside tag owned known = record {
     tag_is = known.tag_is;
     few = not_less (compartment_knows p.service) (p.service == 32) count owned.owner known.few;
@@ -163,9 +163,9 @@ module _ (count number : ℕ) (a : Args CompartmentTag) (pc : CompartmentTag) (p
   module _ (tag new : CompartmentTag) (given : word_tag compartments count p tag ≡ Ok new) where
     -- the policy's own rule for the word, or another's service
     given_if : (knows : Bool) → compartment_knows number ≡ knows → p.service ≡ number
-        → (if knows then retagged p.service p.note p.pc tag else tag_beside compartments count p.zero p.pc tag) ≡ Ok new
+        → (if knows then new_place p.service p.note p.pc tag else tag_beside compartments count p.zero p.pc tag) ≡ Ok new
     given_if knows is service =
-        subst (λ test. (if test then retagged p.service p.note p.pc tag else tag_beside compartments count p.zero p.pc tag) ≡ Ok new)
+        subst (λ test. (if test then new_place p.service p.note p.pc tag else tag_beside compartments count p.zero p.pc tag) ≡ Ok new)
         (ap compartment_knows service ∙ is) given
 
     abbrev KnownWhere : Owned → Bool → Type 0
@@ -174,11 +174,11 @@ module _ (count number : ℕ) (a : Args CompartmentTag) (pc : CompartmentTag) (p
 
     -- a word of the range
     pub known_within : (owned : Owned) → Planned compartments count number a pc p → IsKnown count tag owned
-        → IsKnown (committed compartments count p) new (owned_after (service_of_plan number a p) owned)
+        → IsKnown (value_after compartments count p) new (owned_after (service_of_plan number a p) owned)
     known_within owned (own knows service planned) known =
         subst (KnownWhere owned) (sym (ap compartment_knows service ∙ knows))
         (own_known count number a pc owned new p knows known.few (own_plan count number a pc p planned)
-        (ap (retagged p.service p.note p.pc) (sym known.tag_is) ∙ given_if true knows service))
+        (ap (new_place p.service p.note p.pc) (sym known.tag_is) ∙ given_if true knows service))
     known_within owned (others unknown service from_pc answers) known =
         subst (KnownWhere owned) (sym (ap compartment_knows service ∙ unknown))
         (subst (IsKnown count new) (sym (unchanged (number == 32) (number == 33) (number == 34) a.a2 p.answer owned unknown))

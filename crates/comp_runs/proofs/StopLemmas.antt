@@ -15,7 +15,7 @@ use Rattle.compartment_policy.specs.declared.tag.CompartmentTag.{CompartmentTag}
 use Rattle.compartment_policy.specs.declared.tag.CompartmentTag.TheVariants.{Pc}
 use Rattle.part_turns.specs.Moments.{service_of}
 use Rattle.part_turns.specs.Turns.{Allows}
-use Rattle.part_turns.proofs.Places.{nth_tag, there, ready_after}
+use Rattle.part_turns.proofs.PlaceLemmas.{nth_tag, there, ready_after}
 use Rattle.comp_runs.specs.CompLine.{Last, Standing, stands_after}
 use Rattle.comp_runs.specs.OwnerBook.{OwnerBook}
 use Rattle.comp_runs.proofs.ServiceLemmas.{IsKnown}

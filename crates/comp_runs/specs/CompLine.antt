@@ -2,7 +2,7 @@
 use Rattle.std.specs.Prelude.{◌≡◌, ℕ, ◌<◌, ◌==◌, Bool, true, false, List, length, slice_index, slice_index_or, if◌then◌else◌}
 use Rattle.std.specs.List.{fold}
 use Rattle.policy_trait.specs.declared.birth.Birth.{Birth}
-use Rattle.engine_trait.specs.Events.{Event, retired}
+use Rattle.engine_trait.specs.Events.{Event, is_retirement}
 use Rattle.engine_trait.specs.Machine.{Machine, hart_at, is_ready_in}
 use Rattle.compartment_policy.specs.declared.tag.CompartmentTag.{CompartmentTag}
 use Rattle.compartment_policy.specs.declared.tag.CompartmentTag.TheVariants.{Pc, Place}
@@ -29,7 +29,7 @@ module _ {T : Type 0} where
       if h == event.hart then record { owner = owner_at old.owners event; jumped = is_jump event.word } else old.last h
 
   abbrev pub stands_after : Standing → Event T → Standing
-  stands_after old event = record { owners = owners_after old.owners event; last = if retired event then last_after old event else old.last }
+  stands_after old event = record { owners = owners_after old.owners event; last = if is_retirement event then last_after old event else old.last }
 
 module _ (birth : ℕ → Birth) (entries : List ℕ) where
   -- before its first turn a hart comes from the owner of its entry

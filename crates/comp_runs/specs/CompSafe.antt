@@ -4,7 +4,7 @@ use Rattle.std.specs.Prelude.{◌≡◌, ◌⊎◌, ℕ, ◌/◌, ◌==◌, Bool
 use Rattle.policy_trait.specs.Sets.{has}
 use Rattle.policy_trait.specs.declared.birth.Birth.{Birth}
 use Rattle.policy_trait.specs.declared.services.Words.{Words}
-use Rattle.engine_trait.specs.Events.{Event, Touch, retired}
+use Rattle.engine_trait.specs.Events.{Event, Touch, is_retirement}
 use Rattle.part_turns.specs.Moments.{First, Moment, Service, Successive, is_jal, is_jalr, service_of}
 use Rattle.comp_runs.specs.OwnerBook.{Owned, OwnerBook, covers, owner_book}
 
@@ -33,7 +33,7 @@ pub record WritesByRight {T : Type 0} (book : OwnerBook) (event : Event T) : Typ
 -- what an image says of the word at an address, and where each hart starts
 module _ {T : Type 0} (birth : ℕ → Birth) (entries : List ℕ) where
   pub record CompSafe (events : List (Event T)) : Type 0 where
-    pub writes : (x : Moment events) → retired x.event ≡ true → WritesByRight (owner_book birth x.before) x.event
+    pub writes : (x : Moment events) → is_retirement x.event ≡ true → WritesByRight (owner_book birth x.before) x.event
     -- between two successive retired turns of a hart, other harts may have changed who owns what
     pub follows : (x : Successive events)
         → MayFollow (owner_at (owner_book birth x.before) x.first) (is_jump x.first.word) (owner_book birth (x.before ++ x.first ∷ x.between) (x.second.pc / 4))

@@ -3,8 +3,8 @@ use Rattle.std.proofs.Common.{◌≡◌, ℕ, ◌+◌, ◌<◌, ◌≤◌, ◌==
 use Rattle.std.proofs.lemmas.Bool.Decides.{nat_tests}
 use Rattle.rv_decode.specs.declared.groups.Group.{Group}
 use Rattle.rv_decode.specs.declared.groups.Group.TheVariants as group
-use Rattle.policy_trait.specs.Laws.{IsRange, KeepsLaws}
-use Rattle.policy_trait.specs.Model.{IsGiven, masked}
+use Rattle.policy_trait.specs.PolicyLaws.{IsRange, KeepsLaws}
+use Rattle.policy_trait.specs.Model.{IsGiven, masked_inputs}
 use Rattle.policy_trait.specs.declared.rules.Ins.{Ins}
 use Rattle.policy_trait.specs.declared.rules.Why.TheVariants as why
 use Rattle.policy_trait.specs.declared.services.Answer.{Answer}
@@ -15,12 +15,12 @@ use Rattle.policy_trait.specs.declared.services.PlanEnd.TheVariants as plan_end
 use Rattle.policy_trait.specs.declared.services.Rest.TheVariants as rest
 use Rattle.policy_trait.specs.declared.services.Rest.TheVariants.{AsA0}
 use Rattle.policy_trait.specs.declared.services.Words.{Words}
-use Rattle.compartment_policy.specs.Compartments.{IsCount, compartment_ignores, compartment_limit, compartment_plan, compartments, entered, is_range, let_plan, letting, refused_plan, run_by, split_plan, splitting, words_of}
+use Rattle.compartment_policy.specs.Compartments.{IsCount, compartment_ignores, compartment_limit, compartment_plan, compartments, entry_owner, is_range, let_plan, letting, refused_plan, run_by, split_plan, splitting, words_of}
 use Rattle.compartment_policy.specs.declared.tag.CompartmentTag.{CompartmentTag}
 use Rattle.compartment_policy.specs.declared.tag.CompartmentTag.TheVariants.{Plain}
 
 -- an instruction whose owner is known, or that is refused, uses the memory word for a store alone
-run_masked : (owner : Option ℕ) (g : Group) (x : Ins CompartmentTag) → run_by owner g x ≡ run_by owner g (masked (compartment_ignores g) Plain x)
+run_masked : (owner : Option ℕ) (g : Group) (x : Ins CompartmentTag) → run_by owner g x ≡ run_by owner g (masked_inputs (compartment_ignores g) Plain x)
 run_masked None = λ g x. refl
 run_masked (Some owner) = elim [
   | group.Const ↦ λ x. refl
@@ -145,7 +145,7 @@ uses_by false = omega arith
 
 pub compartment_laws : KeepsLaws compartments IsCount
 compartment_laws = record {
-  masks = λ count g x. run_masked (entered x.pc x.ci) g x;
+  masks = λ count g x. run_masked (entry_owner x.pc x.ci) g x;
   keeps = λ count p given. record {
     plain = refl;
     rule = λ g x. refl;

@@ -38,12 +38,12 @@ refused_for reason = record { part = Comp; why = reason }
 
 -- the owner of the instruction's word, where the pc may go there: from a word of the same owner, or by a jump from a
 -- compartment that the word lets in
-abbrev pub entered : CompartmentTag → CompartmentTag → Option ℕ
-entered (Pc from jumped) (Place owner into write) = if (from == owner) || (jumped && has into from) then Some owner else None
-entered (Pc from jumped) Plain = None
-entered (Pc from jumped) (Pc owner also) = None
-entered Plain instruction = None
-entered (Place owner into write) instruction = None
+abbrev pub entry_owner : CompartmentTag → CompartmentTag → Option ℕ
+entry_owner (Pc from jumped) (Place owner into write) = if (from == owner) || (jumped && has into from) then Some owner else None
+entry_owner (Pc from jumped) Plain = None
+entry_owner (Pc from jumped) (Pc owner also) = None
+entry_owner Plain instruction = None
+entry_owner (Place owner into write) instruction = None
 
 -- a compartment writes its own words, and those that let it write
 abbrev pub may_write : ℕ → CompartmentTag → Bool
@@ -70,7 +70,7 @@ run_by (Some owner) g x =
     else Err (refused_for (why.Rule g))
 
 abbrev pub compartment_rule : Group → Ins CompartmentTag → Result (Outs CompartmentTag) Refused
-compartment_rule g x = run_by (entered x.pc x.ci) g x
+compartment_rule g x = run_by (entry_owner x.pc x.ci) g x
 
 -- the tags of the pc and of the instruction are always used, the memory word's by a store
 abbrev pub compartment_ignores : Group → Mask
@@ -144,13 +144,13 @@ given_by number other owner into write =
     Place owner into (set_with write other)
 
 -- the caller owns the ECALL's word, and has to own each word of the range
-abbrev pub retagged : ℕ → ℕ → CompartmentTag → CompartmentTag → Result CompartmentTag Refused
-retagged number other (Pc caller jumped) (Place owner into write) =
+abbrev pub new_place : ℕ → ℕ → CompartmentTag → CompartmentTag → Result CompartmentTag Refused
+new_place number other (Pc caller jumped) (Place owner into write) =
     if caller == owner then Ok (given_by number other owner into write) else Err (refused_for why.NotOwner)
-retagged number other (Pc caller jumped) Plain = Err (refused_for why.NotOwner)
-retagged number other (Pc caller jumped) (Pc owner also) = Err (refused_for why.NotOwner)
-retagged number other Plain old = Err (refused_for why.NotOwner)
-retagged number other (Place owner into write) old = Err (refused_for why.NotOwner)
+new_place number other (Pc caller jumped) Plain = Err (refused_for why.NotOwner)
+new_place number other (Pc caller jumped) (Pc owner also) = Err (refused_for why.NotOwner)
+new_place number other Plain old = Err (refused_for why.NotOwner)
+new_place number other (Place owner into write) old = Err (refused_for why.NotOwner)
 
 -- a number that was given is never given again
 abbrev pub compartment_commit : ℕ → Plan CompartmentTag → ℕ
@@ -180,7 +180,7 @@ compartments = record {
   lend = λ count tag. Ok tt;
   room = λ count. 0;
   plan = compartment_plan;
-  retag = λ count plan old. retagged plan.service plan.note plan.pc old;
+  retag = λ count plan old. new_place plan.service plan.note plan.pc old;
   wipe = λ count pc old. compartment_wipe pc old;
   commit = compartment_commit;
   start_pc = λ count birth. Pc birth.owner false;

@@ -1,7 +1,7 @@
 //! What the rules ask: which compartment runs on, and which words it may write.
 
 ghost use Rattle.std.specs.Prelude.{◌≡◌};
-ghost use Rattle.compartment_policy.specs.Compartments.{entered, is_jump, is_store, is_writer, may_write, refused_for};
+ghost use Rattle.compartment_policy.specs.Compartments.{entry_owner, is_jump, is_store, is_writer, may_write, refused_for};
 
 use crate::tag::CompartmentTag;
 use policy_trait::{Part, Refused, Why};
@@ -10,7 +10,7 @@ use rv_decode::Group;
 /// The owner of the instruction's word, where the pc may go there: from a word of the same owner, or by a jump from a
 /// compartment that the word lets in.
 pub(crate) fn entered(pc: CompartmentTag, instruction: CompartmentTag) -> Option<u32>
-    ensures { result ≡ entered pc instruction }
+    ensures { result ≡ entry_owner pc instruction }
 {
     let CompartmentTag::Pc {
         owner: from,

@@ -1,7 +1,7 @@
 //! What the services do: the words that they are asked for, and these words' new tags.
 
 ghost use Rattle.std.specs.Prelude.{◌≡◌, ◌<◌, Err, nat_lt};
-ghost use Rattle.compartment_policy.specs.Compartments.{given_by, is_range, let_plan, refused_plan, retagged, split_plan, words_of};
+ghost use Rattle.compartment_policy.specs.Compartments.{given_by, is_range, let_plan, refused_plan, new_place, split_plan, words_of};
 
 use crate::rules::refused;
 use crate::tag::CompartmentTag;
@@ -105,7 +105,7 @@ pub(crate) fn retagged(
     old: CompartmentTag,
 ) -> Result<CompartmentTag, Refused>
     requires { plan.now.note < 32 }
-    ensures { result ≡ retagged plan.now.service plan.now.note plan.now.pc old }
+    ensures { result ≡ new_place plan.now.service plan.now.note plan.now.pc old }
 {
     match (plan.pc, old) {
         (CompartmentTag::Pc { owner: caller, .. }, CompartmentTag::Place { owner, into, write })

@@ -7,17 +7,17 @@ use Rattle.policy_trait.specs.declared.rules.Outs.{Outs}
 use Rattle.monitor_calls.specs.Service.{Job}
 use Rattle.turn_steps.specs.declared.look.Look.{Look}
 use Rattle.turn_steps.specs.declared.stop.Stop.{Stop}
-use Rattle.engine_trait.specs.Accounts.{Account, IsUncached, Key, accounted, after_look, after_rule, after_service, counted, is_kept, is_over, keeping, key_of, look_counted, looked_up, rule_counted, rule_kept, same_key, seeing, with_tags, written_tags}
+use Rattle.engine_trait.specs.Accounts.{Account, IsUncached, Key, account_after_turn, after_look, after_rule, after_service, next_count, is_kept, is_over, keeping, key_of, look_counted, looked_up, rule_counted, rule_kept, same_key, seeing, with_tags, written_tags}
 use Rattle.engine_trait.specs.Machine.{Machine}
-use Rattle.engine_trait.specs.Turn.{allowed, job_at, prepared}
+use Rattle.engine_trait.specs.Turn.{rule_answer, job_at, preparation}
 use Rattle.engine_trait.specs.declared.ends.Halt.{Halt}
 
 -- ---- the account of an engine that keeps no rules: each look-up is a miss, and no tag has a word
 
 module _ {T : Type 0} (eq : T → T → Bool) (a : Account T) (plain : IsUncached a) where
-  pub looked_up_missed : (key : Key T) → looked_up eq key a ≡ record a { misses = counted a.misses }
+  pub looked_up_missed : (key : Key T) → looked_up eq key a ≡ record a { misses = next_count a.misses }
   looked_up_missed key =
-      ap (λ kept. if list_any (same_key eq key) kept then record (keeping eq key a) { hits = counted a.hits } else record a { misses = counted a.misses }) plain.kept
+      ap (λ kept. if list_any (same_key eq key) kept then record (keeping eq key a) { hits = next_count a.hits } else record a { misses = next_count a.misses }) plain.kept
 
   keeping_none : (key : Key T) → keeping eq key a ≡ a
   keeping_none key =
@@ -36,7 +36,7 @@ module _ {T : Type 0} (eq : T → T → Bool) (a : Account T) (plain : IsUncache
 
 module _ {S T : Type 0} (eq : T → T → Bool) (m : PolicyModel T S) (s : Machine S T) (h : ℕ) where
   after_rule_none : (found : Result (Look T) Stop) (a : Account T) → IsUncached a → after_rule eq m s h found a ≡ a
-  after_rule_none (Ok look) a plain = rule_kept_none eq a plain (key_of eq m s h look) (allowed m s h look)
+  after_rule_none (Ok look) a plain = rule_kept_none eq a plain (key_of eq m s h look) (rule_answer m s h look)
   after_rule_none (Err why) a plain = refl
 
   after_service_none : (job : Result (Option (Job T)) Stop) (a : Account T) → IsUncached a → after_service eq m s h job a ≡ a
@@ -45,43 +45,43 @@ module _ {S T : Type 0} (eq : T → T → Bool) (m : PolicyModel T S) (s : Machi
   after_service_none (Err why) a plain = refl
 
   look_missed : (found : Result (Look T) Stop) (a : Account T) → IsUncached a → (n : ℕ) × (after_look eq m s h found a ≡ record a { misses = n })
-  look_missed (Ok look) a plain = (counted a.misses, looked_up_missed eq a plain (key_of eq m s h look))
+  look_missed (Ok look) a plain = (next_count a.misses, looked_up_missed eq a plain (key_of eq m s h look))
   look_missed (Err why) a plain = (a.misses, refl)
 
   abbrev turned : Account T → ℕ → Account T
-  turned account turns = record account { turns = counted turns }
+  turned account turns = record account { turns = next_count turns }
 
   -- only the look-up and the turn are counted
-  settled_account : (a b : Account T) → IsUncached b → look_counted eq m s h a ≡ b → accounted eq m s h a ≡ record b { turns = counted a.turns }
-  unfolding accounted rule_counted
+  settled_account : (a b : Account T) → IsUncached b → look_counted eq m s h a ≡ b → account_after_turn eq m s h a ≡ record b { turns = next_count a.turns }
+  unfolding account_after_turn rule_counted
   settled_account a b plain looked =
-      ap (λ c. turned (after_service eq m s h (job_at m s h) (after_rule eq m s h (prepared m s h) c)) a.turns) looked
-      ∙ ap (λ c. turned (after_service eq m s h (job_at m s h) c) a.turns) (after_rule_none (prepared m s h) b plain)
+      ap (λ c. turned (after_service eq m s h (job_at m s h) (after_rule eq m s h (preparation m s h) c)) a.turns) looked
+      ∙ ap (λ c. turned (after_service eq m s h (job_at m s h) c) a.turns) (after_rule_none (preparation m s h) b plain)
       ∙ ap (λ c. turned c a.turns) (after_service_none (job_at m s h) b plain)
 
-  pub look_counted_missed : (a : Account T) (look : Look T) → IsUncached a → prepared m s h ≡ Ok look → look_counted eq m s h a ≡ record a { misses = counted a.misses }
+  pub look_counted_missed : (a : Account T) (look : Look T) → IsUncached a → preparation m s h ≡ Ok look → look_counted eq m s h a ≡ record a { misses = next_count a.misses }
   unfolding look_counted
   look_counted_missed a look plain looked = ap (λ found. after_look eq m s h found a) looked ∙ looked_up_missed eq a plain (key_of eq m s h look)
 
-  look_counted_none : (a : Account T) (why : Stop) → prepared m s h ≡ Err why → look_counted eq m s h a ≡ a
+  look_counted_none : (a : Account T) (why : Stop) → preparation m s h ≡ Err why → look_counted eq m s h a ≡ a
   unfolding look_counted
   look_counted_none a why looked = ap (λ found. after_look eq m s h found a) looked
 
-  pub accounted_missed : (a : Account T) (look : Look T) → IsUncached a → prepared m s h ≡ Ok look
-      → accounted eq m s h a ≡ record a { misses = counted a.misses; turns = counted a.turns }
+  pub accounted_missed : (a : Account T) (look : Look T) → IsUncached a → preparation m s h ≡ Ok look
+      → account_after_turn eq m s h a ≡ record a { misses = next_count a.misses; turns = next_count a.turns }
   accounted_missed a look plain looked =
-      settled_account a (record a { misses = counted a.misses }) (record { capacity = plain.capacity; seen = plain.seen; kept = plain.kept })
+      settled_account a (record a { misses = next_count a.misses }) (record { capacity = plain.capacity; seen = plain.seen; kept = plain.kept })
       (look_counted_missed a look plain looked)
 
-  pub accounted_checked : (a : Account T) (why : Stop) → IsUncached a → prepared m s h ≡ Err why → accounted eq m s h a ≡ record a { turns = counted a.turns }
+  pub accounted_checked : (a : Account T) (why : Stop) → IsUncached a → preparation m s h ≡ Err why → account_after_turn eq m s h a ≡ record a { turns = next_count a.turns }
   accounted_checked a why plain looked = settled_account a a plain (look_counted_none a why looked)
 
   -- whatever the turn came to
   pub look_counted_plain : (a : Account T) → IsUncached a → (n : ℕ) × (look_counted eq m s h a ≡ record a { misses = n })
   unfolding look_counted
-  look_counted_plain a plain = look_missed (prepared m s h) a plain
+  look_counted_plain a plain = look_missed (preparation m s h) a plain
 
-  pub accounted_plain : (a : Account T) → IsUncached a → (n : ℕ) × (accounted eq m s h a ≡ record a { misses = n; turns = counted a.turns })
+  pub accounted_plain : (a : Account T) → IsUncached a → (n : ℕ) × (account_after_turn eq m s h a ≡ record a { misses = n; turns = next_count a.turns })
   accounted_plain a plain =
       let looked = look_counted_plain a plain in
       (looked.0, settled_account a (record a { misses = looked.0 }) (record { capacity = plain.capacity; seen = plain.seen; kept = plain.kept }) looked.1)
@@ -96,7 +96,7 @@ seeing_halt : {T : Type 0} (eq : T → T → Bool) (tags : List T) (a : Account 
 seeing_halt eq tags a = either_halt a.halt (a.capacity == 0) a (record a { seen = with_tags eq a.seen tags }) refl refl
 
 looked_up_halt : {T : Type 0} (eq : T → T → Bool) (key : Key T) (a : Account T) → (looked_up eq key a).halt ≡ a.halt
-looked_up_halt eq key a = either_halt a.halt (is_kept eq key a) (record (keeping eq key a) { hits = counted a.hits }) (record a { misses = counted a.misses }) refl refl
+looked_up_halt eq key a = either_halt a.halt (is_kept eq key a) (record (keeping eq key a) { hits = next_count a.hits }) (record a { misses = next_count a.misses }) refl refl
 
 rule_kept_halt : {T E : Type 0} (eq : T → T → Bool) (key : Key T) (answer : Result (Outs T) E) (a : Account T) → (rule_kept eq key answer a).halt ≡ a.halt
 rule_kept_halt eq key (Ok outs) a = seeing_halt eq (outs.pc ∷ outs.result ∷ []) (keeping eq key a)
@@ -108,7 +108,7 @@ module _ {S T : Type 0} (eq : T → T → Bool) (m : PolicyModel T S) (s : Machi
   after_look_halt (Err why) a = refl
 
   after_rule_halt : (found : Result (Look T) Stop) (a : Account T) → (after_rule eq m s h found a).halt ≡ a.halt
-  after_rule_halt (Ok look) a = rule_kept_halt eq (key_of eq m s h look) (allowed m s h look) a
+  after_rule_halt (Ok look) a = rule_kept_halt eq (key_of eq m s h look) (rule_answer m s h look) a
   after_rule_halt (Err why) a = refl
 
   after_service_halt : (job : Result (Option (Job T)) Stop) (a : Account T) → (after_service eq m s h job a).halt ≡ a.halt
@@ -118,16 +118,16 @@ module _ {S T : Type 0} (eq : T → T → Bool) (m : PolicyModel T S) (s : Machi
 
   look_counted_halt : (a : Account T) → (look_counted eq m s h a).halt ≡ a.halt
   unfolding look_counted
-  look_counted_halt a = after_look_halt (prepared m s h) a
+  look_counted_halt a = after_look_halt (preparation m s h) a
 
   rule_counted_halt : (a : Account T) → (rule_counted eq m s h a).halt ≡ a.halt
   unfolding rule_counted
-  rule_counted_halt a = after_rule_halt (prepared m s h) (look_counted eq m s h a) ∙ look_counted_halt a
+  rule_counted_halt a = after_rule_halt (preparation m s h) (look_counted eq m s h a) ∙ look_counted_halt a
 
-  pub accounted_halt : (a : Account T) → (accounted eq m s h a).halt ≡ a.halt
-  unfolding accounted
+  pub accounted_halt : (a : Account T) → (account_after_turn eq m s h a).halt ≡ a.halt
+  unfolding account_after_turn
   accounted_halt a = after_service_halt (job_at m s h) (rule_counted eq m s h a) ∙ rule_counted_halt a
 
-  pub accounted_turns : (a : Account T) → (accounted eq m s h a).turns ≡ counted a.turns
-  unfolding accounted
+  pub accounted_turns : (a : Account T) → (account_after_turn eq m s h a).turns ≡ next_count a.turns
+  unfolding account_after_turn
   accounted_turns a = refl

@@ -4,7 +4,7 @@ use Rattle.std.proofs.lemmas.Bool.{and_parts, ltb-true}
 use Rattle.std.proofs.lemmas.List.{length-set}
 use Rattle.std.proofs.lemmas.List.Elements.{All-get_or, All-set}
 use Rattle.rv_step.specs.declared.faults.Fault.{Fault}
-use Rattle.policy_trait.specs.Laws.{KeepsLaws}
+use Rattle.policy_trait.specs.PolicyLaws.{KeepsLaws}
 use Rattle.policy_trait.specs.Model.{CanPlan, IsGiven, PolicyModel}
 use Rattle.policy_trait.specs.Steps.{◌>>=◌}
 use Rattle.policy_trait.specs.declared.rules.Outs.{Outs}
@@ -16,7 +16,7 @@ use Rattle.tag_memory.specs.Ram.{IsRamOf, RamState, ram_bytes, ram_tag, ram_word
 use Rattle.monitor_calls.proofs.JobLemmas.{job_given}
 use Rattle.monitor_calls.specs.Service.{Job}
 use Rattle.turn_steps.specs.Effects.{Carried, IsSound}
-use Rattle.turn_steps.specs.Looks.{is_call, looked}
+use Rattle.turn_steps.specs.Looks.{is_call, look_result}
 use Rattle.turn_steps.specs.Services.{args_on}
 use Rattle.turn_steps.specs.declared.effects.Done.{Done}
 use Rattle.turn_steps.specs.declared.effects.Done.TheVariants as done
@@ -25,9 +25,9 @@ use Rattle.turn_steps.specs.declared.stop.Stop.{Stop}
 use Rattle.turn_steps.proofs.KeptLemmas.{answered_keeps, carried_keeps, words_bytes, words_keep}
 use Rattle.turn_steps.proofs.LookLemmas.{looked_is_sound}
 use Rattle.engine_trait.proofs.TurnLemmas.{allowed_turn, planned_turn}
-use Rattle.engine_trait.specs.Laws.{StaysMachine}
+use Rattle.engine_trait.specs.EngineLaws.{StaysMachine}
 use Rattle.engine_trait.specs.Machine.{CoreState, IsCore, IsMachine, Machine, has_no_stop, hart_at, is_ready_in, stop_at, stopping, with_hart}
-use Rattle.engine_trait.specs.Turn.{Turned, allowed, attempt, carried_at, core_effected, core_ended, core_served, effected, is_offered, offered, or_fault, or_unserved, planned, prepared, service_on, settled, stopped_at, turn_by, turn_of}
+use Rattle.engine_trait.specs.Turn.{Turned, rule_answer, attempt, carried_at, core_effected, core_ended, core_served, turn_effect, is_offered, service_look, or_fault, or_unserved, turn_job, preparation, service_on, settlement, stopped_at, turn_by, turn_of}
 
 -- ---- the core
 
@@ -122,7 +122,7 @@ module _ {S T : Type 0} (m : PolicyModel T S) (s : Machine S T) (is : IsMachine 
 
 -- what is looked at was looked at, and its service is offered
 pub record Prepares {S T : Type 0} (m : PolicyModel T S) (s : Machine S T) (h : ℕ) (look : Look T) : Type 0 where
-  pub looked_is : looked (hart_at s.core h) s.core.ram ≡ Ok look
+  pub looked_is : look_result (hart_at s.core h) s.core.ram ≡ Ok look
   pub offered_is : is_offered m s look ≡ true
 
 -- a call that is planned is a call, and its service gives that job
@@ -137,15 +137,15 @@ module _ {S T : Type 0} (m : PolicyModel T S) (s : Machine S T) (h : ℕ) where
   offers true found look why is e = (cc, is)
   offers false found look why is e = absurd cc
 
-  prepares : (found : Result (Look T) Fault) (look : Look T) → (or_fault found >>= offered m s) ≡ Ok look → (found ≡ Ok look) × (is_offered m s look ≡ true)
+  prepares : (found : Result (Look T) Fault) (look : Look T) → (or_fault found >>= service_look m s) ≡ Ok look → (found ≡ Ok look) × (is_offered m s look ≡ true)
   prepares (Ok found) look e =
       let parts = offers (is_offered m s found) found look _ refl e in
       (ap (λ l. Ok l) parts.0, subst (λ l. is_offered m s l ≡ true) parts.0 parts.1)
   prepares (Err fault) look e = absurd cc
 
-  pub prepared_is : (look : Look T) → prepared m s h ≡ Ok look → Prepares m s h look
-  unfolding prepared
-  prepared_is look e = let parts = prepares (looked (hart_at s.core h) s.core.ram) look e in record { looked_is = parts.0; offered_is = parts.1 }
+  pub prepared_is : (look : Look T) → preparation m s h ≡ Ok look → Prepares m s h look
+  unfolding preparation
+  prepared_is look e = let parts = prepares (look_result (hart_at s.core h) s.core.ram) look e in record { looked_is = parts.0; offered_is = parts.1 }
 
   -- ---- a call of a policy's service that nothing refuses
 
@@ -157,8 +157,8 @@ module _ {S T : Type 0} (m : PolicyModel T S) (s : Machine S T) (h : ℕ) where
   can_plan is look found call = record { known = known_call look found call; room = is.room }
 
   planned_given : (holds : S → Type 0) → KeepsLaws m holds → IsMachine m s → (look : Look T) (outs : Outs T) (job : Job T) → Prepares m s h look
-      → planned m s h look outs ≡ Ok (Some job) → IsGiven m s.policy job.plan
-  unfolding planned service_on
+      → turn_job m s h look outs ≡ Ok (Some job) → IsGiven m s.policy job.plan
+  unfolding turn_job service_on
   planned_given holds laws is look outs job found e =
       let parts = plans (is_call look.group) (service_on m s h look outs) (hart_at s.core h).pc look.service job e in
       job_given m s.policy (ram_word s.core.ram) (ram_tag s.core.ram) look.service (args_on (hart_at s.core h) s.core.ram) outs.pc holds laws job
@@ -173,7 +173,7 @@ pub record Keeps {S T : Type 0} (m : PolicyModel T S) (holds : S → Type 0) (s 
 
 module _ {S T : Type 0} (m : PolicyModel T S) (holds : S → Type 0) (laws : KeepsLaws m holds) (s : Machine S T) (valid : holds s.policy) (is : IsMachine m s) (feed : List ℕ) (h : ℕ) where
   abbrev KeepsBy : Result (Turned S T) Stop → Type 0
-  KeepsBy r = Keeps m holds s (settled m s feed h r).machine
+  KeepsBy r = Keeps m holds s (settlement m s feed h r).machine
 
   stop_keeps : (why : Stop) → KeepsBy (Err why)
   stop_keeps why = record { stays = stopped_stays m s is h why; valid = valid }
@@ -185,7 +185,7 @@ module _ {S T : Type 0} (m : PolicyModel T S) (holds : S → Type 0) (laws : Kee
     sound_look : IsSound (ram_bytes s.core.ram) look.effect
     sound_look = looked_is_sound (hart_at s.core h) s.core.ram look (hart_is m s is h (there ready)).shape found.looked_is
 
-    job_keeps : (outs : Outs T) (job : Option (Job T)) → planned m s h look outs ≡ Ok job → KeepsBy (Ok (effected m s feed h look outs job))
+    job_keeps : (outs : Outs T) (job : Option (Job T)) → turn_job m s h look outs ≡ Ok job → KeepsBy (Ok (turn_effect m s feed h look outs job))
     job_keeps outs (Some job) e =
         let given = planned_given m s h holds laws is look outs job found e in
         record {
@@ -194,21 +194,21 @@ module _ {S T : Type 0} (m : PolicyModel T S) (holds : S → Type 0) (laws : Kee
         }
     job_keeps outs None e = record { stays = effected_stays m s is feed h look outs (there ready) sound_look; valid = valid }
 
-    planned_keeps : (outs : Outs T) (job : Result (Option (Job T)) Stop) → planned m s h look outs ≡ job → KeepsBy (job >>= λ j. Ok (effected m s feed h look outs j))
+    planned_keeps : (outs : Outs T) (job : Result (Option (Job T)) Stop) → turn_job m s h look outs ≡ job → KeepsBy (job >>= λ j. Ok (turn_effect m s feed h look outs j))
     planned_keeps outs (Ok job) e = job_keeps outs job e
     planned_keeps outs (Err why) e = stop_keeps why
 
     allowed_keeps : (answer : Result (Outs T) Stop) → KeepsBy (answer >>= planned_turn m s feed h look)
-    allowed_keeps (Ok outs) = planned_keeps outs (planned m s h look outs) refl
+    allowed_keeps (Ok outs) = planned_keeps outs (turn_job m s h look outs) refl
     allowed_keeps (Err why) = stop_keeps why
 
-  prepared_keeps : is_ready_in s.core h ≡ true → (found : Result (Look T) Stop) → prepared m s h ≡ found → KeepsBy (found >>= allowed_turn m s feed h)
-  prepared_keeps ready (Ok look) e = allowed_keeps ready look (prepared_is m s h look e) (allowed m s h look)
+  prepared_keeps : is_ready_in s.core h ≡ true → (found : Result (Look T) Stop) → preparation m s h ≡ found → KeepsBy (found >>= allowed_turn m s feed h)
+  prepared_keeps ready (Ok look) e = allowed_keeps ready look (prepared_is m s h look e) (rule_answer m s h look)
   prepared_keeps ready (Err why) e = stop_keeps why
 
   attempt_keeps : is_ready_in s.core h ≡ true → KeepsBy (attempt m s feed h)
   unfolding attempt
-  attempt_keeps ready = prepared_keeps ready (prepared m s h) refl
+  attempt_keeps ready = prepared_keeps ready (preparation m s h) refl
 
   turn_keeps_by : (ready : Bool) → is_ready_in s.core h ≡ ready → Keeps m holds s (turn_by m s feed h ready).machine
   turn_keeps_by true ready = attempt_keeps ready

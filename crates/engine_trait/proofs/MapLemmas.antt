@@ -10,7 +10,7 @@ use Rattle.tag_memory.specs.Hart.{HartState, fresh_hart, moved_to, with_reg, wit
 use Rattle.tag_memory.specs.Maps.{hart_by, ram_by}
 use Rattle.tag_memory.specs.Ram.{RamState, with_ram_tag, with_ram_word}
 use Rattle.tag_memory.proofs.MapLemmas.{reg_tag_by, with_ram_tag_by, with_reg_by, with_reg_tag_by}
-use Rattle.turn_steps.specs.Effects.{Carried, carried_out}
+use Rattle.turn_steps.specs.Effects.{Carried, effect_result}
 use Rattle.turn_steps.specs.Maps.{carry_by, look_by}
 use Rattle.turn_steps.specs.Services.{args_on, with_answer, with_words}
 use Rattle.turn_steps.specs.declared.effects.Done.{Done}
@@ -44,7 +44,7 @@ module _ {T U : Type 0} (f : T → U) where
     pub carried_at_by : carried_at (core_by f core) feed h (look_by f look) (outs_by f outs) ≡ carry_by f (carried_at core feed h look outs)
     unfolding carried_at
     carried_at_by =
-        ap (λ hart. carried_out hart (ram_by f core.ram) feed (look_by f look) (outs_by f outs)) (hart_at_by core h)
+        ap (λ hart. effect_result hart (ram_by f core.ram) feed (look_by f look) (outs_by f outs)) (hart_at_by core h)
         ∙ carried_out_by f (hart_at core h) core.ram feed look outs
 
     pub core_effected_by : core_effected (core_by f core) feed h (look_by f look) (outs_by f outs) ≡ core_by f (core_effected core feed h look outs)

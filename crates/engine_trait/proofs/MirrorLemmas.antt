@@ -14,8 +14,8 @@ use Rattle.rv_step.specs.declared.faults.Fault.TheVariants.{NoService}
 use Rattle.tag_memory.specs.Hart.{HartState, fresh_hart}
 use Rattle.tag_memory.specs.Maps.{hart_by, ram_by}
 use Rattle.tag_memory.specs.Ram.{RamState}
-use Rattle.turn_steps.specs.Effects.{Carried, carried_out}
-use Rattle.turn_steps.specs.Looks.{is_call, looked}
+use Rattle.turn_steps.specs.Effects.{Carried, effect_result}
+use Rattle.turn_steps.specs.Looks.{is_call, look_result}
 use Rattle.turn_steps.specs.Maps.{carry_by, look_by}
 use Rattle.turn_steps.specs.declared.effects.Done.{Done}
 use Rattle.turn_steps.specs.declared.effects.Done.TheVariants as done
@@ -27,8 +27,8 @@ use Rattle.engine_trait.specs.Accounts.{IsUncached}
 use Rattle.engine_trait.specs.Machine.{CoreState, Machine, has_no_stop, hart_at, is_ready_in, stop_at, stopping, with_hart}
 use Rattle.engine_trait.specs.Maps.{core_by, machine_by, turned_by}
 use Rattle.engine_trait.specs.Mirrored.{IsMirrored, StepsMirrored}
-use Rattle.engine_trait.specs.Standing.{Standing, Stepped, idle, is_ready, is_running, made, step}
-use Rattle.engine_trait.specs.Turn.{Turned, allowed, attempt, carried_at, core_effected, core_ended, effected, end_of, is_offered, offered, or_fault, or_unserved, or_violation, planned, prepared, service_on, settled, turn_by, turn_of}
+use Rattle.engine_trait.specs.Standing.{Standing, Stepped, idle, is_ready, is_running, made_step, step}
+use Rattle.engine_trait.specs.Turn.{Turned, rule_answer, attempt, carried_at, core_effected, core_ended, turn_effect, end_of, is_offered, service_look, or_fault, or_unserved, or_violation, turn_job, preparation, service_on, settlement, turn_by, turn_of}
 use Rattle.engine_trait.specs.declared.ends.Halt.{Halt}
 use Rattle.engine_trait.proofs.AccountLemmas.{accounted_halt}
 use Rattle.engine_trait.proofs.MapLemmas.{carried_at_by, core_effected_by, hart_at_by}
@@ -61,26 +61,26 @@ module _ {S T : Type 0} (m : PolicyModel T S) (s : Machine S T) (none : (k : ℕ
   own_if true known look given fault unknown is e = absurd cc
   own_if false known look given fault unknown is e = cc
 
-  offered_own : (look given : Look T) → offered m s look ≡ Ok given → is_call given.group ≡ false
+  offered_own : (look given : Look T) → service_look m s look ≡ Ok given → is_call given.group ≡ false
   offered_own look given e = own_if (is_call look.group) (m.knows s.policy look.service) look given (stop.Fault (NoService look.service)) (none look.service) refl e
 
-  first_own : (first : Result (Look T) Stop) (look : Look T) → (first >>= offered m s) ≡ Ok look → is_call look.group ≡ false
+  first_own : (first : Result (Look T) Stop) (look : Look T) → (first >>= service_look m s) ≡ Ok look → is_call look.group ≡ false
   first_own (Ok found) look e = offered_own found look e
   first_own (Err why) look e = absurd cc
 
   -- a turn that comes to its rule calls no service of the policy
-  prepared_own : (h : ℕ) (look : Look T) → prepared m s h ≡ Ok look → is_call look.group ≡ false
-  unfolding prepared
-  prepared_own h look e = first_own (or_fault (looked (hart_at s.core h) s.core.ram)) look e
+  prepared_own : (h : ℕ) (look : Look T) → preparation m s h ≡ Ok look → is_call look.group ≡ false
+  unfolding preparation
+  prepared_own h look e = first_own (or_fault (look_result (hart_at s.core h) s.core.ram)) look e
 
-planned_own : {S T : Type 0} (m : PolicyModel T S) (s : Machine S T) (h : ℕ) (look : Look T) (outs : Outs T) → is_call look.group ≡ false → planned m s h look outs ≡ Ok None
-unfolding planned
+planned_own : {S T : Type 0} (m : PolicyModel T S) (s : Machine S T) (h : ℕ) (look : Look T) (outs : Outs T) → is_call look.group ≡ false → turn_job m s h look outs ≡ Ok None
+unfolding turn_job
 planned_own m s h look outs own =
     ap (λ call. if call then or_unserved (hart_at s.core h).pc look.service (service_on m s h look outs) else Ok None) own
 
 module _ {S T : Type 0} (m : PolicyModel T S) (s : Machine S T) (feed : List ℕ) (h : ℕ) (none : (k : ℕ) → m.knows s.policy k ≡ false) where
   abbrev KeepsPolicy : Result (Turned S T) Stop → Type 0
-  KeepsPolicy result = (settled m s feed h result).machine.policy ≡ s.policy
+  KeepsPolicy result = (settlement m s feed h result).machine.policy ≡ s.policy
 
   steps_keep : {A : Type 0} (first : Result A Stop) (rest : A → Result (Turned S T) Stop) → ((x : A) → first ≡ Ok x → KeepsPolicy (rest x)) → KeepsPolicy (first >>= rest)
   steps_keep (Ok x) rest each = each x refl
@@ -89,9 +89,9 @@ module _ {S T : Type 0} (m : PolicyModel T S) (s : Machine S T) (feed : List ℕ
   attempt_keeps : KeepsPolicy (attempt m s feed h)
   unfolding attempt
   attempt_keeps =
-      steps_keep (prepared m s h) _ λ look look-is.
-      steps_keep (allowed m s h look) _ λ outs outs-is.
-      ap (λ job. (settled m s feed h (job >>= λ j. Ok (effected m s feed h look outs j))).machine.policy)
+      steps_keep (preparation m s h) _ λ look look-is.
+      steps_keep (rule_answer m s h look) _ λ outs outs-is.
+      ap (λ job. (settlement m s feed h (job >>= λ j. Ok (turn_effect m s feed h look outs j))).machine.policy)
       (planned_own m s h look outs (prepared_own m s none h look look-is))
 
   turn_keeps_if : (ready : Bool) → (turn_by m s feed h ready).machine.policy ≡ s.policy
@@ -121,29 +121,29 @@ module _ {S T U V : Type 0} (f : T → U) (m : PolicyModel T S) (n : PolicyModel
   abbrev mirror : Machine V U
   mirror = machine_by f t s
 
-  offered_by : (look : Look T) → offered n mirror (look_by f look) ≡ ok_by (look_by f) (offered m s look)
+  offered_by : (look : Look T) → service_look n mirror (look_by f look) ≡ ok_by (look_by f) (service_look m s look)
   offered_by look =
       ap (λ (known : Bool). if not (is_call look.group) || known then Ok (look_by f look) else Err (stop.Fault (NoService look.service)))
       (mirrors.mirror_offers_none look.service ∙ sym (mirrors.offers_none look.service))
       ∙ if_by (look_by f) (is_offered m s look) look (stop.Fault (NoService look.service))
 
-  prepared_by : (h : ℕ) → prepared n mirror h ≡ ok_by (look_by f) (prepared m s h)
-  unfolding prepared
+  prepared_by : (h : ℕ) → preparation n mirror h ≡ ok_by (look_by f) (preparation m s h)
+  unfolding preparation
   prepared_by h =
-      both_by (look_by f) (look_by f) (or_fault (looked (hart_at s.core h) s.core.ram)) (or_fault (looked (hart_at mirror.core h) mirror.core.ram)) (offered m s) (offered n mirror)
-      (ap or_fault (ap (λ hart. looked hart (ram_by f s.core.ram)) (hart_at_by f s.core h) ∙ looked_by f (hart_at s.core h) s.core.ram)
-      ∙ or_fault_by (look_by f) (looked (hart_at s.core h) s.core.ram))
+      both_by (look_by f) (look_by f) (or_fault (look_result (hart_at s.core h) s.core.ram)) (or_fault (look_result (hart_at mirror.core h) mirror.core.ram)) (service_look m s) (service_look n mirror)
+      (ap or_fault (ap (λ hart. look_result hart (ram_by f s.core.ram)) (hart_at_by f s.core h) ∙ looked_by f (hart_at s.core h) s.core.ram)
+      ∙ or_fault_by (look_by f) (look_result (hart_at s.core h) s.core.ram))
       (λ look is. offered_by look)
 
-  allowed_by : (h : ℕ) (look : Look T) → allowed n mirror h (look_by f look) ≡ ok_by (outs_by f) (allowed m s h look)
-  unfolding allowed
+  allowed_by : (h : ℕ) (look : Look T) → rule_answer n mirror h (look_by f look) ≡ ok_by (outs_by f) (rule_answer m s h look)
+  unfolding rule_answer
   allowed_by h look =
       ap (λ (hart : HartState U). or_violation hart.pc (n.rule t look.group (ins_by f look.inputs))) (hart_at_by f s.core h)
       ∙ ap (or_violation (hart_at s.core h).pc) (mirrors.rule look.group look.inputs)
       ∙ or_violation_by (outs_by f) (hart_at s.core h).pc (m.rule s.policy look.group look.inputs)
 
   module _ (feed : List ℕ) (h : ℕ) where
-    effected_by : (look : Look T) (outs : Outs T) → effected n mirror feed h (look_by f look) (outs_by f outs) None ≡ turned_by f t (effected m s feed h look outs None)
+    effected_by : (look : Look T) (outs : Outs T) → turn_effect n mirror feed h (look_by f look) (outs_by f outs) None ≡ turned_by f t (turn_effect m s feed h look outs None)
     effected_by look outs = λ j. record {
       machine = record { policy = t; core = core_effected_by f s.core feed h look outs j };
       feed = (carried_at_by f s.core feed h look outs j).feed;
@@ -151,29 +151,29 @@ module _ {S T U V : Type 0} (f : T → U) (m : PolicyModel T S) (n : PolicyModel
     }
 
     abbrev ends_by : Look T → Outs T → Option (Job U) → Result (Turned V U) Stop
-    ends_by look outs job = Ok (effected n mirror feed h (look_by f look) (outs_by f outs) job)
+    ends_by look outs job = Ok (turn_effect n mirror feed h (look_by f look) (outs_by f outs) job)
 
     planned_by : (look : Look T) (outs : Outs T) → is_call look.group ≡ false
         → planned_turn n mirror feed h (look_by f look) (outs_by f outs) ≡ ok_by (turned_by f t) (planned_turn m s feed h look outs)
     planned_by look outs own =
         ap (λ job. job >>= ends_by look outs) (planned_own n mirror h (look_by f look) (outs_by f outs) own)
         ∙ ap (λ turned. Ok turned) (effected_by look outs)
-        ∙ sym (ap (λ job. ok_by (turned_by f t) (job >>= λ j. Ok (effected m s feed h look outs j))) (planned_own m s h look outs own))
+        ∙ sym (ap (λ job. ok_by (turned_by f t) (job >>= λ j. Ok (turn_effect m s feed h look outs j))) (planned_own m s h look outs own))
 
     attempt_by : attempt n mirror feed h ≡ ok_by (turned_by f t) (attempt m s feed h)
     unfolding attempt
     attempt_by =
-        both_by (look_by f) (turned_by f t) (prepared m s h) (prepared n mirror h) (allowed_turn m s feed h) (allowed_turn n mirror feed h) (prepared_by h) λ look look-is.
-        both_by (outs_by f) (turned_by f t) (allowed m s h look) (allowed n mirror h (look_by f look)) (planned_turn m s feed h look) (planned_turn n mirror feed h (look_by f look))
+        both_by (look_by f) (turned_by f t) (preparation m s h) (preparation n mirror h) (allowed_turn m s feed h) (allowed_turn n mirror feed h) (prepared_by h) λ look look-is.
+        both_by (outs_by f) (turned_by f t) (rule_answer m s h look) (rule_answer n mirror h (look_by f look)) (planned_turn m s feed h look) (planned_turn n mirror feed h (look_by f look))
         (allowed_by h look) λ outs outs-is.
         planned_by look outs (prepared_own m s mirrors.offers_none h look look-is)
 
-    settled_by : (result : Result (Turned S T) Stop) → settled n mirror feed h (ok_by (turned_by f t) result) ≡ turned_by f t (settled m s feed h result)
+    settled_by : (result : Result (Turned S T) Stop) → settlement n mirror feed h (ok_by (turned_by f t) result) ≡ turned_by f t (settlement m s feed h result)
     settled_by (Ok turned) = refl
     settled_by (Err why) = refl
 
     turn_if : (ready : Bool) → turn_by n mirror feed h ready ≡ turned_by f t (turn_by m s feed h ready)
-    turn_if true = ap (settled n mirror feed h) attempt_by ∙ settled_by (attempt m s feed h)
+    turn_if true = ap (settlement n mirror feed h) attempt_by ∙ settled_by (attempt m s feed h)
     turn_if false = refl
 
     pub turn_by_mirror : turn_of n mirror feed h ≡ turned_by f t (turn_of m s feed h)
@@ -200,7 +200,7 @@ module _ {S T U V : Type 0} (same_tag : T → T → Bool) (same_mirror : U → U
       subst (λ s. Mirrors f m s n (turn_of n d.machine feed h).machine.policy) (sym (turn_keeps_policy m e.machine feed h mirrored.policy.offers_none))
       (subst (λ t. Mirrors f m e.machine.policy n t) (sym (ap (λ (turned : Turned V U). turned.machine.policy) turn_is)) mirrored.policy)
 
-  made_mirrored : is_ready e h ≡ true → is_ready d h ≡ true → StepsMirrored f m n (made same_tag m e feed h) (made same_mirror n d feed h)
+  made_mirrored : is_ready e h ≡ true → is_ready d h ≡ true → StepsMirrored f m n (made_step same_tag m e feed h) (made_step same_mirror n d feed h)
   made_mirrored ready mirror_ready = record {
     standing = record {
       policy = policy_is;
@@ -220,7 +220,7 @@ module _ {S T U V : Type 0} (same_tag : T → T → Bool) (same_mirror : U → U
   step_if true ready =
       let mirror_ready : is_ready d h ≡ true = ready_is ∙ ready in
       subst (λ a. StepsMirrored f m n a (step same_mirror n d feed h)) (sym (plain_step same_tag m e feed h mirrored.uncached ready))
-      (subst (λ b. StepsMirrored f m n (made same_tag m e feed h) b) (sym (plain_step same_mirror n d feed h mirrored.mirror_uncached mirror_ready))
+      (subst (λ b. StepsMirrored f m n (made_step same_tag m e feed h) b) (sym (plain_step same_mirror n d feed h mirrored.mirror_uncached mirror_ready))
       (made_mirrored ready mirror_ready))
   step_if false waits =
       subst (λ a. StepsMirrored f m n a (step same_mirror n d feed h)) (sym (step_idle same_tag m e feed h waits))

@@ -2,10 +2,10 @@
 use Rattle.std.proofs.Common.{◌≡◌, ℕ, Bool, true, false, List, Option, Some, None, ◌≢◌, refl, ap, sym, ◌∙◌, subst, ◌&&◌}
 use Rattle.std.proofs.lemmas.Bool.{false≢true}
 use Rattle.policy_trait.specs.Model.{PolicyModel}
-use Rattle.engine_trait.specs.Accounts.{IsUncached, accounted, counted, is_over}
-use Rattle.engine_trait.specs.Laws.{FollowsTurn, RunsOut, StaysIdle, is_made}
+use Rattle.engine_trait.specs.Accounts.{IsUncached, account_after_turn, next_count, is_over}
+use Rattle.engine_trait.specs.EngineLaws.{FollowsTurn, RunsOut, StaysIdle, is_made}
 use Rattle.engine_trait.specs.Machine.{is_ready_in}
-use Rattle.engine_trait.specs.Standing.{Standing, idle, is_ready, is_running, made, out_of_words, step, step_by}
+use Rattle.engine_trait.specs.Standing.{Standing, idle, is_ready, is_running, made_step, out_of_words, step, step_by}
 use Rattle.engine_trait.specs.declared.ends.Halt.{Halt}
 use Rattle.engine_trait.specs.declared.ends.TurnEnd.{TurnEnd}
 use Rattle.engine_trait.specs.declared.ends.TurnEnd.TheVariants as ends
@@ -52,19 +52,19 @@ is_want ends.TagsOut = false
 module _ {S T : Type 0} (eq : T → T → Bool) (m : PolicyModel T S) (e : Standing S T) (feed : List ℕ) (h : ℕ) where
   pub step_idle : is_ready e h ≡ false → step eq m e feed h ≡ idle eq m e feed h
   unfolding step
-  step_idle waits = ap (λ ready. step_by eq m e feed h ready (is_over (accounted eq m e.machine h e.account))) waits
+  step_idle waits = ap (λ ready. step_by eq m e feed h ready (is_over (account_after_turn eq m e.machine h e.account))) waits
 
-  pub step_ready : is_ready e h ≡ true → step eq m e feed h ≡ step_by eq m e feed h true (is_over (accounted eq m e.machine h e.account))
+  pub step_ready : is_ready e h ≡ true → step eq m e feed h ≡ step_by eq m e feed h true (is_over (account_after_turn eq m e.machine h e.account))
   unfolding step
-  step_ready ready = ap (λ is_so. step_by eq m e feed h is_so (is_over (accounted eq m e.machine h e.account))) ready
+  step_ready ready = ap (λ is_so. step_by eq m e feed h is_so (is_over (account_after_turn eq m e.machine h e.account))) ready
 
-  pub step_out : is_ready e h ≡ true → is_over (accounted eq m e.machine h e.account) ≡ true → step eq m e feed h ≡ out_of_words eq m e feed h
+  pub step_out : is_ready e h ≡ true → is_over (account_after_turn eq m e.machine h e.account) ≡ true → step eq m e feed h ≡ out_of_words eq m e feed h
   step_out ready over = step_ready ready ∙ ap (λ is_so. step_by eq m e feed h true is_so) over
 
-  pub step_made : is_ready e h ≡ true → is_over (accounted eq m e.machine h e.account) ≡ false → step eq m e feed h ≡ made eq m e feed h
+  pub step_made : is_ready e h ≡ true → is_over (account_after_turn eq m e.machine h e.account) ≡ false → step eq m e feed h ≡ made_step eq m e feed h
   step_made ready within = step_ready ready ∙ ap (λ is_so. step_by eq m e feed h true is_so) within
 
-  made_follows : is_ready e h ≡ true → FollowsTurn eq m e feed h (made eq m e feed h)
+  made_follows : is_ready e h ≡ true → FollowsTurn eq m e feed h (made_step eq m e feed h)
   made_follows ready = record {
     ready = ready;
     machine = refl;
@@ -75,11 +75,11 @@ module _ {S T : Type 0} (eq : T → T → Bool) (m : PolicyModel T S) (e : Stand
     turns = accounted_turns eq m e.machine h e.account;
   }
 
-  made_is_turn : is_ready e h ≡ true → is_made (made eq m e feed h).ended ≡ true
+  made_is_turn : is_ready e h ≡ true → is_made (made_step eq m e feed h).ended ≡ true
   made_is_turn ready = turn_made m e.machine feed h (ready_parts e h ready).1
 
   -- no turn that is made ends so
-  not_turn : (end : TurnEnd) → is_ready e h ≡ true → (made eq m e feed h).ended ≡ end → is_made end ≡ true
+  not_turn : (end : TurnEnd) → is_ready e h ≡ true → (made_step eq m e feed h).ended ≡ end → is_made end ≡ true
   not_turn end ready is = sym (ap is_made is) ∙ made_is_turn ready
 
   follows_by : (ready over : Bool) → is_ready e h ≡ ready → is_made (step_by eq m e feed h ready over).ended ≡ true
@@ -90,9 +90,9 @@ module _ {S T : Type 0} (eq : T → T → Bool) (m : PolicyModel T S) (e : Stand
 
   pub step_follows : is_made (step eq m e feed h).ended ≡ true → FollowsTurn eq m e feed h (step eq m e feed h)
   unfolding step
-  step_follows is = follows_by (is_ready e h) (is_over (accounted eq m e.machine h e.account)) refl is
+  step_follows is = follows_by (is_ready e h) (is_over (account_after_turn eq m e.machine h e.account)) refl is
 
-  out_by : (ready over : Bool) → is_ready e h ≡ ready → is_over (accounted eq m e.machine h e.account) ≡ over → (step_by eq m e feed h ready over).ended ≡ ends.TagsOut
+  out_by : (ready over : Bool) → is_ready e h ≡ ready → is_over (account_after_turn eq m e.machine h e.account) ≡ over → (step_by eq m e feed h ready over).ended ≡ ends.TagsOut
       → RunsOut eq m e feed h (step_by eq m e feed h ready over)
   out_by false over waits is_so is = absurd (false≢true (ap is_out is))
   out_by true true ready is_so is = record { ready = ready; over = is_so; out = refl }
@@ -100,7 +100,7 @@ module _ {S T : Type 0} (eq : T → T → Bool) (m : PolicyModel T S) (e : Stand
 
   pub step_runs_out : (step eq m e feed h).ended ≡ ends.TagsOut → RunsOut eq m e feed h (step eq m e feed h)
   unfolding step
-  step_runs_out is = out_by (is_ready e h) (is_over (accounted eq m e.machine h e.account)) refl refl is
+  step_runs_out is = out_by (is_ready e h) (is_over (account_after_turn eq m e.machine h e.account)) refl refl is
 
   idle_by : (ready over : Bool) → is_ready e h ≡ ready → (step_by eq m e feed h ready over).ended ≡ ends.Idle
       → StaysIdle eq m e feed h (step_by eq m e feed h ready over)
@@ -110,7 +110,7 @@ module _ {S T : Type 0} (eq : T → T → Bool) (m : PolicyModel T S) (e : Stand
 
   pub step_stays_idle : (step eq m e feed h).ended ≡ ends.Idle → StaysIdle eq m e feed h (step eq m e feed h)
   unfolding step
-  step_stays_idle is = idle_by (is_ready e h) (is_over (accounted eq m e.machine h e.account)) refl is
+  step_stays_idle is = idle_by (is_ready e h) (is_over (account_after_turn eq m e.machine h e.account)) refl is
 
   memory_by : (ready over : Bool) → is_ready e h ≡ ready → (step_by eq m e feed h ready over).ended ≢ ends.Memory
   memory_by false over waits is = false≢true (ap is_want is)
@@ -119,7 +119,7 @@ module _ {S T : Type 0} (eq : T → T → Bool) (m : PolicyModel T S) (e : Stand
 
   pub step_not_memory : (step eq m e feed h).ended ≢ ends.Memory
   unfolding step
-  step_not_memory = memory_by (is_ready e h) (is_over (accounted eq m e.machine h e.account)) refl
+  step_not_memory = memory_by (is_ready e h) (is_over (account_after_turn eq m e.machine h e.account)) refl
 
   -- a step that ends neither idle nor out is a turn
   pub is_turn : (end : TurnEnd) → end ≢ ends.Idle → end ≢ ends.TagsOut → end ≢ ends.Memory → is_made end ≡ true
@@ -135,20 +135,20 @@ module _ {S T : Type 0} (eq : T → T → Bool) (m : PolicyModel T S) (e : Stand
 
   -- ---- an engine that keeps no rules
 
-  plain_within : IsUncached e.account → is_over (accounted eq m e.machine h e.account) ≡ false
+  plain_within : IsUncached e.account → is_over (account_after_turn eq m e.machine h e.account) ≡ false
   plain_within plain =
       let after = accounted_plain eq m e.machine h e.account plain in
-      ap is_over after.1 ∙ never_over eq (record e.account { misses = after.0; turns = counted e.account.turns }) (record { capacity = plain.capacity; seen = plain.seen; kept = plain.kept })
+      ap is_over after.1 ∙ never_over eq (record e.account { misses = after.0; turns = next_count e.account.turns }) (record { capacity = plain.capacity; seen = plain.seen; kept = plain.kept })
 
-  pub plain_step : IsUncached e.account → is_ready e h ≡ true → step eq m e feed h ≡ made eq m e feed h
+  pub plain_step : IsUncached e.account → is_ready e h ≡ true → step eq m e feed h ≡ made_step eq m e feed h
   plain_step plain ready = step_made ready (plain_within plain)
 
-  plain_made : IsUncached e.account → IsUncached (accounted eq m e.machine h e.account)
+  plain_made : IsUncached e.account → IsUncached (account_after_turn eq m e.machine h e.account)
   plain_made plain =
       let after = accounted_plain eq m e.machine h e.account plain in
       subst IsUncached (sym after.1) (record { capacity = plain.capacity; seen = plain.seen; kept = plain.kept })
 
-  plain_hits : IsUncached e.account → (accounted eq m e.machine h e.account).hits ≡ e.account.hits
+  plain_hits : IsUncached e.account → (account_after_turn eq m e.machine h e.account).hits ≡ e.account.hits
   plain_hits plain = ap (λ account. account.hits) (accounted_plain eq m e.machine h e.account plain).1
 
   within_by : (ready over : Bool) → is_ready e h ≡ ready → over ≡ false → (step_by eq m e feed h ready over).ended ≢ ends.TagsOut
@@ -158,7 +158,7 @@ module _ {S T : Type 0} (eq : T → T → Bool) (m : PolicyModel T S) (e : Stand
 
   pub plain_in_words : IsUncached e.account → (step eq m e feed h).ended ≢ ends.TagsOut
   unfolding step
-  plain_in_words plain = within_by (is_ready e h) (is_over (accounted eq m e.machine h e.account)) refl (plain_within plain)
+  plain_in_words plain = within_by (is_ready e h) (is_over (account_after_turn eq m e.machine h e.account)) refl (plain_within plain)
 
   stays_by : (ready over : Bool) → over ≡ false → IsUncached e.account → IsUncached (step_by eq m e feed h ready over).standing.account
   stays_by false over never plain = plain
@@ -166,7 +166,7 @@ module _ {S T : Type 0} (eq : T → T → Bool) (m : PolicyModel T S) (e : Stand
 
   pub plain_stays : IsUncached e.account → IsUncached (step eq m e feed h).standing.account
   unfolding step
-  plain_stays plain = stays_by (is_ready e h) (is_over (accounted eq m e.machine h e.account)) (plain_within plain) plain
+  plain_stays plain = stays_by (is_ready e h) (is_over (account_after_turn eq m e.machine h e.account)) (plain_within plain) plain
 
   hits_by : (ready over : Bool) → over ≡ false → IsUncached e.account → (step_by eq m e feed h ready over).standing.account.hits ≡ e.account.hits
   hits_by false over never plain = refl
@@ -174,4 +174,4 @@ module _ {S T : Type 0} (eq : T → T → Bool) (m : PolicyModel T S) (e : Stand
 
   pub plain_step_hits : IsUncached e.account → (step eq m e feed h).standing.account.hits ≡ e.account.hits
   unfolding step
-  plain_step_hits plain = hits_by (is_ready e h) (is_over (accounted eq m e.machine h e.account)) (plain_within plain) plain
+  plain_step_hits plain = hits_by (is_ready e h) (is_over (account_after_turn eq m e.machine h e.account)) (plain_within plain) plain

@@ -9,21 +9,21 @@ use Rattle.turn_steps.specs.declared.effects.Done.{Done}
 use Rattle.turn_steps.specs.declared.effects.Done.TheVariants as done
 use Rattle.turn_steps.specs.declared.look.Look.{Look}
 use Rattle.turn_steps.specs.declared.stop.Stop.{Stop}
-use Rattle.engine_trait.specs.Events.{event_by, event_of, is_retiring, retired}
-use Rattle.engine_trait.specs.Laws.{is_made}
+use Rattle.engine_trait.specs.Events.{event_by, event_of, is_retiring, is_retirement}
+use Rattle.engine_trait.specs.EngineLaws.{is_made}
 use Rattle.engine_trait.specs.Machine.{CoreState, Machine, has_no_stop, is_ready_in, stop_at}
-use Rattle.engine_trait.specs.Turn.{Turned, allowed, attempt, carried_at, effected, end_of, job_at, planned, prepared, settled, turn_by, turn_of}
+use Rattle.engine_trait.specs.Turn.{Turned, rule_answer, attempt, carried_at, turn_effect, end_of, job_at, turn_job, preparation, settlement, turn_by, turn_of}
 use Rattle.engine_trait.specs.declared.ends.TurnEnd.TheVariants as ends
 
 pub absent_waits : {T : Type 0} (core : CoreState T) (h : ℕ) → length core.harts ≤ h → is_ready_in core h ≡ false
 absent_waits core h past = ap (λ is_there. is_there && has_no_stop (stop_at core h)) (le-ltb h (length core.harts) past)
 
 -- what a service will do, where the turn comes to it
-pub job_ruled : {S T : Type 0} (m : PolicyModel T S) (s : Machine S T) (h : ℕ) (look : Look T) (outs : Outs T) → prepared m s h ≡ Ok look → allowed m s h look ≡ Ok outs
-    → job_at m s h ≡ planned m s h look outs
+pub job_ruled : {S T : Type 0} (m : PolicyModel T S) (s : Machine S T) (h : ℕ) (look : Look T) (outs : Outs T) → preparation m s h ≡ Ok look → rule_answer m s h look ≡ Ok outs
+    → job_at m s h ≡ turn_job m s h look outs
 unfolding job_at
 job_ruled m s h look outs looked ruled =
-    ap (λ found. found >>= λ l. allowed m s h l >>= λ o. planned m s h l o) looked ∙ ap (λ answer. answer >>= λ o. planned m s h look o) ruled
+    ap (λ found. found >>= λ l. rule_answer m s h l >>= λ o. turn_job m s h l o) looked ∙ ap (λ answer. answer >>= λ o. turn_job m s h look o) ruled
 
 module _ {S T : Type 0} (m : PolicyModel T S) (s : Machine S T) (feed : List ℕ) (h : ℕ) where
   -- ---- a hart that is not there or has stopped
@@ -32,44 +32,44 @@ module _ {S T : Type 0} (m : PolicyModel T S) (s : Machine S T) (feed : List ℕ
   unfolding turn_of
   turn_idle waits = ap (λ ready. turn_by m s feed h ready) waits
 
-  pub event_idle : is_ready_in s.core h ≡ false → retired (event_of m s feed h) ≡ false
+  pub event_idle : is_ready_in s.core h ≡ false → is_retirement (event_of m s feed h) ≡ false
   unfolding event_of
-  event_idle waits = ap (λ ready. retired (event_by m s feed h ready)) waits ∙ ap (λ turned. is_retiring turned.ended) (turn_idle waits)
+  event_idle waits = ap (λ ready. is_retirement (event_by m s feed h ready)) waits ∙ ap (λ turned. is_retiring turned.ended) (turn_idle waits)
 
   -- ---- a ready hart
 
   abbrev pub planned_turn : Look T → Outs T → Result (Turned S T) Stop
-  planned_turn look outs = planned m s h look outs >>= λ job. Ok (effected m s feed h look outs job)
+  planned_turn look outs = turn_job m s h look outs >>= λ job. Ok (turn_effect m s feed h look outs job)
 
   abbrev pub allowed_turn : Look T → Result (Turned S T) Stop
-  allowed_turn look = allowed m s h look >>= planned_turn look
+  allowed_turn look = rule_answer m s h look >>= planned_turn look
 
-  pub turn_ready : is_ready_in s.core h ≡ true → turn_of m s feed h ≡ settled m s feed h (attempt m s feed h)
+  pub turn_ready : is_ready_in s.core h ≡ true → turn_of m s feed h ≡ settlement m s feed h (attempt m s feed h)
   unfolding turn_of
   turn_ready ready = ap (λ is_ready. turn_by m s feed h is_ready) ready
 
-  attempt_prepared : (look : Look T) → prepared m s h ≡ Ok look → attempt m s feed h ≡ allowed_turn look
+  attempt_prepared : (look : Look T) → preparation m s h ≡ Ok look → attempt m s feed h ≡ allowed_turn look
   unfolding attempt
   attempt_prepared look looked = ap (λ found. found >>= allowed_turn) looked
 
-  attempt_allowed : (look : Look T) (outs : Outs T) → prepared m s h ≡ Ok look → allowed m s h look ≡ Ok outs → attempt m s feed h ≡ planned_turn look outs
+  attempt_allowed : (look : Look T) (outs : Outs T) → preparation m s h ≡ Ok look → rule_answer m s h look ≡ Ok outs → attempt m s feed h ≡ planned_turn look outs
   attempt_allowed look outs looked ruled = attempt_prepared look looked ∙ ap (λ answer. answer >>= planned_turn look) ruled
 
-  attempt_stopped : (why : Stop) → prepared m s h ≡ Err why → attempt m s feed h ≡ Err why
+  attempt_stopped : (why : Stop) → preparation m s h ≡ Err why → attempt m s feed h ≡ Err why
   unfolding attempt
   attempt_stopped why looked = ap (λ found. found >>= allowed_turn) looked
 
-  pub turn_checked : (why : Stop) → is_ready_in s.core h ≡ true → prepared m s h ≡ Err why → turn_of m s feed h ≡ settled m s feed h (Err why)
-  turn_checked why ready looked = turn_ready ready ∙ ap (settled m s feed h) (attempt_stopped why looked)
+  pub turn_checked : (why : Stop) → is_ready_in s.core h ≡ true → preparation m s h ≡ Err why → turn_of m s feed h ≡ settlement m s feed h (Err why)
+  turn_checked why ready looked = turn_ready ready ∙ ap (settlement m s feed h) (attempt_stopped why looked)
 
-  pub turn_refused : (look : Look T) (why : Stop) → is_ready_in s.core h ≡ true → prepared m s h ≡ Ok look → allowed m s h look ≡ Err why
-      → turn_of m s feed h ≡ settled m s feed h (Err why)
+  pub turn_refused : (look : Look T) (why : Stop) → is_ready_in s.core h ≡ true → preparation m s h ≡ Ok look → rule_answer m s h look ≡ Err why
+      → turn_of m s feed h ≡ settlement m s feed h (Err why)
   turn_refused look why ready looked ruled =
-      turn_ready ready ∙ ap (settled m s feed h) (attempt_prepared look looked ∙ ap (λ answer. answer >>= planned_turn look) ruled)
+      turn_ready ready ∙ ap (settlement m s feed h) (attempt_prepared look looked ∙ ap (λ answer. answer >>= planned_turn look) ruled)
 
-  pub turn_ruled : (look : Look T) (outs : Outs T) → is_ready_in s.core h ≡ true → prepared m s h ≡ Ok look → allowed m s h look ≡ Ok outs
-      → turn_of m s feed h ≡ settled m s feed h (planned_turn look outs)
-  turn_ruled look outs ready looked ruled = turn_ready ready ∙ ap (settled m s feed h) (attempt_allowed look outs looked ruled)
+  pub turn_ruled : (look : Look T) (outs : Outs T) → is_ready_in s.core h ≡ true → preparation m s h ≡ Ok look → rule_answer m s h look ≡ Ok outs
+      → turn_of m s feed h ≡ settlement m s feed h (planned_turn look outs)
+  turn_ruled look outs ready looked ruled = turn_ready ready ∙ ap (settlement m s feed h) (attempt_allowed look outs looked ruled)
 
   -- ---- a ready hart has its turn
 
@@ -78,21 +78,21 @@ module _ {S T : Type 0} (m : PolicyModel T S) (s : Machine S T) (feed : List ℕ
   ended_made done.Broke = refl
   ended_made (done.Exited code) = refl
 
-  effected_made : (look : Look T) (outs : Outs T) (job : Option (Job T)) → is_made (effected m s feed h look outs job).ended ≡ true
+  effected_made : (look : Look T) (outs : Outs T) (job : Option (Job T)) → is_made (turn_effect m s feed h look outs job).ended ≡ true
   effected_made look outs (Some job) = refl
   effected_made look outs None = ended_made (carried_at s.core feed h look outs).done
 
   steps_made : {A : Type 0} (first : Result A Stop) (rest : A → Result (Turned S T) Stop)
-      → ((x : A) → is_made (settled m s feed h (rest x)).ended ≡ true) → is_made (settled m s feed h (first >>= rest)).ended ≡ true
+      → ((x : A) → is_made (settlement m s feed h (rest x)).ended ≡ true) → is_made (settlement m s feed h (first >>= rest)).ended ≡ true
   steps_made (Ok x) rest each = each x
   steps_made (Err why) rest each = refl
 
-  attempt_made : is_made (settled m s feed h (attempt m s feed h)).ended ≡ true
+  attempt_made : is_made (settlement m s feed h (attempt m s feed h)).ended ≡ true
   unfolding attempt
   attempt_made =
-      steps_made (prepared m s h) allowed_turn λ look.
-      steps_made (allowed m s h look) (planned_turn look) λ outs.
-      steps_made (planned m s h look outs) (λ job. Ok (effected m s feed h look outs job)) (effected_made look outs)
+      steps_made (preparation m s h) allowed_turn λ look.
+      steps_made (rule_answer m s h look) (planned_turn look) λ outs.
+      steps_made (turn_job m s h look outs) (λ job. Ok (turn_effect m s feed h look outs job)) (effected_made look outs)
 
   pub turn_made : is_ready_in s.core h ≡ true → is_made (turn_of m s feed h).ended ≡ true
   turn_made ready = ap (λ turned. is_made turned.ended) (turn_ready ready) ∙ attempt_made

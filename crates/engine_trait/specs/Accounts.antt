@@ -3,7 +3,7 @@ use Rattle.std.specs.Prelude.{◌≡◌, ℕ, ◌+◌, ◌-◌, ◌^◌, ◌==�
 use Rattle.std.specs.List.{list_any}
 use Rattle.rv_decode.specs.contracts.groups.GroupPartialEq.TheImpl.{eq-value}
 use Rattle.rv_decode.specs.declared.groups.Group.{Group}
-use Rattle.policy_trait.specs.Model.{PolicyModel, masked}
+use Rattle.policy_trait.specs.Model.{PolicyModel, masked_inputs}
 use Rattle.policy_trait.specs.declared.rules.Ins.{Ins}
 use Rattle.policy_trait.specs.declared.rules.Outs.{Outs}
 use Rattle.policy_trait.specs.declared.services.Answer.{Answer}
@@ -11,7 +11,7 @@ use Rattle.monitor_calls.specs.Service.{Job}
 use Rattle.turn_steps.specs.declared.look.Look.{Look}
 use Rattle.turn_steps.specs.declared.stop.Stop.{Stop}
 use Rattle.engine_trait.specs.Machine.{Machine}
-use Rattle.engine_trait.specs.Turn.{allowed, job_at, prepared}
+use Rattle.engine_trait.specs.Turn.{rule_answer, job_at, preparation}
 use Rattle.engine_trait.specs.declared.ends.Counts.{Counts}
 use Rattle.engine_trait.specs.declared.ends.Halt.{Halt}
 
@@ -24,6 +24,7 @@ pub record Key (T : Type 0) : Type 0 where
   pub group : Group
   pub inputs : Ins T
 
+-- what an engine has counted and keeps beside its machine, and why it is stopped as a whole, if it is
 pub record Account (T : Type 0) : Type 0 where
   -- the tags that have words, in the order of their first appearance, and how many may have
   pub seen : List T
@@ -48,8 +49,8 @@ abbrev pub counts_of : {T : Type 0} → Account T → Counts
 counts_of account = record { turns = account.turns; hits = account.hits; misses = account.misses }
 
 -- a count that stands still at its type's end
-abbrev pub counted : ℕ → ℕ
-counted n = min (n + 1) (2 ^ 64 - 1)
+abbrev pub next_count : ℕ → ℕ
+next_count n = min (n + 1) (2 ^ 64 - 1)
 
 -- an engine that keeps no rules, at the start
 abbrev pub plain_account : {T : Type 0} → Account T
@@ -60,16 +61,20 @@ module _ {T : Type 0} (eq : T → T → Bool) where
   abbrev pub with_tag : List T → T → List T
   with_tag seen tag = if list_any (eq tag) seen then seen else seen ++ tag ∷ []
 
+  -- the same for each tag of a list in turn
   abbrev pub with_tags : List T → List T → List T
   with_tags seen [] = seen
   with_tags seen (tag ∷ tags) = with_tags (with_tag seen tag) tags
 
+  -- whether the five tags are the same
   abbrev pub same_inputs : Ins T → Ins T → Bool
   same_inputs x y = eq x.pc y.pc && eq x.ci y.ci && eq x.t1 y.t1 && eq x.t2 y.t2 && eq x.tm y.tm
 
+  -- whether the group and the five tags are the same
   abbrev pub same_key : Key T → Key T → Bool
   same_key x y = group_eq x.group y.group && same_inputs x.inputs y.inputs
 
+  -- whether a rule is kept under the key
   abbrev pub is_kept : Key T → Account T → Bool
   is_kept key account = list_any (same_key key) account.kept
 
@@ -81,7 +86,7 @@ module _ {T : Type 0} (eq : T → T → Bool) where
   -- a look-up is a hit, which moves the key to the front, or a miss
   abbrev pub looked_up : Key T → Account T → Account T
   looked_up key account =
-      if is_kept key account then record (keeping key account) { hits = counted account.hits } else record account { misses = counted account.misses }
+      if is_kept key account then record (keeping key account) { hits = next_count account.hits } else record account { misses = next_count account.misses }
 
   -- the tags have words from now on
   abbrev pub seeing : List T → Account T → Account T
@@ -96,17 +101,19 @@ module _ {T : Type 0} (eq : T → T → Bool) where
 abbrev pub is_over : {T : Type 0} → Account T → Bool
 is_over account = nat_lt account.limit (length account.seen)
 
--- the tags that a service writes: those of its range, ascending, and that of its answer
+-- the tag of an answer
 abbrev pub answer_tags : {T : Type 0} → Option (Answer T) → List T
 answer_tags None = []
 answer_tags (Some answer) = answer.tag ∷ []
 
+-- the tags that a service writes: those of its range, ascending, and that of its answer
 abbrev pub written_tags : {T : Type 0} → Job T → List T
 written_tags job = map (λ word. word.2) job.words ++ answer_tags job.plan.answer
 
 module _ {S T : Type 0} (eq : T → T → Bool) (m : PolicyModel T S) (s : Machine S T) (h : ℕ) where
+  -- the key that the rule of a look is kept under
   abbrev pub key_of : Look T → Key T
-  key_of look = record { group = look.group; inputs = masked (m.ignores s.policy look.group) (m.plain s.policy) look.inputs }
+  key_of look = record { group = look.group; inputs = masked_inputs (m.ignores s.policy look.group) (m.plain s.policy) look.inputs }
 
   -- each turn that comes to its rule looks it up once
   abbrev pub after_look : Result (Look T) Stop → Account T → Account T
@@ -115,7 +122,7 @@ module _ {S T : Type 0} (eq : T → T → Bool) (m : PolicyModel T S) (s : Machi
 
   -- its rule is kept where it is allowed
   abbrev pub after_rule : Result (Look T) Stop → Account T → Account T
-  after_rule (Ok look) account = rule_kept eq (key_of look) (allowed m s h look) account
+  after_rule (Ok look) account = rule_kept eq (key_of look) (rule_answer m s h look) account
   after_rule (Err why) account = account
 
   -- the tags that a served service writes have words
@@ -126,15 +133,15 @@ module _ {S T : Type 0} (eq : T → T → Bool) (m : PolicyModel T S) (s : Machi
 
   -- the account after the look-up of a turn, if it came to one
   unfoldable pub look_counted : Account T → Account T
-  look_counted account = after_look (prepared m s h) account
+  look_counted account = after_look (preparation m s h) account
 
   -- the account after the rule of a turn, if it came to one
   unfoldable pub rule_counted : Account T → Account T
-  rule_counted account = after_rule (prepared m s h) (look_counted account)
+  rule_counted account = after_rule (preparation m s h) (look_counted account)
 
   -- the account after a turn that is made
-  unfoldable pub accounted : Account T → Account T
-  accounted account = record (after_service (job_at m s h) (rule_counted account)) { turns = counted account.turns }
+  unfoldable pub account_after_turn : Account T → Account T
+  account_after_turn account = record (after_service (job_at m s h) (rule_counted account)) { turns = next_count account.turns }
 
   -- the account before the step that needs more words than there may be: that of the rule's outputs, or that of the tags
   -- that the service writes

@@ -16,7 +16,7 @@ use Rattle.turn_steps.specs.declared.look.Look.{Look}
 use Rattle.turn_steps.specs.declared.stop.Stop.{Stop}
 use Rattle.turn_steps.specs.declared.stop.Stop.TheVariants as stop
 use Rattle.engine_trait.specs.Machine.{Machine, hart_at, is_ready_in}
-use Rattle.engine_trait.specs.Turn.{job_at, prepared, turn_of}
+use Rattle.engine_trait.specs.Turn.{job_at, preparation, turn_of}
 use Rattle.engine_trait.specs.declared.ends.TurnEnd.{TurnEnd}
 use Rattle.engine_trait.specs.declared.ends.TurnEnd.TheVariants as ends
 
@@ -65,41 +65,48 @@ is_retiring ends.Idle = false
 is_retiring ends.TagsOut = false
 is_retiring ends.Memory = false
 
-abbrev pub retired : {T : Type 0} → Event T → Bool
-retired event = is_retiring event.ended
+-- whether the turn of an event came to its effect
+abbrev pub is_retirement : {T : Type 0} → Event T → Bool
+is_retirement event = is_retiring event.ended
 
+-- what an access touches
 abbrev pub touch_of : Access → Option Touch
 touch_of access.None = None
 touch_of (access.Load addr width signed) = Some (record { address = addr; bytes = bytes_of width; stores = false })
 touch_of (access.Store addr width value) = Some (record { address = addr; bytes = bytes_of width; stores = true })
 
+-- what the rule was asked with, where the checks passed
 abbrev pub asked_in : {T : Type 0} → Result (Look T) Stop → Option (Asked T)
 asked_in (Ok look) = Some (record { group = look.group; inputs = look.inputs })
 asked_in (Err why) = None
 
+-- what the instruction touches, where the checks passed
 abbrev pub touched_in : {T : Type 0} → Result (Look T) Stop → Option Touch
 touched_in (Ok look) = touch_of look.effect.access
 touched_in (Err why) = None
 
+-- the policy's service that was called, where the checks passed
 abbrev pub called_in : {T : Type 0} → Args T → Result (Look T) Stop → Option (Call T)
 called_in arguments (Ok look) = if is_call look.group then Some (record { number = look.service; arguments = arguments }) else None
 called_in arguments (Err why) = None
 
+-- what the service did, where nothing refused it
 abbrev pub work_in : {T : Type 0} → Result (Option (Job T)) Stop → Option (Work T)
 work_in (Ok (Some job)) = Some (record { range = job.plan.range; zero = job.plan.zero; answer = job.plan.answer })
 work_in (Ok None) = None
 work_in (Err why) = None
 
 module _ {S T : Type 0} (m : PolicyModel T S) (s : Machine S T) (feed : List ℕ) (h : ℕ) where
+  -- the event of a hart that is ready, or of one that is not, which asked for nothing
   abbrev pub event_by : Bool → Event T
   event_by true = record {
     hart = h;
     pc = (hart_at s.core h).pc;
     word = slice_index s.core.ram.words ((hart_at s.core h).pc / 4);
     ended = (turn_of m s feed h).ended;
-    asked = asked_in (prepared m s h);
-    access = touched_in (prepared m s h);
-    call = called_in (args_on (hart_at s.core h) s.core.ram) (prepared m s h);
+    asked = asked_in (preparation m s h);
+    access = touched_in (preparation m s h);
+    call = called_in (args_on (hart_at s.core h) s.core.ram) (preparation m s h);
     work = work_in (job_at m s h);
   }
   event_by false = record {
@@ -113,5 +120,6 @@ module _ {S T : Type 0} (m : PolicyModel T S) (s : Machine S T) (feed : List ℕ
     work = None;
   }
 
+  -- what is told of the turn of the hart
   unfoldable pub event_of : Event T
   event_of = event_by (is_ready_in s.core h)

@@ -1,6 +1,6 @@
 pub mod Accounts
 pub mod Events
-pub mod Laws
+pub mod EngineLaws
 pub mod Machine
 pub mod Maps
 pub mod Mirrored

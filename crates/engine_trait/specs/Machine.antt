@@ -6,17 +6,20 @@ use Rattle.tag_memory.specs.Hart.{HartState, IsHartOf, fresh_hart}
 use Rattle.tag_memory.specs.Ram.{IsRamOf, RamState, ram_bytes}
 use Rattle.turn_steps.specs.declared.stop.Stop.{Stop}
 
+-- harts, their stops, and memory
 pub record CoreState (T : Type 0) : Type 0 where
   pub harts : List (HartState T)
   -- why each hart stopped, if it did: a place for each of at most eight harts
   pub stops : List (Option Stop)
   pub ram : RamState T
 
+-- one to eight harts, and eight places for their stops
 pub record IsCore {T : Type 0} (core : CoreState T) : Type 0 where
   pub some : 1 ≤ length core.harts
   pub few : length core.harts ≤ 8
   pub stops : length core.stops ≡ 8
 
+-- the policy's value, and the harts and memory that run under it
 pub record Machine (S T : Type 0) : Type 0 where
   pub policy : S
   pub core : CoreState T
@@ -33,12 +36,15 @@ pub record IsMachine {S T : Type 0} (m : PolicyModel T S) (s : Machine S T) : Ty
 abbrev pub fresh_core : {T : Type 0} → List (HartState T) → RamState T → CoreState T
 fresh_core harts ram = record { harts = harts; stops = replicate 8 None; ram = ram }
 
+-- the hart of a number
 abbrev pub hart_at : {T : Type 0} → CoreState T → ℕ → HartState T
 hart_at core h = slice_index_or core.harts h (fresh_hart 0 core.ram.plain core.ram.plain)
 
+-- why the hart of a number stopped, if it did
 abbrev pub stop_at : {T : Type 0} → CoreState T → ℕ → Option Stop
 stop_at core h = slice_index_or core.stops h None
 
+-- whether there is no stop
 abbrev pub has_no_stop : Option Stop → Bool
 has_no_stop None = true
 has_no_stop (Some why) = false
@@ -47,9 +53,10 @@ has_no_stop (Some why) = false
 abbrev pub is_ready_in : {T : Type 0} → CoreState T → ℕ → Bool
 is_ready_in core h = nat_lt h (length core.harts) && has_no_stop (stop_at core h)
 
--- with that hart and that memory, or with that hart stopped
+-- with that hart and that memory
 abbrev pub with_hart : {T : Type 0} → CoreState T → ℕ → HartState T → RamState T → CoreState T
 with_hart core h hart ram = record core { harts = slice_set core.harts h hart; ram = ram }
 
+-- with that hart stopped
 abbrev pub stopping : {T : Type 0} → CoreState T → ℕ → Stop → CoreState T
 stopping core h why = record core { stops = slice_set core.stops h (Some why) }

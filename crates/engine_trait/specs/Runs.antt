@@ -16,10 +16,12 @@ pub record Trace (S T : Type 0) : Type 0 where
   pub feed : List ℕ
   pub events : List (Event T)
 
+-- the same with one more event in front
 abbrev pub with_event : {S T : Type 0} → Event T → Trace S T → Trace S T
 with_event event trace = record trace { events = event ∷ trace.events }
 
 module _ {S T : Type 0} (m : PolicyModel T S) where
+  -- the turns of the list in their order, and each byte fed at its place in it
   abbrev pub run_along : Machine S T → List ℕ → List Item → Trace S T
   run_along s feed [] = record { machine = s; feed = feed; events = [] }
   run_along s feed (turn h ∷ items) =

@@ -1,9 +1,9 @@
 -- An engine as its callers see it, and one step of it: the turn of a hart with what it leaves of the account.
 use Rattle.std.specs.Prelude.{◌≡◌, ◌⊎◌, ℕ, Bool, true, false, ◌&&◌, List, Option, Some, None, IsOk}
 use Rattle.policy_trait.specs.Model.{PolicyModel}
-use Rattle.engine_trait.specs.Accounts.{Account, accounted, before_out, is_over, look_counted, rule_counted}
+use Rattle.engine_trait.specs.Accounts.{Account, account_after_turn, before_out, is_over, look_counted, rule_counted}
 use Rattle.engine_trait.specs.Machine.{Machine, is_ready_in}
-use Rattle.engine_trait.specs.Turn.{prepared, stopped_at, turn_of}
+use Rattle.engine_trait.specs.Turn.{preparation, stopped_at, turn_of}
 use Rattle.engine_trait.specs.declared.ends.Halt.{Halt}
 use Rattle.engine_trait.specs.declared.ends.Halt.TheVariants as halt
 use Rattle.turn_steps.specs.declared.stop.Stop.{Stop}
@@ -22,6 +22,7 @@ pub record Stepped (S T : Type 0) : Type 0 where
   pub feed : List ℕ
   pub ended : TurnEnd
 
+-- whether nothing stopped the engine as a whole
 abbrev pub is_running : Option Halt → Bool
 is_running None = true
 is_running (Some why) = false
@@ -36,9 +37,9 @@ wanting account = record account { halt = Some halt.Memory }
 
 module _ {S T : Type 0} (eq : T → T → Bool) (m : PolicyModel T S) (e : Standing S T) (feed : List ℕ) (h : ℕ) where
   -- the turn is made: it is the machine's, and it is counted
-  abbrev pub made : Stepped S T
-  made = record {
-    standing = record { machine = (turn_of m e.machine feed h).machine; account = accounted eq m e.machine h e.account };
+  abbrev pub made_step : Stepped S T
+  made_step = record {
+    standing = record { machine = (turn_of m e.machine feed h).machine; account = account_after_turn eq m e.machine h e.account };
     feed = (turn_of m e.machine feed h).feed;
     ended = (turn_of m e.machine feed h).ended;
   }
@@ -52,6 +53,7 @@ module _ {S T : Type 0} (eq : T → T → Bool) (m : PolicyModel T S) (e : Stand
     ended = ends.TagsOut;
   }
 
+  -- no turn is made, and nothing changes
   abbrev pub idle : Stepped S T
   idle = record { standing = e; feed = feed; ended = ends.Idle }
 
@@ -59,16 +61,17 @@ module _ {S T : Type 0} (eq : T → T → Bool) (m : PolicyModel T S) (e : Stand
   abbrev pub step_by : Bool → Bool → Stepped S T
   step_by false over = idle
   step_by true true = out_of_words
-  step_by true false = made
+  step_by true false = made_step
 
+  -- one turn of the hart by an engine
   unfoldable pub step : Stepped S T
-  step = step_by (is_ready e h) (is_over (accounted eq m e.machine h e.account))
+  step = step_by (is_ready e h) (is_over (account_after_turn eq m e.machine h e.account))
 
   -- Memory ran out in a turn that came to its rule: the look-up is counted, and the rule is kept where the turn came to its
   -- service; the engine is stopped, the turn is not counted, and nothing else changes.
   pub record GivesUp (f : Standing S T) (fed : List ℕ) : Type 0 where
     pub ready : is_ready e h ≡ true
-    pub asked : IsOk (prepared m e.machine h)
+    pub asked : IsOk (preparation m e.machine h)
     pub machine : f.machine ≡ e.machine
     pub unfed : fed ≡ feed
     pub account : (f.account ≡ wanting (look_counted eq m e.machine h e.account)) ⊎ (f.account ≡ wanting (rule_counted eq m e.machine h e.account))

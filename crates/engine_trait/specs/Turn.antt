@@ -11,9 +11,9 @@ use Rattle.policy_trait.specs.declared.services.PlanEnd.{PlanEnd}
 use Rattle.policy_trait.specs.declared.services.PlanEnd.TheVariants as plan_end
 use Rattle.tag_memory.specs.Hart.{moved_to}
 use Rattle.tag_memory.specs.Ram.{ram_tag, ram_word}
-use Rattle.monitor_calls.specs.Service.{Job, served}
-use Rattle.turn_steps.specs.Effects.{Carried, carried_out}
-use Rattle.turn_steps.specs.Looks.{is_call, looked}
+use Rattle.monitor_calls.specs.Service.{Job, service_job}
+use Rattle.turn_steps.specs.Effects.{Carried, effect_result}
+use Rattle.turn_steps.specs.Looks.{is_call, look_result}
 use Rattle.turn_steps.specs.Services.{args_on, with_answer, with_words}
 use Rattle.turn_steps.specs.declared.effects.Done.{Done}
 use Rattle.turn_steps.specs.declared.effects.Done.TheVariants as done
@@ -39,19 +39,20 @@ or_fault (Err fault) = Err (stop.Fault fault)
 abbrev pub violation : ℕ → Refused → Stop
 violation pc refused = stop.Violation refused.part refused.why pc
 
+-- a policy's refusal as a stop at that pc
 abbrev pub or_violation : {A : Type 0} → ℕ → Result A Refused → Result A Stop
 or_violation pc (Ok x) = Ok x
 or_violation pc (Err refused) = Err (violation pc refused)
 
 -- why a service was not served, as a stop
-abbrev pub unserved : ℕ → ℕ → PlanEnd → Stop
-unserved pc service (plan_end.Refused refused) = violation pc refused
-unserved pc service plan_end.Spent = stop.Fault (Spent service)
+abbrev pub service_stop : ℕ → ℕ → PlanEnd → Stop
+service_stop pc service (plan_end.Refused refused) = violation pc refused
+service_stop pc service plan_end.Spent = stop.Fault (Spent service)
 
 -- the work of a service, or why it was not served
 abbrev pub or_unserved : {T : Type 0} → ℕ → ℕ → Result (Job T) PlanEnd → Result (Option (Job T)) Stop
 or_unserved pc service (Ok job) = Ok (Some job)
-or_unserved pc service (Err end) = Err (unserved pc service end)
+or_unserved pc service (Err end) = Err (service_stop pc service end)
 
 -- ---- the core after the effect
 
@@ -66,14 +67,17 @@ core_ended core h carried (done.Stepped byte) = with_hart core h carried.hart ca
 core_ended core h carried done.Broke = with_hart core h carried.hart carried.ram
 core_ended core h carried (done.Exited code) = stopping (with_hart core h carried.hart carried.ram) h (stop.Exit code)
 
+-- how a turn ended whose instruction ended so
 abbrev pub end_of : Done → TurnEnd
 end_of (done.Stepped byte) = ends.Ran byte
 end_of done.Broke = ends.Break
 end_of (done.Exited code) = ends.Stopped (stop.Exit code)
 
+-- what the instruction leaves of the hart, of memory and of the feed
 unfoldable pub carried_at : {T : Type 0} → CoreState T → List ℕ → ℕ → Look T → Outs T → Carried T
-carried_at core feed h look outs = carried_out (hart_at core h) core.ram feed look outs
+carried_at core feed h look outs = effect_result (hart_at core h) core.ram feed look outs
 
+-- the core after that instruction
 unfoldable pub core_effected : {T : Type 0} → CoreState T → List ℕ → ℕ → Look T → Outs T → CoreState T
 core_effected core feed h look outs = core_ended core h (carried_at core feed h look outs) (carried_at core feed h look outs).done
 
@@ -88,38 +92,39 @@ module _ {S T : Type 0} (m : PolicyModel T S) (s : Machine S T) where
   abbrev pub is_offered : Look T → Bool
   is_offered look = not (is_call look.group) || m.knows s.policy look.service
 
-  abbrev pub offered : Look T → Result (Look T) Stop
-  offered look = if is_offered look then Ok look else Err (stop.Fault (NoService look.service))
+  -- the look, or the fault of a call of a service that the policy doesn't know
+  abbrev pub service_look : Look T → Result (Look T) Stop
+  service_look look = if is_offered look then Ok look else Err (stop.Fault (NoService look.service))
 
   -- fetch, decode, alignment and range of the access, alignment of the jump; then the service's number
-  unfoldable pub prepared : ℕ → Result (Look T) Stop
-  prepared h = or_fault (looked (hart_at s.core h) s.core.ram) >>= offered
+  unfoldable pub preparation : ℕ → Result (Look T) Stop
+  preparation h = or_fault (look_result (hart_at s.core h) s.core.ram) >>= service_look
 
   -- the rule
-  unfoldable pub allowed : ℕ → Look T → Result (Outs T) Stop
-  allowed h look = or_violation (hart_at s.core h).pc (m.rule s.policy look.group look.inputs)
+  unfoldable pub rule_answer : ℕ → Look T → Result (Outs T) Stop
+  rule_answer h look = or_violation (hart_at s.core h).pc (m.rule s.policy look.group look.inputs)
 
   -- what the policy's service that is called will do: its plan, and the words of the plan's range
   unfoldable pub service_on : ℕ → Look T → Outs T → Result (Job T) PlanEnd
   service_on h look outs =
-      served m s.policy (ram_word s.core.ram) (ram_tag s.core.ram) look.service (args_on (hart_at s.core h) s.core.ram) outs.pc
+      service_job m s.policy (ram_word s.core.ram) (ram_tag s.core.ram) look.service (args_on (hart_at s.core h) s.core.ram) outs.pc
 
   -- the policy's service, where the instruction calls one
-  unfoldable pub planned : ℕ → Look T → Outs T → Result (Option (Job T)) Stop
-  planned h look outs =
+  unfoldable pub turn_job : ℕ → Look T → Outs T → Result (Option (Job T)) Stop
+  turn_job h look outs =
       if is_call look.group then or_unserved (hart_at s.core h).pc look.service (service_on h look outs) else Ok None
 
   -- the service's work, where the turn comes to it and nothing refuses; None for any other instruction
   unfoldable pub job_at : ℕ → Result (Option (Job T)) Stop
   job_at h = do
-    look ← prepared h
-    outs ← allowed h look
-    planned h look outs
+    look ← preparation h
+    outs ← rule_answer h look
+    turn_job h look outs
 
 module _ {S T : Type 0} (m : PolicyModel T S) (s : Machine S T) (feed : List ℕ) (h : ℕ) where
   -- the effect: that of the service, of which the policy takes note, or that of the instruction
-  abbrev pub effected : Look T → Outs T → Option (Job T) → Turned S T
-  effected look outs (Some job) = record {
+  abbrev pub turn_effect : Look T → Outs T → Option (Job T) → Turned S T
+  turn_effect look outs (Some job) = record {
     machine = record {
       policy = m.commit s.policy job.plan;
       core = core_served s.core h job.words job.plan.answer look.effect.next outs.pc;
@@ -127,7 +132,7 @@ module _ {S T : Type 0} (m : PolicyModel T S) (s : Machine S T) (feed : List ℕ
     feed = feed;
     ended = ends.Ran None;
   }
-  effected look outs None = record {
+  turn_effect look outs None = record {
     machine = record s { core = core_effected s.core feed h look outs };
     feed = (carried_at s.core feed h look outs).feed;
     ended = end_of (carried_at s.core feed h look outs).done;
@@ -136,18 +141,19 @@ module _ {S T : Type 0} (m : PolicyModel T S) (s : Machine S T) (feed : List ℕ
   -- the steps in a row: the first that fails decides
   unfoldable pub attempt : Result (Turned S T) Stop
   attempt = do
-    look ← prepared m s h
-    outs ← allowed m s h look
-    job ← planned m s h look outs
-    Ok (effected look outs job)
+    look ← preparation m s h
+    outs ← rule_answer m s h look
+    job ← turn_job m s h look outs
+    Ok (turn_effect look outs job)
 
   -- a failure sets that hart's stop, and changes nothing else
-  abbrev pub settled : Result (Turned S T) Stop → Turned S T
-  settled (Ok turned) = turned
-  settled (Err why) = record { machine = stopped_at s h why; feed = feed; ended = ends.Stopped why }
+  abbrev pub settlement : Result (Turned S T) Stop → Turned S T
+  settlement (Ok turned) = turned
+  settlement (Err why) = record { machine = stopped_at s h why; feed = feed; ended = ends.Stopped why }
 
+  -- the turn of a hart that is ready, or of one that is not
   abbrev pub turn_by : Bool → Turned S T
-  turn_by true = settled attempt
+  turn_by true = settlement attempt
   turn_by false = record { machine = s; feed = feed; ended = ends.Idle }
 
   -- the turn of a hart that is not there or has stopped is idle

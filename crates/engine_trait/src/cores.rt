@@ -1,8 +1,10 @@
+//! The core of an engine: harts, their stops, and memory.
+
 ghost use Rattle.std.specs.Prelude.{◌≡◌, ◌≢◌, ◌%◌, ◌<◌, ◌≤◌, false, IfOk, length};
 ghost use Rattle.std.specs.List.{All};
 ghost use Rattle.tag_memory.specs.Ram.{IsPlace, ram_bytes};
 ghost use Rattle.turn_steps.specs.Effects.{IsSound};
-ghost use Rattle.turn_steps.specs.Looks.{is_call, looked};
+ghost use Rattle.turn_steps.specs.Looks.{is_call, look_result};
 ghost use Rattle.turn_steps.specs.Services.{args_on};
 ghost use Rattle.engine_trait.specs.Machine.{CoreState, fresh_core, hart_at, stop_at, stopping};
 ghost use Rattle.engine_trait.specs.Standing.{IsFailure};
@@ -17,11 +19,14 @@ use turn_steps::{
     Done, Feed, Look, Stop, answer_to, arguments_of, carry_out, look_ahead, write_words,
 };
 
+/// The most harts of a machine.
+pub const MOST_HARTS: usize = 8;
+
 /// Harts, their stops, and memory, for any type of tags: what every engine stands on. Contracts see it as a `CoreState`.
 #[derive(Drop)]
 pub struct Core<T: Copy> {
     harts: Vec<Hart<T>>,
-    stops: [Option<Stop>; 8],
+    stops: [Option<Stop>; MOST_HARTS],
     ram: Ram<T>,
 }
 
@@ -44,7 +49,7 @@ impl<T: Copy> Core<T> {
     {
         Core {
             harts,
-            stops: [None; 8],
+            stops: [None; MOST_HARTS],
             ram,
         }
     }
@@ -86,7 +91,7 @@ impl<T: Copy> Core<T> {
     /// What the hart is about to do, or the first of the checks that fails.
     pub fn look(&self, h: u32) -> Result<Look<T>, Fault>
         requires { h < length self.now.harts }
-        ensures value { result ≡ looked (hart_at self.now h) self.now.ram }
+        ensures value { result ≡ look_result (hart_at self.now h) self.now.ram }
         ensures safe { IfOk result (λ look. IsSound (ram_bytes self.now.ram) look.effect) }
     {
         look_ahead(&self.harts[h as usize], &self.ram)

@@ -1,3 +1,5 @@
+//! How a turn ended, why an engine or a start stops, and the counts of an engine.
+
 use turn_steps::Stop;
 
 /// How a turn ended.

@@ -1,3 +1,5 @@
+//! What engines and loaders promise.
+
 ghost use Rattle.std.specs.Prelude.{◌≡◌, ◌≢◌, ◌+◌, ◌%◌, ◌<◌, ◌≤◌, false, true, Err, IfOk, is_some, length};
 ghost use Rattle.tag_memory.specs.Hart.{reg_tag, reg_value};
 ghost use Rattle.tag_memory.specs.Ram.{ram_bytes, ram_tag, ram_word};

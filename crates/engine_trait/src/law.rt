@@ -3,8 +3,8 @@
 ghost use Rattle.std.specs.Prelude.{◌≡◌, ◌≢◌, ℕ, ◌<◌, ◌≤◌, List, false, true, length};
 ghost use Rattle.policy_trait.specs.Mirrors.{Mirrors};
 ghost use Rattle.engine_trait.specs.Accounts.{IsUncached};
-ghost use Rattle.engine_trait.specs.Events.{event_of, retired};
-ghost use Rattle.engine_trait.specs.Laws.{FollowsTurn, HasPlainZero, RunsOut, StaysIdle, StaysMachine, is_made};
+ghost use Rattle.engine_trait.specs.Events.{event_of, is_retirement};
+ghost use Rattle.engine_trait.specs.EngineLaws.{FollowsTurn, HasPlainZero, RunsOut, StaysIdle, StaysMachine, is_made};
 ghost use Rattle.engine_trait.specs.Machine.{IsMachine, Machine, is_ready_in};
 ghost use Rattle.engine_trait.specs.Maps.{machine_by, turned_by};
 ghost use Rattle.engine_trait.specs.Mirrored.{IsMirrored, StepsMirrored};
@@ -35,7 +35,7 @@ pub fn idle_law<P: Policy>()
     ensures idle { (s : Machine P P.Tag) (feed : List ℕ) (h : ℕ) → is_ready_in s.core h ≡ false
         → turn_of P.model s feed h ≡ record { machine = s; feed = feed; ended = TurnEnd.Idle } }
     ensures event { (s : Machine P P.Tag) (feed : List ℕ) (h : ℕ) → is_ready_in s.core h ≡ false
-        → retired (event_of P.model s feed h) ≡ false }
+        → is_retirement (event_of P.model s feed h) ≡ false }
 {}
 
 /// A step in which the hart had its turn is the machine's turn, counted, and the engine runs on; a step that ran out of

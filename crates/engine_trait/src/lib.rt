@@ -9,7 +9,7 @@ mod ends;
 mod engine;
 mod law;
 
-pub use cores::Core;
+pub use cores::{Core, MOST_HARTS};
 pub use ends::{Counts, Halt, LoadEnd, TurnEnd};
 pub use engine::{Engine, Loader};
 pub use law::{idle_law, mirror_law, plain_law, step_law, turn_law};

@@ -1,12 +1,12 @@
 -- Each input that a rule does not ignore changes an answer: where all is allowed, a tag in its place that is not.
 use Rattle.std.proofs.Common.{◌≡◌, ℕ, true, false, List, Some, Result, Ok, Err}
 use Rattle.rv_decode.specs.declared.groups.Group.{Group}
-use Rattle.policy_trait.specs.LawsLemmas.{ignored_input}
+use Rattle.policy_trait.specs.UseLaws.{ignored_input}
 use Rattle.policy_trait.specs.Uses.{Input, Pc, Instruction, First, Second, Word, UsesExactly, is_ignored, with_input}
 use Rattle.policy_trait.specs.declared.rules.Ins.{Ins}
 use Rattle.policy_trait.specs.declared.rules.Outs.{Outs}
 use Rattle.policy_trait.specs.declared.rules.Refused.{Refused}
-use Rattle.flow_policy.specs.Flow.{HoldsAlways, effect_of, entered, flow, ignores_by, rule_by}
+use Rattle.flow_policy.specs.Flow.{HoldsAlways, effect_of, entry_label, flow, ignores_by, rule_by}
 use Rattle.flow_policy.specs.FlowLaws.{flow_laws}
 use Rattle.flow_policy.specs.declared.table.Effect.{Effect}
 use Rattle.flow_policy.specs.declared.table.Effect.TheVariants.{Jumps, Stores, GoesOn}
@@ -27,7 +27,7 @@ not_refused : {P : Type 0} (refused : Refused) (outs : Outs FlowTag) → refusal
 not_refused refused outs e = cc
 
 abbrev rule_at : List (ℕ × ℕ) → Effect → Group → Ins FlowTag → Result (Outs FlowTag) Refused
-rule_at edges effect g x = rule_by effect g (entered edges x.pc x.ci) x.tm
+rule_at edges effect g x = rule_by effect g (entry_label edges x.pc x.ci) x.tm
 
 -- the plain tag is allowed at none of the three
 differs : (edges : List (ℕ × ℕ)) (g : Group) (effect : Effect) (i : Input) → is_ignored (ignores_by effect) i ≡ false

@@ -49,8 +49,8 @@ entered_by edges pc None = None
 entered_by edges pc (Some label) = if may_enter edges pc label then Some label else None
 
 -- the label, if there is one, of the code word that the pc may come to; none at all where it may not
-abbrev pub entered : List (ℕ × ℕ) → FlowTag → FlowTag → Option (Option ℕ)
-entered edges pc instruction = entered_by edges pc (label_of instruction)
+abbrev pub entry_label : List (ℕ × ℕ) → FlowTag → FlowTag → Option (Option ℕ)
+entry_label edges pc instruction = entered_by edges pc (label_of instruction)
 
 -- ---- the rules
 
@@ -82,17 +82,17 @@ ignores_by effect = record { pc = false; ci = false; t1 = true; t2 = true; tm = 
 abbrev pub refused_for : Why → Refused
 refused_for reason = record { part = part.Flow; why = reason }
 
-abbrev pub decided : Group → Option (Outs FlowTag) → Result (Outs FlowTag) Refused
-decided g None = Err (refused_for (why.Rule g))
-decided g (Some outs) = Ok outs
+abbrev pub outs_or_refusal : Group → Option (Outs FlowTag) → Result (Outs FlowTag) Refused
+outs_or_refusal g None = Err (refused_for (why.Rule g))
+outs_or_refusal g (Some outs) = Ok outs
 
 -- the rule of a group with this effect, where the pc comes to a code word with this label
 abbrev pub rule_by : Effect → Group → Option (Option ℕ) → FlowTag → Result (Outs FlowTag) Refused
 rule_by effect g None word = Err (refused_for (why.Rule g))
-rule_by effect g (Some label) word = decided g (outs_by effect label word)
+rule_by effect g (Some label) word = outs_or_refusal g (outs_by effect label word)
 
 abbrev pub flow_rule : List (ℕ × ℕ) → Group → Ins FlowTag → Result (Outs FlowTag) Refused
-flow_rule edges g x = rule_by (effect_of g) g (entered edges x.pc x.ci) x.tm
+flow_rule edges g x = rule_by (effect_of g) g (entry_label edges x.pc x.ci) x.tm
 
 abbrev pub flow_ignores : Group → Mask
 flow_ignores g = ignores_by (effect_of g)

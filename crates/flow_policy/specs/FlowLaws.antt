@@ -1,10 +1,10 @@
 -- Flow keeps the laws of a policy.
 use Rattle.std.proofs.Common.{◌≡◌, ℕ, false, Option, Some, None, List, IsTrue, refl}
 use Rattle.rv_decode.specs.declared.groups.Group.{Group}
-use Rattle.policy_trait.specs.Laws.{KeepsLaws}
-use Rattle.policy_trait.specs.Model.{masked}
+use Rattle.policy_trait.specs.PolicyLaws.{KeepsLaws}
+use Rattle.policy_trait.specs.Model.{masked_inputs}
 use Rattle.policy_trait.specs.declared.rules.Ins.{Ins}
-use Rattle.flow_policy.specs.Flow.{HoldsAlways, effect_of, entered, flow, flow_rule, flow_ignores, ignores_by, rule_by}
+use Rattle.flow_policy.specs.Flow.{HoldsAlways, effect_of, entry_label, flow, flow_rule, flow_ignores, ignores_by, rule_by}
 use Rattle.flow_policy.specs.declared.table.Effect.{Effect}
 use Rattle.flow_policy.specs.declared.table.Effect.TheVariants.{Jumps, Stores, GoesOn}
 use Rattle.flow_policy.specs.declared.tag.FlowTag.{FlowTag}
@@ -12,7 +12,7 @@ use Rattle.flow_policy.specs.declared.tag.FlowTag.TheVariants.{Plain}
 
 -- the memory word's tag, or the plain one where it is ignored
 abbrev word_seen : Effect → FlowTag → FlowTag
-word_seen effect word = (masked (ignores_by effect) Plain (record { pc = Plain; ci = Plain; t1 = Plain; t2 = Plain; tm = word })).tm
+word_seen effect word = (masked_inputs (ignores_by effect) Plain (record { pc = Plain; ci = Plain; t1 = Plain; t2 = Plain; tm = word })).tm
 
 word_masked : (effect : Effect) (g : Group) (label : Option (Option ℕ)) (word : FlowTag)
     → rule_by effect g label word ≡ rule_by effect g label (word_seen effect word)
@@ -22,8 +22,8 @@ word_masked Jumps g (Some label) word = refl
 word_masked GoesOn g None word = refl
 word_masked GoesOn g (Some label) word = refl
 
-rule_masked : (edges : List (ℕ × ℕ)) (g : Group) (x : Ins FlowTag) → flow_rule edges g x ≡ flow_rule edges g (masked (flow_ignores g) Plain x)
-rule_masked edges g x = word_masked (effect_of g) g (entered edges x.pc x.ci) x.tm
+rule_masked : (edges : List (ℕ × ℕ)) (g : Group) (x : Ins FlowTag) → flow_rule edges g x ≡ flow_rule edges g (masked_inputs (flow_ignores g) Plain x)
+rule_masked edges g x = word_masked (effect_of g) g (entry_label edges x.pc x.ci) x.tm
 
 -- no service is known
 unknown : {P : Type 0} → IsTrue false → P

@@ -3,7 +3,7 @@
 ghost use Rattle.std.specs.Prelude.{◌≡◌, ◌+◌, ◌≤◌, ◌++◌, IfOk, OnErr, OnOk};
 ghost use Rattle.arrayvec.specs.ArrayVec.{array_vec_len};
 ghost use Rattle.flow_policy.specs.Sorted.{AreSorted};
-ghost use Rattle.flow_policy.specs.Flow.{entered, flow, is_edge, label_text, may_enter};
+ghost use Rattle.flow_policy.specs.Flow.{entry_label, flow, is_edge, label_text, may_enter};
 
 use crate::table::{effect_of, is_data, label_of, refused};
 use crate::tag::FlowTag;
@@ -66,7 +66,7 @@ impl Flow {
 
     /// The label, if there is one, of the code word that the pc may come to; `None` where the policy does not allow it.
     fn entered(&self, pc: FlowTag, instruction: FlowTag) -> Option<Option<u32>>
-        ensures { result ≡ entered self.now pc instruction }
+        ensures { result ≡ entry_label self.now pc instruction }
     {
         let label = label_of(instruction)?;
         self.may_enter(pc, label).then_some(label)

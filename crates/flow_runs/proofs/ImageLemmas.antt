@@ -14,7 +14,7 @@ use Rattle.policy_parts.specs.Part.{word_tag}
 use Rattle.flow_policy.specs.Flow.{flow, flow_start_word}
 use Rattle.flow_policy.specs.declared.tag.FlowTag.{FlowTag}
 use Rattle.flow_policy.specs.declared.tag.FlowTag.TheVariants.{Plain, Still, From, Code, Data}
-use Rattle.part_turns.proofs.Places.{store_tag, store_tag_other, store_word_other}
+use Rattle.part_turns.proofs.PlaceLemmas.{store_tag, store_tag_other, store_word_other}
 
 -- what the line says of memory
 pub record HoldsImage (birth : ℕ → Birth) (words : List ℕ) (ram : RamState FlowTag) : Type 0 where

@@ -8,7 +8,7 @@ use Rattle.rv_step.specs.declared.accesses.Access.{Access}
 use Rattle.rv_step.specs.declared.accesses.Access.TheVariants as access
 use Rattle.rv_step.specs.declared.accesses.Width.{Width}
 use Rattle.rv_step.specs.declared.accesses.Width.TheVariants.{Full}
-use Rattle.policy_trait.specs.Laws.{IsRange}
+use Rattle.policy_trait.specs.PolicyLaws.{IsRange}
 use Rattle.policy_trait.specs.declared.birth.Birth.{Birth}
 use Rattle.policy_trait.specs.declared.rules.Outs.{Outs}
 use Rattle.policy_trait.specs.declared.services.Plan.{Plan}
@@ -24,7 +24,7 @@ use Rattle.engine_trait.specs.Events.{Event}
 use Rattle.engine_trait.specs.Machine.{IsMachine, Machine, hart_at, with_hart}
 use Rattle.engine_trait.specs.Turn.{core_served, stopped_at}
 use Rattle.policy_parts.specs.Part.{beside_others}
-use Rattle.part_turns.proofs.Places.{IsServed, each_served, kept, store_plain, there, words_plain, written}
+use Rattle.part_turns.proofs.PlaceLemmas.{IsServed, each_served, kept, store_plain, there, words_plain, written}
 use Rattle.part_turns.specs.Keeps.{Keeps}
 use Rattle.part_turns.specs.Turns.{Allows, Does, Turns, after_service, after_step, computes, exits, goes, idles, loads, loads_part, moves, serves, stops, stores, stores_part}
 use Rattle.flow_policy.specs.Flow.{effect_of, flow, outs_by}

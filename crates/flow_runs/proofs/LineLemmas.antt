@@ -6,7 +6,7 @@ use Rattle.policy_trait.specs.declared.birth.Birth.{Birth}
 use Rattle.tag_memory.specs.Hart.{HartState}
 use Rattle.tag_memory.specs.Ram.{RamState}
 use Rattle.turn_steps.specs.declared.stop.Stop.{Stop}
-use Rattle.engine_trait.specs.Events.{Event, retired}
+use Rattle.engine_trait.specs.Events.{Event, is_retirement}
 use Rattle.engine_trait.specs.Machine.{CoreState, Machine, has_no_stop, hart_at, is_ready_in, stop_at, stopping, with_hart}
 use Rattle.engine_trait.specs.Turn.{stopped_at}
 use Rattle.part_turns.specs.Moments.{is_turn_of}
@@ -14,7 +14,7 @@ use Rattle.flow_policy.specs.declared.tag.FlowTag.{FlowTag}
 use Rattle.flow_runs.specs.EdgeWalk.{Visit, visit_of, walk_of}
 use Rattle.flow_runs.specs.FlowLine.{FlowLine, last_of, pc_after}
 use Rattle.flow_runs.proofs.ImageLemmas.{HoldsImage}
-use Rattle.part_turns.proofs.Places.{hart_other, hart_same, ready_after, ready_same, there}
+use Rattle.part_turns.proofs.PlaceLemmas.{hart_other, hart_same, ready_after, ready_same, there}
 use Rattle.flow_runs.proofs.WalkLemmas.{last_appended, not_retired, of_hart, of_other, walk_grows, walk_stays}
 
 -- ---- a hart that stops is not ready
@@ -57,10 +57,10 @@ module _ (birth : ℕ → Birth) (words : List ℕ) (edges : List (ℕ × ℕ)) 
     unmoved : (n : ℕ) → is_turn_of n e ≡ false → PcFits after s.core n
     unmoved n is ready = line.pcs n ready ∙ ap (λ (walk : List Visit). pc_after birth words edges (last_of walk)) (sym (walk_stays n e before is))
 
-    pub idle_keeps : retired e ≡ false → Line after s
+    pub idle_keeps : is_retirement e ≡ false → Line after s
     idle_keeps waits = line_of after s (image_of before s line) line.listed (λ n. unmoved n (not_retired n e waits))
 
-    pub stop_keeps : (why : Stop) → retired e ≡ false → Line after (stopped_at s h why)
+    pub stop_keeps : (why : Stop) → is_retirement e ≡ false → Line after (stopped_at s h why)
     stop_keeps why waits =
         line_of after (stopped_at s h why) (image_of before s line) line.listed
         (λ n ready. unmoved n (not_retired n e waits) (ready_after s.core h n why ready))
@@ -73,7 +73,7 @@ module _ (birth : ℕ → Birth) (words : List ℕ) (edges : List (ℕ × ℕ)) 
     exit_keeps why lt own =
         line_of after (stopped_at s h why) (image_of before s line) line.listed (λ n. exit_fits why lt own n (cases_eq n h))
 
-    module _ (hart : HartState FlowTag) (ram : RamState FlowTag) (plain : ram.plain ≡ s.core.ram.plain) (is_retired : retired e ≡ true)
+    module _ (hart : HartState FlowTag) (ram : RamState FlowTag) (plain : ram.plain ≡ s.core.ram.plain) (is_retired : is_retirement e ≡ true)
         (own : e.hart ≡ h) (goes : hart.pc_tag ≡ pc_after birth words edges (Some (visit_of e))) where
       last_here : last_of (walk_of h after) ≡ Some (visit_of e)
       last_here = ap last_of (walk_grows h e before (of_hart h e is_retired own)) ∙ last_appended (walk_of h before) (visit_of e)

@@ -5,7 +5,7 @@ use Rattle.rv_decode.specs.declared.groups.Group.TheVariants as group
 use Rattle.policy_trait.specs.declared.rules.Ins.{Ins}
 use Rattle.policy_trait.specs.declared.rules.Outs.{Outs}
 use Rattle.policy_trait.specs.declared.rules.Refused.{Refused}
-use Rattle.flow_policy.specs.Flow.{decided, effect_of, entered, flow_rule, may_enter, outs_by, rule_by}
+use Rattle.flow_policy.specs.Flow.{outs_or_refusal, effect_of, entry_label, flow_rule, may_enter, outs_by, rule_by}
 use Rattle.flow_policy.specs.declared.tag.FlowTag.{FlowTag}
 use Rattle.flow_policy.specs.declared.tag.FlowTag.TheVariants.{Plain, Still, From, Code, Data}
 use Rattle.part_turns.specs.Turns.{is_jalr_group}
@@ -25,7 +25,7 @@ pub record Entered (edges : List (ℕ × ℕ)) (g : Group) (pc ci tm : FlowTag) 
   pub outs_are : outs_by (effect_of g) label tm ≡ Some outs
 
 module _ (edges : List (ℕ × ℕ)) (g : Group) (pc tm : FlowTag) (outs : Outs FlowTag) where
-  by_outs : (given : Option (Outs FlowTag)) → decided g given ≡ Ok outs → given ≡ Some outs
+  by_outs : (given : Option (Outs FlowTag)) → outs_or_refusal g given ≡ Ok outs → given ≡ Some outs
   by_outs None e = absurd cc
   by_outs (Some given) e = ap (λ (o : Outs FlowTag). Some o) (same_outs given outs e)
 
@@ -35,7 +35,7 @@ module _ (edges : List (ℕ × ℕ)) (g : Group) (pc tm : FlowTag) (outs : Outs 
   by_entry label true is e = record { label = label; code = refl; may = is; outs_are = by_outs (outs_by (effect_of g) label tm) e }
   by_entry label false is e = absurd cc
 
-  by_instruction : (ci : FlowTag) → rule_by (effect_of g) g (entered edges pc ci) tm ≡ Ok outs → Entered edges g pc ci tm outs
+  by_instruction : (ci : FlowTag) → rule_by (effect_of g) g (entry_label edges pc ci) tm ≡ Ok outs → Entered edges g pc ci tm outs
   by_instruction (Code label) e = by_entry label (may_enter edges pc label) refl e
   by_instruction Plain e = absurd cc
   by_instruction Still e = absurd cc

@@ -11,7 +11,7 @@ use Rattle.engine_trait.specs.Machine.{Machine, hart_at, is_ready_in}
 use Rattle.part_turns.specs.Start.{first_hart, first_machine}
 use Rattle.flow_runs.specs.EdgeWalk.{walk_of}
 use Rattle.flow_runs.specs.FlowLine.{FlowLine}
-use Rattle.part_turns.proofs.Places.{there}
+use Rattle.part_turns.proofs.PlaceLemmas.{there}
 
 module _ (birth : ℕ → Birth) (words entries : List ℕ) (edges : List (ℕ × ℕ)) where
   abbrev start : Machine (List (ℕ × ℕ)) FlowTag

@@ -7,7 +7,7 @@ use Rattle.policy_trait.specs.declared.birth.Birth.{Birth}
 use Rattle.policy_trait.specs.declared.rules.Outs.{Outs}
 use Rattle.tag_memory.specs.Hart.{IsHartOf, fresh_hart}
 use Rattle.turn_steps.specs.declared.look.Look.{Look}
-use Rattle.engine_trait.specs.Events.{Event, retired}
+use Rattle.engine_trait.specs.Events.{Event, is_retirement}
 use Rattle.engine_trait.specs.Machine.{IsMachine, Machine, hart_at}
 use Rattle.part_turns.specs.Moments.{is_jalr}
 use Rattle.part_turns.specs.Turns.{Allows, is_jalr_group}
@@ -18,7 +18,7 @@ use Rattle.flow_runs.specs.EdgeWalk.{Visit, visit_of, walk_of}
 use Rattle.flow_runs.specs.FlowLine.{FlowLine, from_label, last_of, pc_after}
 use Rattle.flow_runs.specs.FlowSafe.{HasLabel, IsCode, IsListed}
 use Rattle.flow_runs.specs.FlowTurn.{FlowTurn}
-use Rattle.part_turns.proofs.Places.{there}
+use Rattle.part_turns.proofs.PlaceLemmas.{there}
 use Rattle.flow_runs.proofs.RuleLemmas.{Entered, jalr_label, pc_is, rule_enters}
 
 -- ---- the tags of words, and edges
@@ -135,7 +135,7 @@ module _ (birth : ℕ → Birth) (words : List ℕ) (edges : List (ℕ × ℕ)) 
 
 -- a turn that doesn't retire promises nothing
 pub no_promise : (birth : ℕ → Birth) (words : List ℕ) (edges : List (ℕ × ℕ)) (before : List (Event FlowTag)) (e : Event FlowTag)
-    → retired e ≡ false → FlowTurn birth words edges before e
+    → is_retirement e ≡ false → FlowTurn birth words edges before e
 no_promise birth words edges before e waits = record {
   code = λ retires. absurd cc;
   labelled = λ retires jumps. absurd cc;

@@ -5,7 +5,7 @@ use Rattle.std.proofs.lemmas.Bool.Decides.{nat_tests}
 use Rattle.std.proofs.lemmas.List.{map-append}
 use Rattle.std.proofs.lemmas.List.Elements.{filter-append}
 use Rattle.std.proofs.lemmas.Option.{same_Some}
-use Rattle.engine_trait.specs.Events.{Event, retired}
+use Rattle.engine_trait.specs.Events.{Event, is_retirement}
 use Rattle.part_turns.specs.Moments.{is_turn_of, turns_of}
 use Rattle.flow_runs.specs.EdgeWalk.{Visit, visit_of, walk_of}
 use Rattle.flow_runs.specs.FlowLine.{last_of}
@@ -13,16 +13,16 @@ use Rattle.flow_runs.specs.FlowLine.{last_of}
 -- ---- whose turn it is
 
 module _ {T : Type 0} (h : ℕ) (e : Event T) where
-  pub not_retired : retired e ≡ false → is_turn_of h e ≡ false
+  pub not_retired : is_retirement e ≡ false → is_turn_of h e ≡ false
   not_retired is = ap (λ (b : Bool). b && (e.hart == h)) is
 
-  pub of_hart : retired e ≡ true → e.hart ≡ h → is_turn_of h e ≡ true
+  pub of_hart : is_retirement e ≡ true → e.hart ≡ h → is_turn_of h e ≡ true
   of_hart is same = grind (arith, nat_tests)
 
   pub of_other : e.hart ≢ h → is_turn_of h e ≡ false
   of_other differs = grind (arith, nat_tests)
 
-  pub retired_there : is_turn_of h e ≡ true → (retired e ≡ true) × (e.hart ≡ h)
+  pub retired_there : is_turn_of h e ≡ true → (is_retirement e ≡ true) × (e.hart ≡ h)
   retired_there is = grind (arith, nat_tests)
 
   -- ---- the walk

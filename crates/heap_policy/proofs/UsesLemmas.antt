@@ -1,7 +1,7 @@
 -- Each input that a rule does not ignore changes an answer: where all is allowed, the tag of a free word is not.
 use Rattle.std.proofs.Common.{◌≡◌, true, false, Result, Ok, Err}
 use Rattle.rv_decode.specs.declared.groups.Group.{Group}
-use Rattle.policy_trait.specs.LawsLemmas.{ignored_input}
+use Rattle.policy_trait.specs.UseLaws.{ignored_input}
 use Rattle.policy_trait.specs.Uses.{Input, Pc, Instruction, First, Second, Word, UsesExactly, is_ignored, with_input}
 use Rattle.policy_trait.specs.declared.rules.Ins.{Ins}
 use Rattle.policy_trait.specs.declared.rules.Outs.{Outs}

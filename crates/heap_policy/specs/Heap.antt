@@ -82,10 +82,10 @@ tag_of contents.Val = Val
 tag_of (contents.Ptr block) = Ptr block
 
 -- what a memory word with this tag holds; a free one holds nothing
-abbrev pub held : HeapTag → Option Content
-held (Static content) = Some content
-held (Cell block content) = Some content
-held _ = None
+abbrev pub word_content : HeapTag → Option Content
+word_content (Static content) = Some content
+word_content (Cell block content) = Some content
+word_content _ = None
 
 -- the tag of a memory word once it holds the content
 abbrev pub holding : Content → HeapTag → Option HeapTag
@@ -105,12 +105,12 @@ abbrev pub val_where : Bool → Option HeapTag
 val_where allowed = if allowed then Some Val else None
 
 -- what the address loads from the word
-abbrev pub loaded : HeapTag → HeapTag → Option Content
-loaded address word = if is_reached address word then held word else None
+abbrev pub load_content : HeapTag → HeapTag → Option Content
+load_content address word = if is_reached address word then word_content word else None
 
 -- the word's tag once the address has stored the content there
-abbrev pub stored : HeapTag → HeapTag → Content → Option HeapTag
-stored address word content = if is_reached address word then holding content word else None
+abbrev pub tag_after_store : HeapTag → HeapTag → Content → Option HeapTag
+tag_after_store address word content = if is_reached address word then holding content word else None
 
 -- a pointer and a value make a pointer to the same block
 abbrev pub sum : HeapTag → HeapTag → Option HeapTag
@@ -157,10 +157,10 @@ result_by TakesFirst first second word = val_where (is_val first)
 result_by TakesSecond first second word = val_where (is_val second)
 result_by TakesBoth first second word = val_where (is_val first && is_val second)
 result_by Moves first second word = option_map tag_of (content_of first)
-result_by Loads first second word = option_map tag_of (loaded first word)
+result_by Loads first second word = option_map tag_of (load_content first word)
 result_by LoadsPart first second word = val_where (is_reached first word)
-result_by Stores first second word = option_and_then (stored first word) (content_of second)
-result_by StoresPart first second word = stored first word contents.Val
+result_by Stores first second word = option_and_then (tag_after_store first word) (content_of second)
+result_by StoresPart first second word = tag_after_store first word contents.Val
 result_by Adds first second word = sum first second
 result_by Subtracts first second word = difference first second
 
@@ -196,13 +196,13 @@ ignores_by effect = record {
   tm = not (uses_word effect);
 }
 
-abbrev pub decided : Group → Option HeapTag → Result (Outs HeapTag) Refused
-decided g None = Err (refused_for (why.Rule g))
-decided g (Some result) = Ok (record { pc = Val; result = result })
+abbrev pub outs_or_refusal : Group → Option HeapTag → Result (Outs HeapTag) Refused
+outs_or_refusal g None = Err (refused_for (why.Rule g))
+outs_or_refusal g (Some result) = Ok (record { pc = Val; result = result })
 
 -- the rule of a group with this effect: only words outside the heap region are obeyed
 abbrev pub rule_by : Effect → Group → Ins HeapTag → Result (Outs HeapTag) Refused
-rule_by effect g x = decided g (if is_static x.ci then result_by effect x.t1 x.t2 x.tm else None)
+rule_by effect g x = outs_or_refusal g (if is_static x.ci then result_by effect x.t1 x.t2 x.tm else None)
 
 abbrev pub heap_rule : Group → Ins HeapTag → Result (Outs HeapTag) Refused
 heap_rule g x = rule_by (effect_of g) g x
@@ -211,12 +211,12 @@ abbrev pub heap_ignores : Group → Mask
 heap_ignores g = ignores_by (effect_of g)
 
 -- a word that another policy's service zeroes stays in its block, or free
-abbrev pub wiped : HeapTag → Result HeapTag Refused
-wiped Val = Err (refused_for why.Consent)
-wiped (Ptr block) = Err (refused_for why.Consent)
-wiped (Static content) = Ok (Static contents.Val)
-wiped (Cell block content) = Ok (Cell block contents.Val)
-wiped Free = Ok Free
+abbrev pub wipe_tag : HeapTag → Result HeapTag Refused
+wipe_tag Val = Err (refused_for why.Consent)
+wipe_tag (Ptr block) = Err (refused_for why.Consent)
+wipe_tag (Static content) = Ok (Static contents.Val)
+wipe_tag (Cell block content) = Ok (Cell block contents.Val)
+wipe_tag Free = Ok Free
 
 abbrev pub heap_start_word : Birth → HeapTag
 heap_start_word birth = if birth.heap then Free else Static contents.Val
@@ -256,16 +256,16 @@ none_fits pc = record {
 }
 
 -- so many words at the place that was found
-abbrev pub placed : ℕ → ℕ → HeapTag → Option ℕ → Plan HeapTag
-placed number count pc None = none_fits pc
-placed number count pc (Some base) = handing_out number (record { base = base; count = count }) pc
+abbrev pub plan_at : ℕ → ℕ → HeapTag → Option ℕ → Plan HeapTag
+plan_at number count pc None = none_fits pc
+plan_at number count pc (Some base) = handing_out number (record { base = base; count = count }) pc
 
 -- a0 is the number of bytes
 abbrev pub malloc_plan : HeapState → Args HeapTag → HeapTag → Result (Plan HeapTag) PlanEnd
 malloc_plan state a pc =
     if is_val a.t0 then
     (if nat_lt state.next block_limit then
-    Ok (placed state.next (words_of a.a0) pc (first_fit state.space (words_of a.a0)))
+    Ok (plan_at state.next (words_of a.a0) pc (first_fit state.space (words_of a.a0)))
     else Err plan_end.Spent)
     else refused_plan why.Args
 
@@ -286,21 +286,21 @@ freeing block pc = record {
 }
 
 -- the pointer's value has to be the block's first address
-abbrev pub freed : ℕ → HeapTag → Option Block → Result (Plan HeapTag) PlanEnd
-freed address pc None = refused_plan why.NotLive
-freed address pc (Some block) =
+abbrev pub plan_of_freeing : ℕ → HeapTag → Option Block → Result (Plan HeapTag) PlanEnd
+plan_of_freeing address pc None = refused_plan why.NotLive
+plan_of_freeing address pc (Some block) =
     if block.base == address then Ok (freeing block pc) else refused_plan why.NotLive
 
 -- a0 is the pointer
 abbrev pub free_plan : HeapState → Args HeapTag → HeapTag → Result (Plan HeapTag) PlanEnd
-free_plan state a pc = freed a.a0 pc (pointed_to state.space a.t0)
+free_plan state a pc = plan_of_freeing a.a0 pc (pointed_to state.space a.t0)
 
 abbrev pub heap_plan : HeapState → ℕ → Args HeapTag → HeapTag → Result (Plan HeapTag) PlanEnd
 heap_plan state number a pc = if number == 48 then malloc_plan state a pc else free_plan state a pc
 
 -- the new tag of each word of the block
-abbrev pub retagged : ℕ → ℕ → HeapTag
-retagged number block = if number == 48 then Cell block contents.Val else Free
+abbrev pub cell_after : ℕ → ℕ → HeapTag
+cell_after number block = if number == 48 then Cell block contents.Val else Free
 
 -- a block that was handed out; its number is never given again
 abbrev pub handed_out : HeapState → ℕ → Option Words → HeapState
@@ -348,8 +348,8 @@ heap = record {
   lend = λ state tag. Ok tt;
   room = λ state. state.space.top;
   plan = heap_plan;
-  retag = λ state plan old. Ok (retagged plan.service plan.note);
-  wipe = λ state pc old. wiped old;
+  retag = λ state plan old. Ok (cell_after plan.service plan.note);
+  wipe = λ state pc old. wipe_tag old;
   commit = heap_commit;
   start_pc = λ state birth. Val;
   start_word = λ state birth. heap_start_word birth;

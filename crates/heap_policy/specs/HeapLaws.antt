@@ -9,8 +9,8 @@ use Rattle.live_blocks.specs.Space.{IsSpace, IsWithin, first_fit, with_block}
 use Rattle.live_blocks.specs.SpaceEdits.{first_within, space_filter, space_insert}
 use Rattle.live_blocks.specs.declared.block.Block.{Block}
 use Rattle.rv_decode.specs.declared.groups.Group.{Group}
-use Rattle.policy_trait.specs.Laws.{IsRange, KeepsLaws}
-use Rattle.policy_trait.specs.Model.{IsGiven, masked}
+use Rattle.policy_trait.specs.PolicyLaws.{IsRange, KeepsLaws}
+use Rattle.policy_trait.specs.Model.{IsGiven, masked_inputs}
 use Rattle.policy_trait.specs.declared.rules.Ins.{Ins}
 use Rattle.policy_trait.specs.declared.rules.Why.TheVariants as why
 use Rattle.policy_trait.specs.declared.services.Answer.{Answer}
@@ -21,7 +21,7 @@ use Rattle.policy_trait.specs.declared.services.PlanEnd.TheVariants as plan_end
 use Rattle.policy_trait.specs.declared.services.Rest.TheVariants as rest
 use Rattle.policy_trait.specs.declared.services.Rest.TheVariants.{AsA0}
 use Rattle.policy_trait.specs.declared.services.Words.{Words}
-use Rattle.heap_policy.specs.Heap.{CanHandOut, HeapState, IsHeap, block_limit, decided, freed, freeing, handed_out, handing_out, heap, heap_ignores, heap_knows, heap_plan, heap_rule, effect_of, free_plan, ignores_by, is_static, is_val, malloc_plan, none_fits, placed, pointed_to, refused_plan, result_by, taken_back, words_of}
+use Rattle.heap_policy.specs.Heap.{CanHandOut, HeapState, IsHeap, block_limit, outs_or_refusal, plan_of_freeing, freeing, handed_out, handing_out, heap, heap_ignores, heap_knows, heap_plan, heap_rule, effect_of, free_plan, ignores_by, is_static, is_val, malloc_plan, none_fits, plan_at, pointed_to, refused_plan, result_by, taken_back, words_of}
 use Rattle.heap_policy.specs.declared.table.Effect.{Effect}
 use Rattle.heap_policy.specs.declared.table.Effect.TheVariants.{GoesOn, TakesFirst, TakesSecond, TakesBoth, Moves, Loads, LoadsPart, Stores, StoresPart, Adds, Subtracts}
 use Rattle.heap_policy.specs.declared.tag.HeapTag.{HeapTag}
@@ -31,7 +31,7 @@ use Rattle.heap_policy.specs.declared.tag.HeapTag.TheVariants.{Val, Ptr, Static,
 
 -- the inputs with each that a group with this effect ignores made plain
 abbrev seen : Effect → Ins HeapTag → Ins HeapTag
-seen effect x = masked (ignores_by effect) Val x
+seen effect x = masked_inputs (ignores_by effect) Val x
 
 result_masked : (effect : Effect) (x : Ins HeapTag)
     → result_by effect x.t1 x.t2 x.tm ≡ result_by effect (seen effect x).t1 (seen effect x).t2 (seen effect x).tm
@@ -47,8 +47,8 @@ result_masked StoresPart x = refl
 result_masked Adds x = refl
 result_masked Subtracts x = refl
 
-rule_masked : (g : Group) (x : Ins HeapTag) → heap_rule g x ≡ heap_rule g (masked (heap_ignores g) Val x)
-rule_masked g x = ap (λ result. decided g (if is_static x.ci then result else None)) (result_masked (effect_of g) x)
+rule_masked : (g : Group) (x : Ins HeapTag) → heap_rule g x ≡ heap_rule g (masked_inputs (heap_ignores g) Val x)
+rule_masked g x = ap (λ result. outs_or_refusal g (if is_static x.ci then result else None)) (result_masked (effect_of g) x)
 
 -- ---- the plans
 
@@ -131,7 +131,7 @@ released state number block pc is lies = record {
 -- ---- the same of each plan that comes, by its tests
 
 placed_by : (state : HeapState) (number count : ℕ) (pc : HeapTag) (at : Option ℕ) → 48 ≡ number → state.next < block_limit
-    → 1 ≤ count → first_fit state.space count ≡ at → IsHeapPlan state number (placed state.next count pc at)
+    → 1 ≤ count → first_fit state.space count ≡ at → IsHeapPlan state number (plan_at state.next count pc at)
 placed_by state number count pc None is left some e = passed state number pc is
 placed_by state number count pc (Some base) is left some e =
     made state number (record { base = base; count = count }) pc is
@@ -140,7 +140,7 @@ placed_by state number count pc (Some base) is left some e =
 malloc_by : (value left : Bool) (state : HeapState) (number bytes : ℕ) (pc : HeapTag) (p : Plan HeapTag) → 48 ≡ number
     → (left ≡ true → state.next < block_limit)
     → (if value then
-    (if left then Ok (placed state.next (words_of bytes) pc (first_fit state.space (words_of bytes))) else Err plan_end.Spent)
+    (if left then Ok (plan_at state.next (words_of bytes) pc (first_fit state.space (words_of bytes))) else Err plan_end.Spent)
     else refused_plan why.Args) ≡ Ok p
     → IsHeapPlan state number p
 malloc_by true true state number bytes pc p is left e =
@@ -158,7 +158,7 @@ freed_by false state number block pc p is lies e = no_plan _ p e
 
 found_freed : (state : HeapState) (number address : ℕ) (found : Option Block) (pc : HeapTag) (p : Plan HeapTag)
     → 49 ≡ number → (IsSpace state.space → ForSome found (IsWithin state.space.base state.space.top))
-    → freed address pc found ≡ Ok p → IsHeapPlan state number p
+    → plan_of_freeing address pc found ≡ Ok p → IsHeapPlan state number p
 found_freed state number address None pc p is lies e = no_plan _ p e
 found_freed state number address (Some block) pc p is lies e =
     freed_by (block.base == address) state number block pc p is (λ space. lies space block refl) e

@@ -1,7 +1,7 @@
 //! What the services do: the plans of a block that is handed out, and of one that is taken back.
 
 ghost use Rattle.std.specs.Prelude.{◌≡◌, ◌≤◌, Err};
-ghost use Rattle.heap_policy.specs.Heap.{freeing, handing_out, none_fits, refused_plan, retagged, words_of};
+ghost use Rattle.heap_policy.specs.Heap.{freeing, handing_out, none_fits, refused_plan, cell_after, words_of};
 
 use crate::table::refused;
 use crate::tag::{Content, HeapTag};
@@ -80,7 +80,7 @@ pub(crate) fn freeing(block: Block, pc: HeapTag) -> Plan<HeapTag>
 
 /// The new tag of a word of the plan's range.
 pub(crate) fn retagged(plan: &Plan<HeapTag>) -> HeapTag
-    ensures { result ≡ retagged plan.now.service plan.now.note }
+    ensures { result ≡ cell_after plan.now.service plan.now.note }
 {
     if plan.service == MALLOC {
         HeapTag::Cell(plan.note, Content::Val)

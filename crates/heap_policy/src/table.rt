@@ -1,7 +1,7 @@
 //! The table of heap safety: what the groups do with pointers, and what that asks of the tags.
 
 ghost use Rattle.std.specs.Prelude.{◌≡◌};
-ghost use Rattle.heap_policy.specs.Heap.{content_of, difference, effect_of, held, holding, ignores_by, is_reached, is_static, is_val, loaded, refused_for, result_by, stored, sum, tag_of, val_where, wiped};
+ghost use Rattle.heap_policy.specs.Heap.{content_of, difference, effect_of, word_content, holding, ignores_by, is_reached, is_static, is_val, load_content, refused_for, result_by, tag_after_store, sum, tag_of, val_where, wipe_tag};
 
 use crate::tag::{Content, HeapTag};
 use policy_trait::{Mask, Part, Refused, Why};
@@ -142,7 +142,7 @@ fn tag_of(content: Content) -> HeapTag
 
 /// What a memory word with this tag holds; `None` for a free word, and for the tag of a register.
 fn held(word: HeapTag) -> Option<Content>
-    ensures { result ≡ held word }
+    ensures { result ≡ word_content word }
 {
     match word {
         HeapTag::Static(content) | HeapTag::Cell(_, content) => Some(content),
@@ -175,7 +175,7 @@ fn is_reached(address: HeapTag, word: HeapTag) -> bool
 
 /// What is loaded from the word, where the address reaches it.
 fn loaded(address: HeapTag, word: HeapTag) -> Option<Content>
-    ensures { result ≡ loaded address word }
+    ensures { result ≡ load_content address word }
 {
     if is_reached(address, word) {
         held(word)
@@ -186,7 +186,7 @@ fn loaded(address: HeapTag, word: HeapTag) -> Option<Content>
 
 /// The word's tag once the content is stored there, where the address reaches it.
 fn stored(address: HeapTag, word: HeapTag, content: Content) -> Option<HeapTag>
-    ensures { result ≡ stored address word content }
+    ensures { result ≡ tag_after_store address word content }
 {
     if is_reached(address, word) {
         holding(content, word)
@@ -224,7 +224,7 @@ fn difference(first: HeapTag, second: HeapTag) -> Option<HeapTag>
 /// The new tag of a word that another policy's service zeroes. A word keeps its place: none becomes free, and a free one
 /// stays free.
 pub(crate) fn wiped(old: HeapTag) -> Result<HeapTag, Refused>
-    ensures { result ≡ wiped old }
+    ensures { result ≡ wipe_tag old }
 {
     match old {
         HeapTag::Free => Ok(HeapTag::Free),

@@ -1,12 +1,12 @@
 mod BookLemmas
-mod Finds
-mod Kept
-mod Plans
-mod Promises
-mod Regions
-mod Rules
-mod Services
-mod Serving
-pub mod Starts
-mod Tags
-pub mod Turning
+mod FindLemmas
+mod KeptLemmas
+mod PlanLemmas
+mod PromiseLemmas
+mod RegionLemmas
+mod RuleLemmas
+mod ServiceLemmas
+mod ServingLemmas
+pub mod StartLemmas
+mod TagLemmas
+pub mod TurnLemmas

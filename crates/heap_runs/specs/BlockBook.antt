@@ -19,35 +19,35 @@ abbrev pub BlockBook : Type 0
 BlockBook = List Handed
 
 -- the block of the number that the answer's tag has, at the answer's value, of so many bytes in whole words
-abbrev pub handed : ℕ → ℕ → HeapTag → BlockBook → BlockBook
-handed bytes value (Ptr number) book =
+abbrev pub book_with : ℕ → ℕ → HeapTag → BlockBook → BlockBook
+book_with bytes value (Ptr number) book =
     book ++ record { block = record { number = number; base = value; words = words_of bytes }; is_live = true } ∷ []
-handed bytes value Val book = book
-handed bytes value (Static content) book = book
-handed bytes value (Cell number content) book = book
-handed bytes value Free book = book
+book_with bytes value Val book = book
+book_with bytes value (Static content) book = book
+book_with bytes value (Cell number content) book = book
+book_with bytes value Free book = book
 
 abbrev pub handed_by : ℕ → Option (Answer HeapTag) → BlockBook → BlockBook
 handed_by bytes None book = book
-handed_by bytes (Some answer) book = handed bytes answer.value answer.tag book
+handed_by bytes (Some answer) book = book_with bytes answer.value answer.tag book
 
 abbrev pub freed_where : ℕ → Handed → Handed
 freed_where number x = if x.block.number == number then record x { is_live = false } else x
 
 -- the block that the pointer has the number of is no more live
-abbrev pub freed : HeapTag → BlockBook → BlockBook
-freed (Ptr number) book = map (freed_where number) book
-freed Val book = book
-freed (Static content) book = book
-freed (Cell number content) book = book
-freed Free book = book
+abbrev pub book_without : HeapTag → BlockBook → BlockBook
+book_without (Ptr number) book = map (freed_where number) book
+book_without Val book = book
+book_without (Static content) book = book
+book_without (Cell number content) book = book
+book_without Free book = book
 
 -- 48 hands out a block of a0 bytes, 49 takes that of the pointer in a0 back
 abbrev pub blocks_by : BlockBook → Option (Service HeapTag) → BlockBook
 blocks_by book None = book
 blocks_by book (Some x) =
     if x.number == 48 then handed_by x.arguments.a0 x.answer book else
-    if x.number == 49 then freed x.arguments.t0 book else
+    if x.number == 49 then book_without x.arguments.t0 book else
     book
 
 abbrev pub blocks_after : BlockBook → Event HeapTag → BlockBook

@@ -2,7 +2,7 @@
 use Rattle.std.specs.Prelude.{◌≡◌, ℕ, ◌+◌, ◌*◌, ◌/◌, ◌≤◌, nat_le, nat_lt, Bool, true, false, ◌&&◌, List, length, Some}
 use Rattle.std.specs.List.{Contains}
 use Rattle.policy_trait.specs.declared.services.Answer.{Answer}
-use Rattle.engine_trait.specs.Events.{Asked, Event, Touch, retired}
+use Rattle.engine_trait.specs.Events.{Asked, Event, Touch, is_retirement}
 use Rattle.live_blocks.specs.declared.block.Block.{Block}
 use Rattle.heap_policy.specs.declared.tag.HeapTag.{HeapTag}
 use Rattle.heap_policy.specs.declared.tag.HeapTag.TheVariants.{Val, Ptr}
@@ -28,11 +28,11 @@ module _ (base top : ℕ) where
   pub record HeapTurn (book : BlockBook) (event : Event HeapTag) : Type 0 where
     pub numbers : (x : Service HeapTag) (answer : Answer HeapTag) (number : ℕ) → service_of event ≡ Some x → x.number ≡ 48 → x.answer ≡ Some answer
         → answer.tag ≡ Ptr number → number ≡ length book
-    pub inside : (touch : Touch) (asked : Asked HeapTag) → retired event ≡ true → event.access ≡ Some touch → event.asked ≡ Some asked
+    pub inside : (touch : Touch) (asked : Asked HeapTag) → is_retirement event ≡ true → event.access ≡ Some touch → event.asked ≡ Some asked
         → is_in_heap touch.address ≡ true → ReachesBlock book asked.inputs.t1 touch
-    pub outside : (touch : Touch) (asked : Asked HeapTag) → retired event ≡ true → event.access ≡ Some touch → event.asked ≡ Some asked
+    pub outside : (touch : Touch) (asked : Asked HeapTag) → is_retirement event ≡ true → event.access ≡ Some touch → event.asked ≡ Some asked
         → is_in_heap touch.address ≡ false → asked.inputs.t1 ≡ Val
-    pub fetched : retired event ≡ true → is_in_heap event.pc ≡ false
+    pub fetched : is_retirement event ≡ true → is_in_heap event.pc ≡ false
 
   abbrev pub HeapSafe : List (Event HeapTag) → Type 0
   HeapSafe events = (x : Moment events) → HeapTurn (block_book x.before) x.event

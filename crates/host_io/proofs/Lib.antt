@@ -1,6 +1,6 @@
-pub mod Fronts
+pub mod FrontLemmas
 pub mod HeldLemmas
 pub mod PieceLemmas
-pub mod Reading
+pub mod ReadingLemmas
 pub mod SavedLemmas
-pub mod Supplies
+pub mod SupplyLemmas

@@ -6,7 +6,7 @@ use Rattle.host_io.specs.Fronts.{TakesAll, TakesFront}
 use Rattle.host_io.specs.Pieces.{Begins, Piece, Puts, PutsAll, PutsFirst, PutsFront, PutsSoFar, Taken, err, err_of, errs_of, out, out_of, outs_of, with_begun, with_piece, with_pieces}
 use Rattle.host_io.specs.declared.traits.sink.PutEnd.{PutEnd}
 use Rattle.host_io.specs.declared.traits.sink.PutEnd.TheVariants as put_end
-use Rattle.host_io.proofs.Fronts.{all_then_front, append_known-append, append_known-nil, takes_none}
+use Rattle.host_io.proofs.FrontLemmas.{all_then_front, append_known-append, append_known-nil, takes_none}
 
 pub with_pieces-append : (taken : Taken) (first second : List Piece) →
     with_pieces taken (first ++ second) ≡ with_pieces (with_pieces taken first) second

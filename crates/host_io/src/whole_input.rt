@@ -26,7 +26,7 @@ const PIECE_LEN: usize = 4096;
 ///
 /// After an error the source is as open as it was, and has lost some of its first bytes, at most
 /// 4,096 more than `limit`.
-#[tactic(auto, using(crate::proofs::Reading::two_fronts))]
+#[tactic(auto, using(crate::proofs::ReadingLemmas::two_fronts))]
 pub fn read_to_end<S: Source>(
     alloc: Global,
     source: &mut S,

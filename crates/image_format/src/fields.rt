@@ -13,8 +13,11 @@ pub(crate) const MAGIC: u32 = 0x504D_5550;
 /// The one version.
 pub(crate) const VERSION: u16 = 1;
 
-/// The most bytes of RAM.
-const MOST_RAM: u32 = 16_777_216;
+/// The most harts of an image: 8.
+pub const MOST_HARTS: u16 = 8;
+
+/// The most bytes of an image's RAM: 16 MiB.
+pub const MOST_RAM: u32 = 16_777_216;
 
 /// Two bytes, the low one first.
 pub(crate) fn half_of(size: usize, bytes: &[u8]) -> Result<(u16, &[u8]), ImageEnd>
@@ -68,7 +71,7 @@ pub(crate) fn harts_of(size: usize, bytes: &[u8]) -> Result<(u16, &[u8]), ImageE
     ensures { Gives (λ x. (x.0, x.1.now)) result (harts_at size bytes.now) }
 {
     let (harts, rest) = half_of(size, bytes)?;
-    if harts < 1 || harts > 8 {
+    if harts < 1 || harts > MOST_HARTS {
         return Err(bad_field(1, size, bytes));
     }
     Ok((harts, rest))

@@ -23,6 +23,7 @@ mod sizes;
 mod writing;
 
 pub use errors::{ImageEnd, ImageError};
+pub use fields::{MOST_HARTS, MOST_RAM};
 pub use image::Image;
 pub use law::front_law;
 pub use parts::ImageParts;

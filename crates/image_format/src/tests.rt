@@ -1,3 +1,5 @@
+//! Whole files that are read and written again, files that fail each condition, and files cut short.
+
 use super::*;
 use std::alloc::{AllocError, Global};
 use std::test::Fail;

@@ -3,12 +3,12 @@ use Rattle.std.proofs.Common.{◌≡◌, ℕ, ◌+◌, ◌<◌, List, [], ◌∷
 use Rattle.std.proofs.lemmas.List.{drop_more}
 use Rattle.host_io.specs.Pieces.{out}
 use Rattle.image_format.specs.Picture.{Segment}
-use Rattle.asm_show.specs.Listing.{listed}
+use Rattle.asm_show.specs.Listing.{listing_line}
 use Rattle.image_listing.specs.Listing.{segments_listed, words_listed}
 
 -- the next word, and those behind it
 pub next_word : (address : ℕ) (words : List ℕ) (i : ℕ) → i < length words
-    → words_listed address (drop i words) ≡ (out (listed address (slice_index_or words i 0)) ∷ []) ++ words_listed (address + 4) (drop (i + 1) words)
+    → words_listed address (drop i words) ≡ (out (listing_line address (slice_index_or words i 0)) ∷ []) ++ words_listed (address + 4) (drop (i + 1) words)
 unfolding words_listed
 next_word address words i below = ap (words_listed address) (drop_more words i 0 below)
 

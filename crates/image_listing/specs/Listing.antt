@@ -2,12 +2,12 @@
 use Rattle.std.specs.Prelude.{ℕ, ◌+◌, List, [], ◌∷◌, ◌++◌}
 use Rattle.host_io.specs.Pieces.{Piece, out}
 use Rattle.image_format.specs.Picture.{Picture, Segment}
-use Rattle.asm_show.specs.Listing.{listed}
+use Rattle.asm_show.specs.Listing.{listing_line}
 
 -- the lines of the words from an address on
 unfoldable pub words_listed : ℕ → List ℕ → List Piece
 words_listed address [] = []
-words_listed address (word ∷ words) = out (listed address word) ∷ words_listed (address + 4) words
+words_listed address (word ∷ words) = out (listing_line address word) ∷ words_listed (address + 4) words
 
 unfoldable pub segments_listed : List Segment → List Piece
 segments_listed [] = []

@@ -3,7 +3,7 @@
 ghost use Rattle.std.specs.Prelude.{◌≡◌, ℕ, List, Option, ◌+◌, ◌*◌, ◌^◌, ◌≤◌, ◌∷◌, [], length};
 ghost use Rattle.host_io.specs.Causes.{PutCause};
 ghost use Rattle.host_io.specs.Pieces.{Puts, out as piece};
-ghost use Rattle.asm_show.specs.Listing.{listed};
+ghost use Rattle.asm_show.specs.Listing.{listing_line};
 ghost use Rattle.image_listing.specs.Listing.{listing, words_listed};
 
 use asm_show::list_word;
@@ -15,7 +15,8 @@ use pump_words::Line;
 fn put_word<K: Sink>(address: u32, word: u32, out: &mut K) -> Result<(), PutEnd>
     ensures puts { (other : Option (List ℕ)) → Puts
         (record { out = K.taken out.old; err = other })
-        (record { out = K.taken out.new; err = other }) (piece (listed address word) ∷ []) result }
+        (record { out = K.taken out.new; err = other })
+        (piece (listing_line address word) ∷ []) result }
     ensures cause { PutCause (K.faults out.old) (K.faults out.new) result }
 {
     let mut line = Line::new();

@@ -1,8 +1,8 @@
-pub mod Gaps
-pub mod Inserts
-pub mod Lists
-pub mod Numbers
-pub mod Removes
-pub mod Rising
-pub mod Runs
-pub mod Same
+pub mod GapLemmas
+pub mod InsertLemmas
+pub mod ListLemmas
+pub mod NumberLemmas
+pub mod RemoveLemmas
+pub mod RisingLemmas
+pub mod RunLemmas
+pub mod SameLemmas

@@ -8,7 +8,7 @@ use Rattle.pump_words.specs.Same.{TellsApart}
 use Rattle.policy_trait.specs.declared.rules.Outs.{Outs}
 use Rattle.engine_trait.specs.Accounts.{Account, is_kept, looked_up}
 use Rattle.rule_cache.specs.Named.{IsAccountOf, IsKeyBelow, IsToldApart, TellsBelow, key_by}
-use Rattle.rule_cache.specs.Stores.{Store, counted_as, found, looked_for}
+use Rattle.rule_cache.specs.Stores.{Store, counted_as, lookup_of, looked_for}
 use Rattle.rule_cache.specs.declared.key.Key.{Key}
 use Rattle.rule_cache.proofs.AccountLemmas.{all_told, hit_alike, kept_alike, miss_alike}
 use Rattle.tag_intern.specs.Table.{HasNoRepeats, TableState}
@@ -52,13 +52,13 @@ module _ {T : Type 0} (eq : T → T → Bool) (laws : IsEquivalence eq) (exact :
 
   module _ (account : Account T) (tells : Tells book.plain table store account) where
     -- the account finds as the store does
-    pub found_alike : is_kept eq (key_by read key) account ≡ is_some (found key store)
+    pub found_alike : is_kept eq (key_by read key) account ≡ is_some (lookup_of key store)
     found_alike = kept_alike read eq key account store tells.rules apart
 
-    looked_tells : (at : Option (Outs ℕ)) → found key store ≡ at
+    looked_tells : (at : Option (Outs ℕ)) → lookup_of key store ≡ at
         → Tells book.plain table (counted_as key at store) (looked_up eq (key_by read key) account)
     looked_tells None is =
-        let miss : is_some (found key store) ≡ false = ap is_some is in
+        let miss : is_some (lookup_of key store) ≡ false = ap is_some is in
         record {
           seen = rw (found_alike ∙ miss) tells.seen;
           limit = rw (found_alike ∙ miss) tells.limit;
@@ -67,7 +67,7 @@ module _ {T : Type 0} (eq : T → T → Bool) (laws : IsEquivalence eq) (exact :
           room = tells.room;
         }
     looked_tells (Some words) is =
-        let hit : is_some (found key store) ≡ true = ap is_some is in
+        let hit : is_some (lookup_of key store) ≡ true = ap is_some is in
         record {
           seen = rw (found_alike ∙ hit) tells.seen;
           limit = rw (found_alike ∙ hit) tells.limit;
@@ -78,4 +78,4 @@ module _ {T : Type 0} (eq : T → T → Bool) (laws : IsEquivalence eq) (exact :
 
     -- the look-up is counted
     pub look_tells : Tells book.plain table (looked_for key store) (looked_up eq (key_by read key) account)
-    look_tells = looked_tells (found key store) refl
+    look_tells = looked_tells (lookup_of key store) refl

@@ -10,7 +10,7 @@ use Rattle.policy_trait.specs.declared.rules.Outs.{Outs}
 use Rattle.policy_trait.specs.declared.rules.Refused.{Refused}
 use Rattle.engine_trait.specs.Accounts.{Account, is_kept, looked_up, rule_kept}
 use Rattle.rule_cache.specs.Named.{IsKeyBelow, key_by}
-use Rattle.rule_cache.specs.Stores.{Store, counted_as, found, looked_for, stored}
+use Rattle.rule_cache.specs.Stores.{Store, counted_as, lookup_of, looked_for, store_with}
 use Rattle.rule_cache.specs.declared.key.Key.{Key}
 use Rattle.tag_intern.specs.Table.{Extends, HasNoRepeats, TableState}
 use Rattle.tag_intern.specs.Words.{tag_at}
@@ -63,11 +63,11 @@ module _ {T : Type 0} (eq : T → T → Bool) (book : Rulebook T) (table : Table
 
     module _ (account : Account T) (tells : Tells book.plain table store account) where
       -- the account finds as the store does
-      pub told : is_kept eq (tag_key book table.tags group words) account ≡ is_some (found (word_key book group words) store)
+      pub told : is_kept eq (tag_key book table.tags group words) account ≡ is_some (lookup_of (word_key book group words) store)
       told =
           ap (λ k. is_kept eq k account) (sym key_told)
           ∙ found_alike eq asked.laws asked.exact book table store key asked.distinct key_below asked.rules account tells
-          ∙ ap (λ k. is_some (found k store)) asked.key_is
+          ∙ ap (λ k. is_some (lookup_of k store)) asked.key_is
 
       -- the look-up is counted
       pub looked_tells : (next : Store) → next ≡ looked_for key store
@@ -79,7 +79,7 @@ module _ {T : Type 0} (eq : T → T → Bool) (book : Rulebook T) (table : Table
 
     -- ---- the rule is found
 
-    module _ (outs : Outs ℕ) (is : found key store ≡ Some outs) where
+    module _ (outs : Outs ℕ) (is : lookup_of key store ≡ Some outs) where
       pub hit_answer : answer_on book table.tags group words ≡ Ok (outs_on book table.tags outs)
       hit_answer = answer_is ∙ (hit_rule book table.tags store key asked.rules outs is).answer
 
@@ -113,13 +113,13 @@ module _ {T : Type 0} (eq : T → T → Bool) (book : Rulebook T) (table : Table
     extends_by new (Ok outs) is same = grows eq asked.laws book table new key outs is
     extends_by new (Err why) is same = subst (λ (t : TableState T). Extends table.tags t.tags) (sym same) (extends_same table.tags)
 
-    module _ (none : found key store ≡ None) (middle next : Store) (middle_is : middle ≡ looked_for key store) (new : TableState T) where
+    module _ (none : lookup_of key store ≡ None) (middle next : Store) (middle_is : middle ≡ looked_for key store) (new : TableState T) where
       -- the look-up changes no rule
       middle_rules : AreRules book table.tags middle.kept
       middle_rules =
           subst (AreRules book table.tags) (sym (ap (λ (s : Store). s.kept) middle_is ∙ ap (λ at. (counted_as key at store).kept) none)) asked.rules
 
-      module _ (outs : Outs ℕ) (is : IsAnswered eq book table new key outs) (next_is : next ≡ stored key outs middle) where
+      module _ (outs : Outs ℕ) (is : IsAnswered eq book table new key outs) (next_is : next ≡ store_with key outs middle) where
         miss_tells : (account : Account T) → Tells book.plain table store account
             → Tells book.plain new next (rule_kept eq {E = Refused} (tag_key book table.tags group words) (answer_on book table.tags group words)
             (looked_up eq (tag_key book table.tags group words) account))
@@ -128,7 +128,7 @@ module _ {T : Type 0} (eq : T → T → Bool) (book : Rulebook T) (table : Table
             (looked_up eq (tag_key book table.tags group words) account))) (sym (answer_is ∙ is.allowed))
             (subst (λ s. Tells book.plain new s (rule_kept eq {E = Refused} (tag_key book table.tags group words) (Ok is.outs)
             (looked_up eq (tag_key book table.tags group words) account))) (sym next_is)
-            (subst (λ k. Tells book.plain new (stored key outs middle)
+            (subst (λ k. Tells book.plain new (store_with key outs middle)
             (rule_kept eq {E = Refused} k (Ok is.outs) (looked_up eq (tag_key book table.tags group words) account))) key_told
             (keeping_tells eq asked.laws book table new key outs is asked.exact middle asked.distinct key_below middle_rules
             (looked_up eq (tag_key book table.tags group words) account) (looked_tells account tells middle middle_is))))
@@ -141,7 +141,7 @@ module _ {T : Type 0} (eq : T → T → Bool) (book : Rulebook T) (table : Table
       -- ---- by how the question ends
 
       module _ {E : Type 0} where
-        pub kept_by : (end : Result (Outs ℕ) E) → IfOk end (IsAnswered eq book table new key) → IfOk end (λ outs. next ≡ stored key outs middle)
+        pub kept_by : (end : Result (Outs ℕ) E) → IfOk end (IsAnswered eq book table new key) → IfOk end (λ outs. next ≡ store_with key outs middle)
             → OnOk end ((account : Account T) → Tells book.plain table store account
             → Tells book.plain new next (rule_kept eq {E = Refused} (tag_key book table.tags group words) (answer_on book table.tags group words)
             (looked_up eq (tag_key book table.tags group words) account)))
@@ -156,7 +156,7 @@ module _ {T : Type 0} (eq : T → T → Bool) (book : Rulebook T) (table : Table
             subst (λ t. Tells book.plain t next (looked_up eq (tag_key book table.tags group words) account)) (sym same)
             (looked_tells account tells next (unkept ∙ middle_is))
 
-        pub still_by : (end : Result (Outs ℕ) E) → IfOk end (IsAnswered eq book table new key) → IfOk end (λ outs. next ≡ stored key outs middle)
+        pub still_by : (end : Result (Outs ℕ) E) → IfOk end (IsAnswered eq book table new key) → IfOk end (λ outs. next ≡ store_with key outs middle)
             → OnErr end (new ≡ table) → OnErr end (next ≡ middle) → AreRules book new.tags next.kept
         still_by (Ok outs) is next_is same unkept = miss_still outs is next_is
         still_by (Err why) is next_is same unkept =

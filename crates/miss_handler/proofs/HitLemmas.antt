@@ -8,9 +8,9 @@ use Rattle.pump_words.specs.Same.{TellsApart}
 use Rattle.policy_trait.specs.declared.rules.Outs.{Outs}
 use Rattle.policy_trait.specs.declared.rules.Refused.{Refused}
 use Rattle.engine_trait.specs.Accounts as accounts
-use Rattle.engine_trait.specs.Accounts.{Account, counted, group_eq, is_kept, looked_up, rule_kept, same_key, seeing, with_tags}
+use Rattle.engine_trait.specs.Accounts.{Account, next_count, group_eq, is_kept, looked_up, rule_kept, same_key, seeing, with_tags}
 use Rattle.rule_cache.specs.Named.{IsKeyBelow, key_by}
-use Rattle.rule_cache.specs.Stores.{Store, counted_as, found, looked_for}
+use Rattle.rule_cache.specs.Stores.{Store, counted_as, lookup_of, looked_for}
 use Rattle.rule_cache.specs.declared.key.Key.{Key}
 use Rattle.tag_intern.specs.Table.{HasNoRepeats, TableState}
 use Rattle.tag_intern.specs.Words.{tag_at}
@@ -69,7 +69,7 @@ module _ {T : Type 0} (eq : T → T → Bool) (laws : IsEquivalence eq) where
   -- a key that is found is kept already
   keeping_found : (key : accounts.Key T) (account : Account T) → is_kept eq key account ≡ true
       → accounts.keeping eq key (looked_up eq key account) ≡ looked_up eq key account
-  keeping_found key account hit = rw hit (keeping_twice key account (counted account.hits))
+  keeping_found key account hit = rw hit (keeping_twice key account (next_count account.hits))
 
   -- tags that have words change no account
   seeing_known : (tags : List T) (account : Account T) → with_tags eq account.seen tags ≡ account.seen → seeing eq tags account ≡ account
@@ -96,7 +96,7 @@ outs_words book tags words below = record {
 }
 
 module _ {T : Type 0} (book : Rulebook T) (tags : List T) (store : Store) (key : Key) (rules : AreRules book tags store.kept) (words : Outs ℕ)
-    (is : found key store ≡ Some words) where
+    (is : lookup_of key store ≡ Some words) where
   pub hit_rule : IsRule book tags (key, words)
   hit_rule = rule_found book tags key store.kept words is rules
 
@@ -108,11 +108,11 @@ module _ {T : Type 0} (book : Rulebook T) (tags : List T) (store : Store) (key :
 
   -- the rules are what they were, in another order
   pub hit_rules : AreRules book tags (looked_for key store).kept
-  hit_rules = hit_by (found key store) is
+  hit_rules = hit_by (lookup_of key store) is
 
 module _ {T : Type 0} (eq : T → T → Bool) (laws : IsEquivalence eq) (exact : TellsApart eq) (book : Rulebook T) (table : TableState T) (store : Store) (key : Key)
     (distinct : HasNoRepeats table.tags) (below : IsKeyBelow (length table.tags) key) (rules : AreRules book table.tags store.kept)
-    (account : Account T) (tells : Tells book.plain table store account) (words : Outs ℕ) (is : found key store ≡ Some words) where
+    (account : Account T) (tells : Tells book.plain table store account) (words : Outs ℕ) (is : lookup_of key store ≡ Some words) where
   abbrev read : accounts.Key T
   read = key_by (tag_at book.plain table.tags) key
 

@@ -1,7 +1,7 @@
 -- Masked words stand for masked tags, where word 0 is that of the plain tag.
 use Rattle.std.proofs.Common.{◌≡◌, ℕ, ◌<◌, Bool, true, false, cond, List, length, refl, ap, sym, ◌∙◌}
 use Rattle.rv_decode.specs.declared.groups.Group.{Group}
-use Rattle.policy_trait.specs.Model.{masked}
+use Rattle.policy_trait.specs.Model.{masked_inputs}
 use Rattle.policy_trait.specs.declared.rules.Ins.{Ins}
 use Rattle.policy_trait.specs.declared.rules.Mask.{Mask}
 use Rattle.rule_cache.specs.Named.{key_by}
@@ -19,7 +19,7 @@ module _ {T : Type 0} (book : Rulebook T) (tags : List T) (plain_word : tag_at b
   tag_masked true word = plain_word
   tag_masked false word = refl
 
-  ins_masked : (mask : Mask) (words : Ins ℕ) → ins_on book tags (masked mask 0 words) ≡ masked mask book.plain (ins_on book tags words)
+  ins_masked : (mask : Mask) (words : Ins ℕ) → ins_on book tags (masked_inputs mask 0 words) ≡ masked_inputs mask book.plain (ins_on book tags words)
   ins_masked mask words = λ j. record {
     pc = tag_masked mask.pc words.pc j;
     ci = tag_masked mask.ci words.ci j;

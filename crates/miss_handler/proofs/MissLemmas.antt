@@ -8,9 +8,9 @@ use Rattle.pump_words.specs.Same.{TellsApart}
 use Rattle.policy_trait.specs.declared.rules.Outs.{Outs}
 use Rattle.policy_trait.specs.declared.rules.Refused.{Refused}
 use Rattle.engine_trait.specs.Accounts as accounts
-use Rattle.engine_trait.specs.Accounts.{Account, counted, looked_up, rule_kept, seeing, with_tags}
+use Rattle.engine_trait.specs.Accounts.{Account, next_count, looked_up, rule_kept, seeing, with_tags}
 use Rattle.rule_cache.specs.Named.{IsAccountOf, IsKeyBelow, key_by}
-use Rattle.rule_cache.specs.Stores.{Store, stored}
+use Rattle.rule_cache.specs.Stores.{Store, store_with}
 use Rattle.rule_cache.specs.declared.key.Key.{Key}
 use Rattle.rule_cache.proofs.AccountLemmas.{keeping_alike}
 use Rattle.tag_intern.specs.Table.{Extends, HasNoRepeats, TableState, cut_to}
@@ -92,7 +92,7 @@ module _ {T : Type 0} (eq : T → T → Bool) (laws : IsEquivalence eq) (book : 
 
   -- and so are all
   pub kept_rules : (store : Store) → AreInWords (length table.tags) key.words → AreRules book table.tags store.kept
-      → AreRules book new.tags (stored key words store).kept
+      → AreRules book new.tags (store_with key words store).kept
   kept_rules store below rules =
       rules_with book new.tags key store.capacity words store.kept (kept_rule below) (rules_grown book table.tags new.tags grows store.kept rules)
 
@@ -117,16 +117,16 @@ module _ {T : Type 0} (eq : T → T → Bool) (laws : IsEquivalence eq) (book : 
           tm = omega (arith, more, below.tm);
         }
 
-    keeping_told : IsAccountOf (tag_at book.plain new.tags) (accounts.keeping eq read account) (stored key words store)
+    keeping_told : IsAccountOf (tag_at book.plain new.tags) (accounts.keeping eq read account) (store_with key words store)
     keeping_told =
-        subst (λ k. IsAccountOf (tag_at book.plain new.tags) (accounts.keeping eq k account) (stored key words store))
+        subst (λ k. IsAccountOf (tag_at book.plain new.tags) (accounts.keeping eq k account) (store_with key words store))
         (key_grown book.plain table.tags new.tags grows key below)
         (keeping_alike (tag_at book.plain new.tags) eq key account store
         (account_grown book.plain table.tags new.tags grows account store (keys_below book table.tags store.kept rules) tells.rules)
         (apart eq laws exact book new store key distinct_new below_new (rules_grown book table.tags new.tags grows store.kept rules)) words)
 
     -- the account is that with the rule kept and the outputs seen
-    pub keeping_tells : Tells book.plain new (stored key words store) (rule_kept eq {E = Refused} read (Ok is.outs) account)
+    pub keeping_tells : Tells book.plain new (store_with key words store) (rule_kept eq {E = Refused} read (Ok is.outs) account)
     keeping_tells =
         let tags = is.outs.pc ∷ is.outs.result ∷ [] in
         let room : 1 ≤ account.capacity = subst (λ n. 1 ≤ n) (sym tells.rules.capacity) tells.room in
@@ -136,6 +136,6 @@ module _ {T : Type 0} (eq : T → T → Bool) (laws : IsEquivalence eq) (book : 
               ∙ sym (ap (λ (t : TableState T). t.tags) is.grown);
           limit =
               seeing_limit eq tags (accounts.keeping eq read account) ∙ tells.limit ∙ sym (ap (λ (t : TableState T). t.limit) is.grown);
-          rules = seeing_counts eq tags (accounts.keeping eq read account) (tag_at book.plain new.tags) (stored key words store) keeping_told;
+          rules = seeing_counts eq tags (accounts.keeping eq read account) (tag_at book.plain new.tags) (store_with key words store) keeping_told;
           room = tells.room;
         }

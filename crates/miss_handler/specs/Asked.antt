@@ -3,7 +3,7 @@ use Rattle.std.specs.Prelude.{◌≡◌, ℕ, ◌<◌, List, Result, Ok, length}
 use Rattle.std.specs.List.{AllByRecursion}
 use Rattle.rv_decode.specs.declared.groups.Group.{Group}
 use Rattle.policy_trait.specs.Maps.{ins_by, outs_by}
-use Rattle.policy_trait.specs.Model.{masked}
+use Rattle.policy_trait.specs.Model.{masked_inputs}
 use Rattle.policy_trait.specs.declared.rules.Ins.{Ins}
 use Rattle.policy_trait.specs.declared.rules.Outs.{Outs}
 use Rattle.policy_trait.specs.declared.rules.Refused.{Refused}
@@ -28,7 +28,7 @@ pub record AreOutWords (count : ℕ) (words : Outs ℕ) : Type 0 where
 module _ {T : Type 0} (book : Rulebook T) where
   -- the key in words: an ignored input has the word of the plain tag
   abbrev pub word_key : Group → Ins ℕ → Key
-  word_key group words = record { group = group; words = masked (book.ignores group) 0 words }
+  word_key group words = record { group = group; words = masked_inputs (book.ignores group) 0 words }
 
   module _ (tags : List T) where
     -- the tags that the words stand for
@@ -40,7 +40,7 @@ module _ {T : Type 0} (book : Rulebook T) where
 
     -- the key in tags: an ignored input is plain
     abbrev pub tag_key : Group → Ins ℕ → accounts.Key T
-    tag_key group words = record { group = group; inputs = masked (book.ignores group) book.plain (ins_on words) }
+    tag_key group words = record { group = group; inputs = masked_inputs (book.ignores group) book.plain (ins_on words) }
 
     abbrev pub answer_on : Group → Ins ℕ → Result (Outs T) Refused
     answer_on group words = book.rule group (ins_on words)

@@ -3,7 +3,7 @@ use Rattle.std.specs.Prelude.{◌≡◌, ℕ, false, List, [], ◌∷◌, Result
 use Rattle.std.specs.Coded.{Coded, code_by, coded_list}
 use Rattle.rv_decode.specs.declared.groups.Group.{Group}
 use Rattle.rv_decode.specs.declared.groups.Group.TheVariants as group
-use Rattle.policy_trait.specs.Model.{PolicyModel, masked}
+use Rattle.policy_trait.specs.Model.{PolicyModel, masked_inputs}
 use Rattle.policy_trait.specs.declared.rules.Ins.{Ins}
 use Rattle.policy_trait.specs.declared.rules.Mask.{Mask}
 use Rattle.policy_trait.specs.declared.rules.Outs.{Outs}
@@ -21,7 +21,7 @@ rulebook_of m s = record { plain = m.plain s; ignores = m.ignores s; rule = m.ru
 
 -- ignored inputs change no answer
 abbrev pub IgnoresMasked : {T : Type 0} → Rulebook T → Type 0
-IgnoresMasked book = (g : Group) (x : Ins _) → book.rule g x ≡ book.rule g (masked (book.ignores g) book.plain x)
+IgnoresMasked book = (g : Group) (x : Ins _) → book.rule g x ≡ book.rule g (masked_inputs (book.ignores g) book.plain x)
 
 -- the rules of a policy as it stands, and how many answers they gave
 pub record AskingState (S : Type 0) : Type 0 where

@@ -1,10 +1,10 @@
 //! `ask`: the answer of a kept rule, or that of the policy's, which is kept then.
 
 ghost use Rattle.std.specs.Prelude.{◌≡◌, ◌↔◌, ◌<◌, ◌≤◌, [], ◌∷◌, Err, IfOk, IsOk, IsOkAnd, OnErr, OnOk, Ok, Some, if◌then◌else◌, true, is_some, length, slice_get};
-ghost use Rattle.policy_trait.specs.Model.{masked};
+ghost use Rattle.policy_trait.specs.Model.{masked_inputs};
 ghost use Rattle.policy_trait.specs.declared.rules.Refused.{Refused};
-ghost use Rattle.engine_trait.specs.Accounts.{Account, counted, is_kept, looked_up, rule_kept, with_tags};
-ghost use Rattle.rule_cache.specs.Stores.{found, stored};
+ghost use Rattle.engine_trait.specs.Accounts.{Account, next_count, is_kept, looked_up, rule_kept, with_tags};
+ghost use Rattle.rule_cache.specs.Stores.{lookup_of, store_with};
 ghost use Rattle.tag_intern.specs.Table.{Extends};
 ghost use Rattle.miss_handler.specs.Asked.{AreInWords, AreOutWords, AreRules, answer_on, outs_on, tag_key, word_key};
 ghost use Rattle.miss_handler.specs.Answered.{AreWordsOf, IsAnswered, with_outs};
@@ -66,17 +66,19 @@ pub fn ask<T: TagTable, C: RuleStore, R: Rules<Tag = T::Tag>>(
     ensures refused { OnErr result (T.state tags.new ≡ T.state tags.old) }
 
     // A kept rule is found: nothing that may fail is done, and no rule is asked.
-    ensures hit { is_some (found (word_key (R.book rules.old) group words) (C.state store.old)) ≡ true
+    ensures hit { is_some (lookup_of (word_key (R.book rules.old) group words)
+        (C.state store.old)) ≡ true
         → IsOk result }
-    ensures known { is_some (found (word_key (R.book rules.old) group words) (C.state store.old)) ≡ true
+    ensures known { is_some (lookup_of (word_key (R.book rules.old) group words)
+        (C.state store.old)) ≡ true
         → T.state tags.new ≡ T.state tags.old }
     ensures told { (account : Account T.Tag)
         → Tells (R.book rules.old).plain (T.state tags.old) (C.state store.old) account
         → is_kept T.Tag.eq (tag_key (R.book rules.old) (T.state tags.old).tags group words) account
-        ≡ is_some (found (word_key (R.book rules.old) group words) (C.state store.old)) }
+        ≡ is_some (lookup_of (word_key (R.book rules.old) group words) (C.state store.old)) }
     ensures answers { R.answers rules.new
-        ≡ (if is_some (found (word_key (R.book rules.old) group words) (C.state store.old))
-        then R.answers rules.old else counted (R.answers rules.old)) }
+        ≡ (if is_some (lookup_of (word_key (R.book rules.old) group words) (C.state store.old))
+        then R.answers rules.old else next_count (R.answers rules.old)) }
 
     // The rules stay what they are, and each kept one is the policy's answer still.
     ensures book { R.book rules.new ≡ R.book rules.old }
@@ -96,7 +98,7 @@ pub fn ask<T: TagTable, C: RuleStore, R: Rules<Tag = T::Tag>>(
 /// The words with each that the mask ignores made that of the plain tag.
 #[inline(always)]
 fn masked(mask: Mask, words: InWords) -> InWords
-    ensures { result ≡ masked mask 0 words }
+    ensures { result ≡ masked_inputs mask 0 words }
 {
     InWords {
         pc: if mask.pc { 0 } else { words.pc },
@@ -119,7 +121,7 @@ fn missed<T: TagTable, C: RuleStore, R: Rules<Tag = T::Tag>>(
     ensures answered { IfOk result
         (IsAnswered T.Tag.eq (R.book rules.old) (T.state tags.old) (T.state tags.new) key) }
     ensures kept { IfOk result (λ outs.
-        C.state store.new ≡ stored key outs (C.state store.old)) }
+        C.state store.new ≡ store_with key outs (C.state store.old)) }
     ensures stopped { (refused : Refused) → (result ≡ Err (AskEnd.Stopped refused))
         ↔ (answer_on (R.book rules.old) (T.state tags.old).tags key.group key.words ≡ Err refused) }
     ensures tags_out { result ≡ Err AskEnd.TagsOut
@@ -129,7 +131,7 @@ fn missed<T: TagTable, C: RuleStore, R: Rules<Tag = T::Tag>>(
     ensures table { OnErr result (T.state tags.new ≡ T.state tags.old) }
     ensures store { OnErr result (C.state store.new ≡ C.state store.old) }
     ensures within { OnOk result (length (T.state tags.new).tags ≤ (T.state tags.new).limit) }
-    ensures answers { R.answers rules.new ≡ counted (R.answers rules.old) }
+    ensures answers { R.answers rules.new ≡ next_count (R.answers rules.old) }
     ensures book { R.book rules.new ≡ R.book rules.old }
 {
     let outs = match answer(tags, rules, &key) {
@@ -157,7 +159,7 @@ fn answer<T: TagTable, R: Rules<Tag = T::Tag>>(
 ) -> Result<Outs<T::Tag>, Refused>
     ensures answer { result
         ≡ answer_on (R.book rules.old) (T.state tags.now).tags key.now.group key.now.words }
-    ensures answers { R.answers rules.new ≡ counted (R.answers rules.old) }
+    ensures answers { R.answers rules.new ≡ next_count (R.answers rules.old) }
     ensures book { R.book rules.new ≡ R.book rules.old }
 {
     let decoder = Decoder {

@@ -2,7 +2,7 @@
 
 ghost use Rattle.std.specs.Prelude.{◌≡◌, Ok};
 ghost use Rattle.rv_decode.specs.declared.groups.Group.{Group as AnyGroup};
-ghost use Rattle.engine_trait.specs.Accounts.{counted};
+ghost use Rattle.engine_trait.specs.Accounts.{next_count};
 ghost use Rattle.miss_handler.specs.Books.{rulebook_of};
 
 use crate::masks::Masks;
@@ -34,7 +34,7 @@ pub trait Rules {
     /// The answer of a rule, which is counted; the count stands still at 2^64 - 1.
     fn answer(&mut self, group: Group, inputs: Ins<Self::Tag>) -> Result<Outs<Self::Tag>, Refused>
         ensures answer { result ≡ (book self.old).rule group inputs }
-        ensures counted { answers self.new ≡ counted (answers self.old) }
+        ensures counted { answers self.new ≡ next_count (answers self.old) }
         ensures book { book self.new ≡ book self.old };
 }
 
@@ -93,7 +93,7 @@ impl<'a, P: Policy> Rules for Asking<'a, P> {
 
     fn answer(&mut self, group: Group, inputs: Ins<P::Tag>) -> Result<Outs<P::Tag>, Refused>
         ensures answer { result ≡ (rulebook_of P.model self.old.policy).rule group inputs }
-        ensures counted { self.new.answers ≡ counted self.old.answers }
+        ensures counted { self.new.answers ≡ next_count self.old.answers }
         ensures book { rulebook_of P.model self.new.policy ≡ rulebook_of P.model self.old.policy }
     {
         self.answers = self.answers.saturating_add(1);

@@ -1,7 +1,7 @@
 //! Questions one after another, and what each leaves of the tags and of the kept rules.
 
 ghost use Rattle.std.specs.Prelude.{◌≡◌, Err, Ok, if◌then◌else◌, ◌==◌, ◌-◌};
-ghost use Rattle.engine_trait.specs.Accounts.{counted};
+ghost use Rattle.engine_trait.specs.Accounts.{next_count};
 ghost use Rattle.policy_trait.specs.declared.rules.Part.TheVariants.{Seal};
 ghost use Rattle.policy_trait.specs.declared.rules.Why.TheVariants.{Args as ArgsWhy};
 
@@ -181,7 +181,7 @@ impl<R: Rules + Drop> Rules for Noted<R> {
 
     fn answer(&mut self, group: Group, inputs: Ins<R::Tag>) -> Result<Outs<R::Tag>, Refused>
         ensures answer { result ≡ (R.book self.old.rules).rule group inputs }
-        ensures counted { self.new.asked ≡ counted self.old.asked }
+        ensures counted { self.new.asked ≡ next_count self.old.asked }
         ensures book { R.book self.new.rules ≡ R.book self.old.rules }
     {
         self.asked = self.asked.saturating_add(1);

@@ -5,8 +5,8 @@ use Rattle.std.specs.Option.{ForSome}
 use Rattle.std.specs.Prelude.{IsOk, IsOkAnd}
 use Rattle.std.proofs.lemmas.List.Elements.{All-nil}
 use Rattle.std.proofs.lemmas.Option.{slice_get-get_or}
-use Rattle.policy_trait.specs.Laws.{IsRange, KeepsLaws}
-use Rattle.policy_trait.specs.LawsLemmas.{given_plan}
+use Rattle.policy_trait.specs.PolicyLaws.{IsRange, KeepsLaws}
+use Rattle.policy_trait.specs.UseLaws.{given_plan}
 use Rattle.policy_trait.specs.Model.{CanPlan, IsGiven, PolicyModel}
 use Rattle.policy_trait.specs.declared.services.Args.{Args}
 use Rattle.policy_trait.specs.declared.services.Plan.{Plan}
@@ -16,7 +16,7 @@ use Rattle.policy_trait.specs.declared.rules.Refused.{Refused}
 use Rattle.policy_trait.specs.declared.services.Words.{Words}
 use Rattle.tag_memory.specs.Ram.{IsPlace}
 use Rattle.monitor_calls.specs.Ranges.{IsJobOf, Refuses, RefusesWord, RetagsEach}
-use Rattle.monitor_calls.specs.Service.{Job, job_of, retagged, retagged_range, served, served_plan}
+use Rattle.monitor_calls.specs.Service.{Job, job_of, new_tags, retagged_range, service_job, served_plan}
 use Rattle.monitor_calls.proofs.RangeLemmas.{each_retagged, first_refused, never_spent, refused_first, retags_each, same_list}
 
 abbrev done : {T : Type 0} → Job T → Result (Job T) PlanEnd
@@ -66,7 +66,7 @@ module _ {T S : Type 0} (m : PolicyModel T S) (s : S) (word_at : ℕ → ℕ) (t
   has_words plan (Ok list) ok some = some list refl
   has_words plan (Err end) ok some = absurd cc
 
-  some_words : (plan : Plan T) (range : Words) → 1 ≤ range.count → (list : List (ℕ × ℕ × T)) → retagged m s word_at tag_at plan range.base range.count ≡ Ok list → 1 ≤ length list
+  some_words : (plan : Plan T) (range : Words) → 1 ≤ range.count → (list : List (ℕ × ℕ × T)) → new_tags m s word_at tag_at plan range.base range.count ≡ Ok list → 1 ≤ length list
   some_words plan range some list e =
       let each = retags_each m s word_at tag_at plan range.base range.count list e in
       let all : length list ≡ range.count = each.all in
@@ -92,11 +92,11 @@ module _ {T S : Type 0} (m : PolicyModel T S) (s : S) (word_at : ℕ → ℕ) (t
   -- ---- a job that a service gives
 
   module _ (number : ℕ) (arguments : Args T) (pc : T) where
-    parts : (job : Job T) → served m s word_at tag_at number arguments pc ≡ Ok job → Parts (m.plan s number arguments pc) job
-    unfolding served
+    parts : (job : Job T) → service_job m s word_at tag_at number arguments pc ≡ Ok job → Parts (m.plan s number arguments pc) job
+    unfolding service_job
     parts job e = by_plan (m.plan s number arguments pc) job e
 
-    pub is_job : (job : Job T) → served m s word_at tag_at number arguments pc ≡ Ok job → IsJobOf m s word_at tag_at number arguments pc job
+    pub is_job : (job : Job T) → service_job m s word_at tag_at number arguments pc ≡ Ok job → IsJobOf m s word_at tag_at number arguments pc job
     is_job job e =
         let known = parts job e in
         record {
@@ -111,8 +111,8 @@ module _ {T S : Type 0} (m : PolicyModel T S) (s : S) (word_at : ℕ → ℕ) (t
     words_given plan None words ranged rangeless = ap list_done (sym (rangeless refl))
     words_given plan (Some range) words ranged rangeless = each_retagged m s word_at tag_at plan range.base range.count words (ranged range refl)
 
-    pub job_served : (job : Job T) → IsJobOf m s word_at tag_at number arguments pc job → served m s word_at tag_at number arguments pc ≡ Ok job
-    unfolding served
+    pub job_served : (job : Job T) → IsJobOf m s word_at tag_at number arguments pc job → service_job m s word_at tag_at number arguments pc ≡ Ok job
+    unfolding service_job
     job_served job is =
         ap (served_plan m s word_at tag_at) is.planned
         ∙ ap (job_of job.plan) (words_given job.plan job.plan.range job.words is.ranged is.rangeless)
@@ -142,13 +142,13 @@ module _ {T S : Type 0} (m : PolicyModel T S) (s : S) (word_at : ℕ → ℕ) (t
     by_planned refused (Err end) is e = inl (is ∙ ap (λ (end : PlanEnd). no_plan end) (end_is end (plan_end.Refused refused) e))
     by_planned refused (Ok plan) is e = inr (by_option refused plan plan.range is refl (job_failed plan (words_of plan) (plan_end.Refused refused) e))
 
-    pub service_refuses : (refused : Refused) → served m s word_at tag_at number arguments pc ≡ Err (plan_end.Refused refused) → Refuses m s tag_at number arguments pc refused
-    unfolding served
+    pub service_refuses : (refused : Refused) → service_job m s word_at tag_at number arguments pc ≡ Err (plan_end.Refused refused) → Refuses m s tag_at number arguments pc refused
+    unfolding service_job
     service_refuses refused e = by_planned refused (m.plan s number arguments pc) refl e
 
     -- and back
-    pub refuses_service : (refused : Refused) → Refuses m s tag_at number arguments pc refused → served m s word_at tag_at number arguments pc ≡ Err (plan_end.Refused refused)
-    unfolding served
+    pub refuses_service : (refused : Refused) → Refuses m s tag_at number arguments pc refused → service_job m s word_at tag_at number arguments pc ≡ Err (plan_end.Refused refused)
+    unfolding service_job
     refuses_service refused (inl planned) = ap (served_plan m s word_at tag_at) planned
     refuses_service refused (inr word) =
         ap (served_plan m s word_at tag_at) word.planned
@@ -163,32 +163,32 @@ module _ {T S : Type 0} (m : PolicyModel T S) (s : S) (word_at : ℕ → ℕ) (t
     plan_spent (Err end) e = ap (λ (end : PlanEnd). no_plan end) (end_is end plan_end.Spent e)
     plan_spent (Ok plan) e = absurd (range_unspent plan plan.range (job_failed plan (words_of plan) plan_end.Spent e))
 
-    pub service_spent : served m s word_at tag_at number arguments pc ≡ Err plan_end.Spent → m.plan s number arguments pc ≡ Err plan_end.Spent
-    unfolding served
+    pub service_spent : service_job m s word_at tag_at number arguments pc ≡ Err plan_end.Spent → m.plan s number arguments pc ≡ Err plan_end.Spent
+    unfolding service_job
     service_spent e = plan_spent (m.plan s number arguments pc) e
 
-    pub spent_service : m.plan s number arguments pc ≡ Err plan_end.Spent → served m s word_at tag_at number arguments pc ≡ Err plan_end.Spent
-    unfolding served
+    pub spent_service : m.plan s number arguments pc ≡ Err plan_end.Spent → service_job m s word_at tag_at number arguments pc ≡ Err plan_end.Spent
+    unfolding service_job
     spent_service planned = ap (served_plan m s word_at tag_at) planned
 
     -- ---- what can be done with a job
 
     -- the plan is one that the policy gives
-    pub job_given : (holds : S → Type 0) (laws : KeepsLaws m holds) (job : Job T) → CanPlan m s number arguments → served m s word_at tag_at number arguments pc ≡ Ok job → IsGiven m s job.plan
+    pub job_given : (holds : S → Type 0) (laws : KeepsLaws m holds) (job : Job T) → CanPlan m s number arguments → service_job m s word_at tag_at number arguments pc ≡ Ok job → IsGiven m s job.plan
     job_given holds laws job can e = given_plan m holds laws s number arguments pc job.plan can (parts job e).plan_is
 
     -- and each word is one of memory
-    pub job_places : (holds : S → Type 0) (laws : KeepsLaws m holds) (job : Job T) → CanPlan m s number arguments → holds s → served m s word_at tag_at number arguments pc ≡ Ok job
+    pub job_places : (holds : S → Type 0) (laws : KeepsLaws m holds) (job : Job T) → CanPlan m s number arguments → holds s → service_job m s word_at tag_at number arguments pc ≡ Ok job
         → All (λ (word : ℕ × ℕ × T). IsPlace arguments.ram word.0) job.words
     job_places holds laws job can valid e =
         by_place arguments.ram job.plan job.plan.range job.words (parts job e).words_are
         (laws.ranges s number arguments pc job.plan can valid (parts job e).plan_is)
 
     -- a service whose range is retagged has words to write
-    pub has_room : (plan : Plan T) (range : Words) → m.plan s number arguments pc ≡ Ok plan → plan.range ≡ Some range → 1 ≤ range.count → IsOk (retagged m s word_at tag_at plan range.base range.count)
-        → IsOkAnd (served m s word_at tag_at number arguments pc) (λ job. 1 ≤ length job.words)
-    unfolding served
+    pub has_room : (plan : Plan T) (range : Words) → m.plan s number arguments pc ≡ Ok plan → plan.range ≡ Some range → 1 ≤ range.count → IsOk (new_tags m s word_at tag_at plan range.base range.count)
+        → IsOkAnd (service_job m s word_at tag_at number arguments pc) (λ job. 1 ≤ length job.words)
+    unfolding service_job
     has_room plan range planned is some ok =
         subst (λ (r : Result (Plan T) PlanEnd). IsOkAnd (served_plan m s word_at tag_at r) (λ job. 1 ≤ length job.words)) (sym planned)
         (subst (λ (r : Option Words). IsOkAnd (job_of plan (retagged_range m s word_at tag_at plan r)) (λ job. 1 ≤ length job.words)) (sym is)
-        (has_words plan (retagged m s word_at tag_at plan range.base range.count) ok (some_words plan range some)))
+        (has_words plan (new_tags m s word_at tag_at plan range.base range.count) ok (some_words plan range some)))

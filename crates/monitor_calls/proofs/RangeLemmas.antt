@@ -8,7 +8,7 @@ use Rattle.policy_trait.specs.declared.services.Plan.{Plan}
 use Rattle.policy_trait.specs.declared.services.PlanEnd.{PlanEnd}
 use Rattle.policy_trait.specs.declared.services.PlanEnd.TheVariants as plan_end
 use Rattle.tag_memory.specs.Rows.{StandFrom}
-use Rattle.monitor_calls.specs.Service.{new_word, retagged, tag_or_end}
+use Rattle.monitor_calls.specs.Service.{new_word, new_tags, tag_or_end}
 use Rattle.monitor_calls.specs.Ranges.{RefusesFirst, RetagsEach}
 
 -- the first place, and the next one
@@ -45,7 +45,7 @@ same_item x y e = cc
 
 module _ {T S : Type 0} (m : PolicyModel T S) (s : S) (word_at : ℕ → ℕ) (tag_at : ℕ → T) (plan : Plan T) where
   abbrev from : ℕ → ℕ → Result (List (ℕ × ℕ × T)) PlanEnd
-  from base count = retagged m s word_at tag_at plan base count
+  from base count = new_tags m s word_at tag_at plan base count
 
   abbrev asked : ℕ → Result T Refused
   asked address = m.retag s plan (tag_at address)

@@ -30,20 +30,20 @@ job_of plan (Err end) = Err end
 
 module _ {S T : Type 0} (m : PolicyModel T S) (s : S) (word_at : ℕ → ℕ) (tag_at : ℕ → T) where
   -- so many words from an address on
-  abbrev pub retagged : Plan T → ℕ → ℕ → Result (List (ℕ × ℕ × T)) PlanEnd
-  retagged plan base zero = Ok []
-  retagged plan base (suc count) = do
+  abbrev pub new_tags : Plan T → ℕ → ℕ → Result (List (ℕ × ℕ × T)) PlanEnd
+  new_tags plan base zero = Ok []
+  new_tags plan base (suc count) = do
     tag ← tag_or_end (m.retag s plan (tag_at base))
-    rest ← retagged plan (base + 4) count
+    rest ← new_tags plan (base + 4) count
     Ok ((base, new_word plan (word_at base), tag) ∷ rest)
 
   abbrev pub retagged_range : Plan T → Option Words → Result (List (ℕ × ℕ × T)) PlanEnd
   retagged_range plan None = Ok []
-  retagged_range plan (Some range) = retagged plan range.base range.count
+  retagged_range plan (Some range) = new_tags plan range.base range.count
 
   abbrev pub served_plan : Result (Plan T) PlanEnd → Result (Job T) PlanEnd
   served_plan (Ok plan) = job_of plan (retagged_range plan plan.range)
   served_plan (Err end) = Err end
 
-  unfoldable pub served : ℕ → Args T → T → Result (Job T) PlanEnd
-  served number arguments pc = served_plan (m.plan s number arguments pc)
+  unfoldable pub service_job : ℕ → Args T → T → Result (Job T) PlanEnd
+  service_job number arguments pc = served_plan (m.plan s number arguments pc)

@@ -9,7 +9,7 @@ ghost use Rattle.policy_trait.specs.declared.services.Plan.{Plan};
 ghost use Rattle.policy_trait.specs.declared.services.PlanEnd.TheVariants as plan_end;
 ghost use Rattle.tag_memory.specs.Ram.{IsPlace};
 ghost use Rattle.monitor_calls.specs.Ranges.{IsJobOf, Refuses, RefusesFirst, RetagsEach};
-ghost use Rattle.monitor_calls.specs.Service.{Job, retagged, served};
+ghost use Rattle.monitor_calls.specs.Service.{Job, new_tags, service_job};
 
 use policy_trait::Policy;
 
@@ -18,14 +18,14 @@ use policy_trait::Policy;
 pub fn retag_law<P: Policy>()
     ensures each { (s : P) (word_at : ℕ → ℕ) (tag_at : ℕ → P.Tag) (plan : Plan P.Tag)
         (base count : ℕ) (words : List (ℕ × ℕ × P.Tag))
-        → (retagged P.model s word_at tag_at plan base count ≡ Ok words)
+        → (new_tags P.model s word_at tag_at plan base count ≡ Ok words)
         ↔ RetagsEach P.model s word_at tag_at plan base count words }
     ensures lowest { (s : P) (word_at : ℕ → ℕ) (tag_at : ℕ → P.Tag) (plan : Plan P.Tag)
         (base count : ℕ) (refused : Refused)
-        → (retagged P.model s word_at tag_at plan base count ≡ Err (plan_end.Refused refused))
+        → (new_tags P.model s word_at tag_at plan base count ≡ Err (plan_end.Refused refused))
         ↔ RefusesFirst P.model s tag_at plan base count refused }
     ensures unspent { (s : P) (word_at : ℕ → ℕ) (tag_at : ℕ → P.Tag) (plan : Plan P.Tag)
-        (base count : ℕ) → retagged P.model s word_at tag_at plan base count ≢ Err plan_end.Spent }
+        (base count : ℕ) → new_tags P.model s word_at tag_at plan base count ≢ Err plan_end.Spent }
 {}
 
 /// A service gives a job exactly where the policy plans it and retags each word of the plan's range. It is refused
@@ -34,24 +34,25 @@ pub fn retag_law<P: Policy>()
 pub fn service_law<P: Policy>()
     ensures job { (s : P) (word_at : ℕ → ℕ) (tag_at : ℕ → P.Tag) (number : ℕ)
         (arguments : Args P.Tag) (pc : P.Tag) (job : Job P.Tag)
-        → (served P.model s word_at tag_at number arguments pc ≡ Ok job)
+        → (service_job P.model s word_at tag_at number arguments pc ≡ Ok job)
         ↔ IsJobOf P.model s word_at tag_at number arguments pc job }
     ensures refused { (s : P) (word_at : ℕ → ℕ) (tag_at : ℕ → P.Tag) (number : ℕ)
         (arguments : Args P.Tag) (pc : P.Tag) (refused : Refused)
-        → (served P.model s word_at tag_at number arguments pc ≡ Err (plan_end.Refused refused))
+        → (service_job P.model s word_at tag_at number arguments pc
+        ≡ Err (plan_end.Refused refused))
         ↔ Refuses P.model s tag_at number arguments pc refused }
     ensures spent { (s : P) (word_at : ℕ → ℕ) (tag_at : ℕ → P.Tag) (number : ℕ)
         (arguments : Args P.Tag) (pc : P.Tag)
-        → (served P.model s word_at tag_at number arguments pc ≡ Err plan_end.Spent)
+        → (service_job P.model s word_at tag_at number arguments pc ≡ Err plan_end.Spent)
         ↔ (P.model.plan s number arguments pc ≡ Err plan_end.Spent) }
     ensures given { (s : P) (word_at : ℕ → ℕ) (tag_at : ℕ → P.Tag) (number : ℕ)
         (arguments : Args P.Tag) (pc : P.Tag) (job : Job P.Tag)
         → CanPlan P.model s number arguments
-        → served P.model s word_at tag_at number arguments pc ≡ Ok job
+        → service_job P.model s word_at tag_at number arguments pc ≡ Ok job
         → IsGiven P.model s job.plan }
     ensures places { (s : P) (word_at : ℕ → ℕ) (tag_at : ℕ → P.Tag) (number : ℕ)
         (arguments : Args P.Tag) (pc : P.Tag) (job : Job P.Tag)
         → CanPlan P.model s number arguments → P.holds s
-        → served P.model s word_at tag_at number arguments pc ≡ Ok job
+        → service_job P.model s word_at tag_at number arguments pc ≡ Ok job
         → All (λ word. IsPlace arguments.ram word.0) job.words }
 {}

@@ -1,9 +1,11 @@
+//! What a policy's service does: its plan, and the new tags of the words of the plan's range.
+
 ghost use Rattle.std.specs.Prelude.{◌≡◌, ◌+◌, ◌-◌, ◌*◌, ◌%◌, ◌<◌, ◌≤◌, Err, Ok, IfErr, IfOk, IsOkAnd, length, if◌then◌else◌};
 ghost use Rattle.std.specs.List.{All};
-ghost use Rattle.policy_trait.specs.Laws.{IsRange};
+ghost use Rattle.policy_trait.specs.PolicyLaws.{IsRange};
 ghost use Rattle.policy_trait.specs.Model.{CanPlan, IsGiven};
 ghost use Rattle.tag_memory.specs.Ram.{IsPlace};
-ghost use Rattle.monitor_calls.specs.Service.{retagged, served, tag_or_end};
+ghost use Rattle.monitor_calls.specs.Service.{new_tags, service_job, tag_or_end};
 ghost use Rattle.monitor_calls.specs.Ends.{EndsAs, job_by};
 
 use crate::view::View;
@@ -30,7 +32,7 @@ pub enum ServeEnd {
 }
 
 /// Plans the service and asks for the new tag of each word of the plan's range, in ascending order. Nothing changes.
-#[tactic(auto, unfolding(crate::specs::Service::served))]
+#[tactic(auto, unfolding(crate::specs::Service::service_job))]
 pub fn serve<P: Policy, W: View<Tag = P::Tag>>(
     alloc: Global,
     policy: &P,
@@ -43,15 +45,15 @@ pub fn serve<P: Policy, W: View<Tag = P::Tag>>(
     requires bytes { W.bytes_of view.now ≡ arguments.now.ram }
 
     // The service, up to its effect. A refusal is the first one.
-    ensures ok { IfOk result (λ v. served P.model policy.now
+    ensures ok { IfOk result (λ v. service_job P.model policy.now
         (W.word_at view.now) (W.tag_at view.now) number arguments.now pc
         ≡ Ok (job_by v.plan v.words.items)) }
-    ensures err { IfErr result (λ e. EndsAs e (served P.model policy.now
+    ensures err { IfErr result (λ e. EndsAs e (service_job P.model policy.now
         (W.word_at view.now) (W.tag_at view.now) number arguments.now pc)) }
 
     // Want of memory is told only of a service that nothing refuses and that has words to write.
     ensures memory { result ≡ Err ServeEnd.Memory
-        → IsOkAnd (served P.model policy.now
+        → IsOkAnd (service_job P.model policy.now
         (W.word_at view.now) (W.tag_at view.now) number arguments.now pc)
         (λ job. 1 ≤ length job.words) }
 
@@ -87,10 +89,10 @@ fn retag_words<P: Policy, W: View<Tag = P::Tag>>(
 ) -> Result<Vec<(u32, u32, P::Tag)>, ServeEnd>
     requires given { IsGiven P.model policy.now plan.now }
     requires range { IsRange (W.bytes_of view.now) range }
-    ensures ok { IfOk result (λ words. retagged P.model policy.now
+    ensures ok { IfOk result (λ words. new_tags P.model policy.now
         (W.word_at view.now) (W.tag_at view.now) plan.now range.base range.count
         ≡ Ok words.items) }
-    ensures err { IfErr result (λ e. EndsAs e (retagged P.model policy.now
+    ensures err { IfErr result (λ e. EndsAs e (new_tags P.model policy.now
         (W.word_at view.now) (W.tag_at view.now) plan.now range.base range.count)) }
     ensures places { IfOk result
         (λ words. All (λ word. IsPlace (W.bytes_of view.now) word.0) words.items) }
@@ -125,7 +127,7 @@ fn end_without_memory<P: Policy, W: View<Tag = P::Tag>>(
     requires range { IsRange (W.bytes_of view.now) range }
     requires first { first ≤ range.count }
     ensures { EndsAs result
-        (retagged P.model policy.now (W.word_at view.now) (W.tag_at view.now) plan.now
+        (new_tags P.model policy.now (W.word_at view.now) (W.tag_at view.now) plan.now
         (range.base + 4 * first) (range.count - first)) }
 {
     // Serves the proof alone: by its type memory has less than 2^32 bytes, so that no address of the range wraps.

@@ -1,3 +1,5 @@
+//! Memory as a service looks at it.
+
 ghost use Rattle.std.specs.Prelude.{◌≡◌, ◌+◌, ◌%◌, ◌≤◌};
 
 use pump_words::Same;

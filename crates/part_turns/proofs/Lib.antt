@@ -1,8 +1,8 @@
-pub mod EffectFacts
-pub mod LookFacts
-pub mod MachineFacts
-pub mod Places
+pub mod EffectLemmas
+pub mod LookLemmas
+pub mod MachineLemmas
+pub mod PlaceLemmas
 pub mod RunLemmas
-pub mod ServiceFacts
-pub mod StopFacts
-pub mod TurnFacts
+pub mod ServiceLemmas
+pub mod StopLemmas
+pub mod TurnLemmas

@@ -1,7 +1,7 @@
 -- What the turns of a part keep and promise, each run under the whole policy keeps and promises, from any sound machine on
 -- in which the part is on and its line holds.
 use Rattle.std.proofs.Common.{◌≡◌, ℕ, true, List, [], ◌∷◌, ◌++◌, map, ap, sym, subst, ◌∙◌, append_assoc, append-nil}
-use Rattle.policy_trait.specs.Laws.{KeepsLaws}
+use Rattle.policy_trait.specs.PolicyLaws.{KeepsLaws}
 use Rattle.policy_trait.specs.Model.{PolicyModel}
 use Rattle.engine_trait.specs.Events.{Event, event_of}
 use Rattle.engine_trait.specs.Machine.{IsMachine, Machine}
@@ -13,8 +13,8 @@ use Rattle.policy_parts.specs.View.{View}
 use Rattle.part_turns.specs.Keeps.{Keeps, RunKeeps}
 use Rattle.part_turns.specs.Maps.{event_with, seen_by}
 use Rattle.part_turns.specs.Moments.{Moment}
-use Rattle.part_turns.proofs.MachineFacts.{seen_sound}
-use Rattle.part_turns.proofs.TurnFacts.{turn_shown}
+use Rattle.part_turns.proofs.MachineLemmas.{seen_sound}
+use Rattle.part_turns.proofs.TurnLemmas.{turn_shown}
 
 -- ---- the moments of a run
 

@@ -1,13 +1,13 @@
 -- What the events of a run tell: its moments, the retired turns of each hart, and the services that were carried out.
 use Rattle.std.specs.Prelude.{◌≡◌, ℕ, ◌==◌, Bool, true, false, ◌&&◌, List, [], ◌∷◌, ◌++◌, Option, Some, None}
 use Rattle.std.specs.List.{filter}
-use Rattle.rv_decode.specs.Decoding.{decoded}
+use Rattle.rv_decode.specs.Decoding.{instr_of_word}
 use Rattle.rv_decode.specs.declared.instructions.Instr.{Instr}
 use Rattle.rv_decode.specs.declared.instructions.Instr.TheVariants.{Jal, Jalr}
 use Rattle.policy_trait.specs.declared.services.Answer.{Answer}
 use Rattle.policy_trait.specs.declared.services.Args.{Args}
 use Rattle.policy_trait.specs.declared.services.Words.{Words}
-use Rattle.engine_trait.specs.Events.{Call, Event, Work, retired}
+use Rattle.engine_trait.specs.Events.{Call, Event, Work, is_retirement}
 
 -- one turn of a run, with the turns before it
 pub record Moment {T : Type 0} (events : List (Event T)) : Type 0 where
@@ -19,7 +19,7 @@ pub record Moment {T : Type 0} (events : List (Event T)) : Type 0 where
 -- ---- the retired turns of a hart
 
 abbrev pub is_turn_of : {T : Type 0} → ℕ → Event T → Bool
-is_turn_of h event = retired event && (event.hart == h)
+is_turn_of h event = is_retirement event && (event.hart == h)
 
 abbrev pub turns_of : {T : Type 0} → ℕ → List (Event T) → List (Event T)
 turns_of h events = filter (is_turn_of h) events
@@ -27,7 +27,7 @@ turns_of h events = filter (is_turn_of h) events
 -- a hart's first retired turn
 pub record First {T : Type 0} (events : List (Event T)) : Type 0 where
   pub moment : Moment events
-  pub is_retired : retired moment.event ≡ true
+  pub is_retired : is_retirement moment.event ≡ true
   pub none_before : turns_of moment.event.hart moment.before ≡ []
 
 -- two successive retired turns of one hart: none of that hart's stands between them
@@ -38,8 +38,8 @@ pub record Successive {T : Type 0} (events : List (Event T)) : Type 0 where
   pub second : Event T
   pub later : List (Event T)
   pub parts : before ++ first ∷ (between ++ second ∷ later) ≡ events
-  pub first_retired : retired first ≡ true
-  pub second_retired : retired second ≡ true
+  pub first_retired : is_retirement first ≡ true
+  pub second_retired : is_retirement second ≡ true
   pub one_hart : second.hart ≡ first.hart
   pub none_between : turns_of first.hart between ≡ []
 
@@ -55,10 +55,10 @@ is_jal_instr _ = false
 
 -- the word of a JALR, and of a JAL
 unfoldable pub is_jalr : ℕ → Bool
-is_jalr word = is_jalr_instr (decoded word)
+is_jalr word = is_jalr_instr (instr_of_word word)
 
 unfoldable pub is_jal : ℕ → Bool
-is_jal word = is_jal_instr (decoded word)
+is_jal word = is_jal_instr (instr_of_word word)
 
 -- ---- services
 

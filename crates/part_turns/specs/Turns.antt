@@ -9,7 +9,7 @@ use Rattle.rv_step.specs.declared.accesses.Access.TheVariants as access
 use Rattle.rv_step.specs.declared.accesses.Width.{Width}
 use Rattle.rv_step.specs.declared.accesses.Width.TheVariants.{Full}
 use Rattle.std.specs.Option.{ForSome}
-use Rattle.policy_trait.specs.Laws.{IsRange}
+use Rattle.policy_trait.specs.PolicyLaws.{IsRange}
 use Rattle.policy_trait.specs.Model.{PolicyModel}
 use Rattle.policy_trait.specs.declared.rules.Outs.{Outs}
 use Rattle.policy_trait.specs.declared.services.Plan.{Plan}
@@ -21,10 +21,10 @@ use Rattle.turn_steps.specs.Services.{args_on}
 use Rattle.turn_steps.specs.declared.look.Look.{Look}
 use Rattle.turn_steps.specs.declared.stop.Stop.{Stop}
 use Rattle.turn_steps.specs.declared.stop.Stop.TheVariants as stop
-use Rattle.engine_trait.specs.Events.{Event, retired, touch_of}
+use Rattle.engine_trait.specs.Events.{Event, is_retirement, touch_of}
 use Rattle.engine_trait.specs.Machine.{Machine, hart_at, is_ready_in, with_hart}
 use Rattle.engine_trait.specs.Turn.{core_served, stopped_at}
-use Rattle.policy_parts.specs.Part.{Planned, beside_others, committed}
+use Rattle.policy_parts.specs.Part.{Planned, beside_others, value_after}
 use Rattle.part_turns.specs.Moments.{is_jal, is_jalr, service_of}
 
 -- ---- what an instruction does with values, as its group tells
@@ -83,7 +83,7 @@ module _ {U V : Type 0} (m : PolicyModel U V) (s : Machine V U) (h : ℕ) where
     pub ready : is_ready_in s.core h ≡ true
     pub seen : IsSeen (hart_at s.core h) s.core.ram look
     pub rule : m.rule s.policy look.group look.inputs ≡ Ok outs
-    pub is_retired : retired e ≡ true
+    pub is_retired : is_retirement e ≡ true
     pub hart : e.hart ≡ h
     pub pc : e.pc ≡ (hart_at s.core h).pc
     pub word : e.word ≡ look.word
@@ -101,14 +101,14 @@ module _ {U V : Type 0} (m : PolicyModel U V) (s : Machine V U) (h : ℕ) where
   -- and after a service, whose words these are
   abbrev pub after_service : Look U → Outs U → Plan U → List (ℕ × ℕ × U) → Machine V U
   after_service look outs p words = record {
-    policy = committed m s.policy p;
+    policy = value_after m s.policy p;
     core = core_served s.core h words p.answer look.effect.next outs.pc;
   }
 
   -- the event e and the machine t are those of a turn of hart h
   pub data Turns (e : Event U) (t : Machine V U) : Type 0 where
-    idles : is_ready_in s.core h ≡ false → e.hart ≡ h → retired e ≡ false → service_of e ≡ None → t ≡ s → Turns e t
-    stops : (why : Stop) → is_ready_in s.core h ≡ true → e.hart ≡ h → retired e ≡ false → service_of e ≡ None → t ≡ stopped_at s h why → Turns e t
+    idles : is_ready_in s.core h ≡ false → e.hart ≡ h → is_retirement e ≡ false → service_of e ≡ None → t ≡ s → Turns e t
+    stops : (why : Stop) → is_ready_in s.core h ≡ true → e.hart ≡ h → is_retirement e ≡ false → service_of e ≡ None → t ≡ stopped_at s h why → Turns e t
     exits : (look : Look U) (outs : Outs U) (code : ℕ) → Allows look outs e → service_of e ≡ None
         → look.group ≡ group.Exit → look.effect.access ≡ access.None → t ≡ stopped_at s h (stop.Exit code) → Turns e t
     goes : (look : Look U) (outs : Outs U) (register value : ℕ) → Allows look outs e → service_of e ≡ None

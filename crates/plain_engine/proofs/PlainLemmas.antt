@@ -9,10 +9,10 @@ use Rattle.monitor_calls.specs.Service.{Job}
 use Rattle.turn_steps.specs.Looks.{is_call}
 use Rattle.turn_steps.specs.declared.look.Look.{Look}
 use Rattle.turn_steps.specs.declared.stop.Stop.{Stop}
-use Rattle.engine_trait.specs.Accounts.{Account, IsUncached, accounted, counted}
+use Rattle.engine_trait.specs.Accounts.{Account, IsUncached, account_after_turn, next_count}
 use Rattle.engine_trait.specs.Machine.{Machine, hart_at}
 use Rattle.engine_trait.specs.Standing.{GivesUp, Standing, Stepped, is_ready, step, wanting}
-use Rattle.engine_trait.specs.Turn.{Turned, allowed, effected, or_unserved, planned, prepared, service_on, settled, stopped_at, turn_of}
+use Rattle.engine_trait.specs.Turn.{Turned, rule_answer, turn_effect, or_unserved, turn_job, preparation, service_on, settlement, stopped_at, turn_of}
 use Rattle.engine_trait.specs.declared.ends.TurnEnd.{TurnEnd}
 use Rattle.engine_trait.specs.declared.ends.TurnEnd.TheVariants as ends
 use Rattle.engine_trait.proofs.AccountLemmas.{accounted_checked, accounted_missed, look_counted_missed}
@@ -22,18 +22,18 @@ use Rattle.plain_engine.specs.Plain.{EndsService, after_look_up, after_turn, all
 
 module _ {S T : Type 0} (m : PolicyModel T S) (s : Machine S T) (h : ℕ) (look : Look T) (outs : Outs T) where
   -- an instruction that is no call of a policy's service has its own effect
-  pub own_turn : (feed : List ℕ) → is_call look.group ≡ false → allowed_turn m s feed h look outs ≡ effected m s feed h look outs None
-  unfolding planned
+  pub own_turn : (feed : List ℕ) → is_call look.group ≡ false → allowed_turn m s feed h look outs ≡ turn_effect m s feed h look outs None
+  unfolding turn_job
   own_turn feed own =
-      ap (λ call. settled m s feed h ((if call then or_unserved (hart_at s.core h).pc look.service (service_on m s h look outs) else Ok None) >>= λ job. Ok (effected m s feed h look outs job))) own
+      ap (λ call. settlement m s feed h ((if call then or_unserved (hart_at s.core h).pc look.service (service_on m s h look outs) else Ok None) >>= λ job. Ok (turn_effect m s feed h look outs job))) own
 
   is_job_by : (pc service : ℕ) (given : Result (Job T) PlanEnd) → IsOk given → is_job (or_unserved pc service given) ≡ true
   is_job_by pc service (Ok job) given = refl
   is_job_by pc service (Err end) given = absurd (false≢true given)
 
   -- a service that nothing refuses
-  call_served : prepared m s h ≡ Ok look → allowed m s h look ≡ Ok outs → is_call look.group ≡ true → IsOk (service_on m s h look outs) → is_served m s h ≡ true
-  unfolding planned
+  call_served : preparation m s h ≡ Ok look → rule_answer m s h look ≡ Ok outs → is_call look.group ≡ true → IsOk (service_on m s h look outs) → is_served m s h ≡ true
+  unfolding turn_job
   call_served looked ruled call given =
       ap is_job (job_ruled m s h look outs looked ruled)
       ∙ ap (λ is_so. is_job (if is_so then or_unserved (hart_at s.core h).pc look.service (service_on m s h look outs) else Ok None)) call
@@ -48,7 +48,7 @@ module _ {S T : Type 0} (eq : T → T → Bool) (m : PolicyModel T S) (e : Stand
   abbrev stepped_to : Account T → Turned S T → Stepped S T
   stepped_to account turned = record { standing = record { machine = turned.machine; account = account }; feed = turned.feed; ended = turned.ended }
 
-  by_turn : (account : Account T) (turned : Turned S T) → accounted eq m e.machine h e.account ≡ account → turn_of m e.machine feed h ≡ turned
+  by_turn : (account : Account T) (turned : Turned S T) → account_after_turn eq m e.machine h e.account ≡ account → turn_of m e.machine feed h ≡ turned
       → step eq m e feed h ≡ stepped_to account turned
   by_turn account turned counted_is turned_is =
       plain_step eq m e feed h plain ready
@@ -56,34 +56,34 @@ module _ {S T : Type 0} (eq : T → T → Bool) (m : PolicyModel T S) (e : Stand
       ∙ ap (λ t. stepped_to account t) turned_is
 
   -- one of the checks failed
-  pub checked_step : (why : Stop) (f : Standing S T) (ended : TurnEnd) → prepared m e.machine h ≡ Err why → f ≡ after_turn e (stopped_at e.machine h why) → ended ≡ ends.Stopped why
+  pub checked_step : (why : Stop) (f : Standing S T) (ended : TurnEnd) → preparation m e.machine h ≡ Err why → f ≡ after_turn e (stopped_at e.machine h why) → ended ≡ ends.Stopped why
       → step eq m e feed h ≡ record { standing = f; feed = feed; ended = ended }
   checked_step why f ended looked f_is ended_is =
       told (step eq m e feed h) (after_turn e (stopped_at e.machine h why)) f feed feed (ends.Stopped why) ended
-      (by_turn (record e.account { turns = counted e.account.turns }) (settled m e.machine feed h (Err why))
+      (by_turn (record e.account { turns = next_count e.account.turns }) (settlement m e.machine feed h (Err why))
       (accounted_checked eq m e.machine h e.account why plain looked)
       (turn_checked m e.machine feed h why (ready_parts e h ready).1 looked))
       f_is refl ended_is
 
   abbrev after_rule : Account T
-  after_rule = record e.account { misses = counted e.account.misses; turns = counted e.account.turns }
+  after_rule = record e.account { misses = next_count e.account.misses; turns = next_count e.account.turns }
 
   -- the rule refused
-  pub refused_step : (look : Look T) (why : Stop) (asked f : Standing S T) (ended : TurnEnd) → prepared m e.machine h ≡ Ok look → asked ≡ after_look_up e
-      → allowed m asked.machine h look ≡ Err why → f ≡ after_turn asked (stopped_at asked.machine h why) → ended ≡ ends.Stopped why
+  pub refused_step : (look : Look T) (why : Stop) (asked f : Standing S T) (ended : TurnEnd) → preparation m e.machine h ≡ Ok look → asked ≡ after_look_up e
+      → rule_answer m asked.machine h look ≡ Err why → f ≡ after_turn asked (stopped_at asked.machine h why) → ended ≡ ends.Stopped why
       → step eq m e feed h ≡ record { standing = f; feed = feed; ended = ended }
   refused_step look why asked f ended looked asked_is =
-      subst (λ (x : Standing S T). allowed m x.machine h look ≡ Err why → f ≡ after_turn x (stopped_at x.machine h why) → ended ≡ ends.Stopped why
+      subst (λ (x : Standing S T). rule_answer m x.machine h look ≡ Err why → f ≡ after_turn x (stopped_at x.machine h why) → ended ≡ ends.Stopped why
       → step eq m e feed h ≡ record { standing = f; feed = feed; ended = ended }) (sym asked_is)
       (λ ruled f_is ended_is. told (step eq m e feed h) (after_turn (after_look_up e) (stopped_at e.machine h why)) f feed feed (ends.Stopped why) ended
-      (by_turn after_rule (settled m e.machine feed h (Err why))
+      (by_turn after_rule (settlement m e.machine feed h (Err why))
       (accounted_missed eq m e.machine h e.account look plain looked)
       (turn_refused m e.machine feed h look why (ready_parts e h ready).1 looked ruled))
       f_is refl ended_is)
 
   -- the rule allowed
   allowed_step : (look : Look T) (outs : Outs T) (turned : Turned S T) (f : Standing S T) (fed : List ℕ) (ended : TurnEnd)
-      → prepared m e.machine h ≡ Ok look → allowed m e.machine h look ≡ Ok outs → allowed_turn m e.machine feed h look outs ≡ turned
+      → preparation m e.machine h ≡ Ok look → rule_answer m e.machine h look ≡ Ok outs → allowed_turn m e.machine feed h look outs ≡ turned
       → f ≡ after_turn (after_look_up e) turned.machine → fed ≡ turned.feed → ended ≡ turned.ended
       → step eq m e feed h ≡ record { standing = f; feed = fed; ended = ended }
   allowed_step look outs turned f fed ended looked ruled turned_is f_is fed_is ended_is =
@@ -93,27 +93,27 @@ module _ {S T : Type 0} (eq : T → T → Bool) (m : PolicyModel T S) (e : Stand
       (turn_ruled m e.machine feed h look outs (ready_parts e h ready).1 looked ruled ∙ turned_is))
       f_is fed_is ended_is
 
-  pub service_step : (look : Look T) (outs : Outs T) (asked f : Standing S T) (ended : TurnEnd) → prepared m e.machine h ≡ Ok look → asked ≡ after_look_up e
-      → allowed m asked.machine h look ≡ Ok outs → EndsService m asked h look outs ended f
+  pub service_step : (look : Look T) (outs : Outs T) (asked f : Standing S T) (ended : TurnEnd) → preparation m e.machine h ≡ Ok look → asked ≡ after_look_up e
+      → rule_answer m asked.machine h look ≡ Ok outs → EndsService m asked h look outs ended f
       → step eq m e feed h ≡ record { standing = f; feed = feed; ended = ended }
   service_step look outs asked f ended looked asked_is =
-      subst (λ (x : Standing S T). allowed m x.machine h look ≡ Ok outs → EndsService m x h look outs ended f → step eq m e feed h ≡ record { standing = f; feed = feed; ended = ended }) (sym asked_is)
+      subst (λ (x : Standing S T). rule_answer m x.machine h look ≡ Ok outs → EndsService m x h look outs ended f → step eq m e feed h ≡ record { standing = f; feed = feed; ended = ended }) (sym asked_is)
       (λ ruled served. allowed_step look outs (record { machine = f.machine; feed = feed; ended = ended }) f feed ended looked ruled (served.turned feed) served.standing refl refl)
 
-  pub effect_step : (look : Look T) (outs : Outs T) (asked f : Standing S T) (fed : List ℕ) (ended : TurnEnd) → prepared m e.machine h ≡ Ok look → asked ≡ after_look_up e
-      → allowed m asked.machine h look ≡ Ok outs → is_call look.group ≡ false
-      → f ≡ after_turn asked (effected m asked.machine feed h look outs None).machine
-      → fed ≡ (effected m asked.machine feed h look outs None).feed → ended ≡ (effected m asked.machine feed h look outs None).ended
+  pub effect_step : (look : Look T) (outs : Outs T) (asked f : Standing S T) (fed : List ℕ) (ended : TurnEnd) → preparation m e.machine h ≡ Ok look → asked ≡ after_look_up e
+      → rule_answer m asked.machine h look ≡ Ok outs → is_call look.group ≡ false
+      → f ≡ after_turn asked (turn_effect m asked.machine feed h look outs None).machine
+      → fed ≡ (turn_effect m asked.machine feed h look outs None).feed → ended ≡ (turn_effect m asked.machine feed h look outs None).ended
       → step eq m e feed h ≡ record { standing = f; feed = fed; ended = ended }
   effect_step look outs asked f fed ended looked asked_is =
-      subst (λ (x : Standing S T). allowed m x.machine h look ≡ Ok outs → is_call look.group ≡ false
-      → f ≡ after_turn x (effected m x.machine feed h look outs None).machine
-      → fed ≡ (effected m x.machine feed h look outs None).feed → ended ≡ (effected m x.machine feed h look outs None).ended
+      subst (λ (x : Standing S T). rule_answer m x.machine h look ≡ Ok outs → is_call look.group ≡ false
+      → f ≡ after_turn x (turn_effect m x.machine feed h look outs None).machine
+      → fed ≡ (turn_effect m x.machine feed h look outs None).feed → ended ≡ (turn_effect m x.machine feed h look outs None).ended
       → step eq m e feed h ≡ record { standing = f; feed = fed; ended = ended }) (sym asked_is)
-      (λ ruled own. allowed_step look outs (effected m e.machine feed h look outs None) f fed ended looked ruled (own_turn m e.machine h look outs feed own))
+      (λ ruled own. allowed_step look outs (turn_effect m e.machine feed h look outs None) f fed ended looked ruled (own_turn m e.machine h look outs feed own))
 
   -- memory ran out
-  pub gives_up : (look : Look T) (asked f : Standing S T) → prepared m e.machine h ≡ Ok look → asked ≡ after_look_up e → f ≡ given_up asked → GivesUp eq m e feed h f feed
+  pub gives_up : (look : Look T) (asked f : Standing S T) → preparation m e.machine h ≡ Ok look → asked ≡ after_look_up e → f ≡ given_up asked → GivesUp eq m e feed h f feed
   gives_up look asked f looked asked_is f_is = subst (λ (x : Standing S T). GivesUp eq m e feed h x feed) (sym (f_is ∙ ap given_up asked_is)) (record {
     ready = ready;
     asked = subst IsOk (sym looked) refl;
@@ -122,8 +122,8 @@ module _ {S T : Type 0} (eq : T → T → Bool) (m : PolicyModel T S) (e : Stand
     account = inl (ap wanting (sym (look_counted_missed eq m e.machine h e.account look plain looked)));
   })
 
-  pub unrefused : (look : Look T) (outs : Outs T) (asked : Standing S T) → prepared m e.machine h ≡ Ok look → asked ≡ after_look_up e → allowed m asked.machine h look ≡ Ok outs
+  pub unrefused : (look : Look T) (outs : Outs T) (asked : Standing S T) → preparation m e.machine h ≡ Ok look → asked ≡ after_look_up e → rule_answer m asked.machine h look ≡ Ok outs
       → is_call look.group ≡ true → IsOk (service_on m asked.machine h look outs) → is_served m e.machine h ≡ true
   unrefused look outs asked looked asked_is =
-      subst (λ (x : Standing S T). allowed m x.machine h look ≡ Ok outs → is_call look.group ≡ true → IsOk (service_on m x.machine h look outs) → is_served m e.machine h ≡ true) (sym asked_is)
+      subst (λ (x : Standing S T). rule_answer m x.machine h look ≡ Ok outs → is_call look.group ≡ true → IsOk (service_on m x.machine h look outs) → is_served m e.machine h ≡ true) (sym asked_is)
       (call_served m e.machine h look outs looked)

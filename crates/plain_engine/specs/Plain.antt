@@ -8,10 +8,10 @@ use Rattle.tag_memory.specs.Ram.{RamState}
 use Rattle.monitor_calls.specs.Service.{Job}
 use Rattle.turn_steps.specs.declared.look.Look.{Look}
 use Rattle.turn_steps.specs.declared.stop.Stop.{Stop}
-use Rattle.engine_trait.specs.Accounts.{IsUncached, counted, plain_account}
+use Rattle.engine_trait.specs.Accounts.{IsUncached, next_count, plain_account}
 use Rattle.engine_trait.specs.Machine.{CoreState, IsMachine, Machine, fresh_core}
 use Rattle.engine_trait.specs.Standing.{Standing}
-use Rattle.engine_trait.specs.Turn.{Turned, effected, job_at, planned, settled}
+use Rattle.engine_trait.specs.Turn.{Turned, turn_effect, job_at, turn_job, settlement}
 use Rattle.engine_trait.specs.declared.ends.Counts.{Counts}
 use Rattle.engine_trait.specs.declared.ends.Halt.{Halt}
 use Rattle.engine_trait.specs.declared.ends.Halt.TheVariants as halt
@@ -39,11 +39,11 @@ standing_of policy harts ram = record { machine = machine_of policy harts ram; a
 
 -- the engine after a look-up: without kept rules it is a miss
 abbrev pub after_look_up : {S T : Type 0} → Standing S T → Standing S T
-after_look_up e = record e { account = record e.account { misses = counted e.account.misses } }
+after_look_up e = record e { account = record e.account { misses = next_count e.account.misses } }
 
 -- the engine after a turn that left this machine
 abbrev pub after_turn : {S T : Type 0} → Standing S T → Machine S T → Standing S T
-after_turn e machine = record { machine = machine; account = record e.account { turns = counted e.account.turns } }
+after_turn e machine = record { machine = machine; account = record e.account { turns = next_count e.account.turns } }
 
 -- the engine stopped for want of memory
 abbrev pub given_up : {S T : Type 0} → Standing S T → Standing S T
@@ -51,7 +51,7 @@ given_up e = record e { account = record e.account { halt = Some halt.Memory } }
 
 -- what is left of a turn that the rule allowed
 abbrev pub allowed_turn : {S T : Type 0} → PolicyModel T S → Machine S T → List ℕ → ℕ → Look T → Outs T → Turned S T
-allowed_turn m s feed h look outs = settled m s feed h (planned m s h look outs >>= λ job. Ok (effected m s feed h look outs job))
+allowed_turn m s feed h look outs = settlement m s feed h (turn_job m s h look outs >>= λ job. Ok (turn_effect m s feed h look outs job))
 
 -- a call of a policy's service that the rule allowed ended as defined, and the turn counts
 pub record EndsService {S T : Type 0} (m : PolicyModel T S) (e : Standing S T) (h : ℕ) (look : Look T) (outs : Outs T) (ended : TurnEnd) (f : Standing S T) : Type 0 where

@@ -1,3 +1,5 @@
+//! The engine that keeps tags as values and asks its policy at every turn.
+
 ghost use Rattle.std.specs.Prelude.{◌≡◌, ◌≢◌, ◌+◌, ◌%◌, ◌<◌, ◌≤◌, [], Err, Ok, Some, None, IfErr, IfOk, IsOk, IsTrue, false, true, length};
 ghost use Rattle.std.specs.List.{All};
 ghost use Rattle.policy_trait.specs.Model.{IsGiven};
@@ -8,7 +10,7 @@ ghost use Rattle.tag_memory.specs.Ram.{IsPlace, ram_bytes, ram_tag, ram_word};
 ghost use Rattle.engine_trait.specs.Accounts.{IsUncached};
 ghost use Rattle.engine_trait.specs.Machine.{IsMachine, stop_at};
 ghost use Rattle.engine_trait.specs.Standing.{GivesUp, IsFailure, StopsOnly, Unchanged, is_ready, step};
-ghost use Rattle.engine_trait.specs.Turn.{allowed, effected, is_offered, prepared, service_on, stopped_at};
+ghost use Rattle.engine_trait.specs.Turn.{rule_answer, turn_effect, is_offered, preparation, service_on, stopped_at};
 ghost use Rattle.turn_steps.specs.Looks.{is_call};
 ghost use Rattle.plain_engine.specs.Plain.{EndsService, after_look_up, after_turn, given_up, is_served, machine_of, standing_of};
 
@@ -82,7 +84,7 @@ impl<P: Policy> Plain<P> {
     #[tactic(auto, unfolding(engine_trait::specs::Turn::prepared))]
     fn prepare(&self, h: u32) -> Result<Look<P::Tag>, Stop>
         requires { h < length self.now.machine.core.harts }
-        ensures value { result ≡ prepared P.model self.now.machine h }
+        ensures value { result ≡ preparation P.model self.now.machine h }
         ensures sound { IfOk result
             (λ look. IsSound (ram_bytes self.now.machine.core.ram) look.effect) }
         ensures offered { IfOk result (λ look. is_offered P.model self.now.machine look ≡ true) }
@@ -101,7 +103,7 @@ impl<P: Policy> Plain<P> {
     #[tactic(auto, unfolding(engine_trait::specs::Turn::allowed))]
     fn ask(&self, h: u32, look: &Look<P::Tag>) -> Result<Outs<P::Tag>, Stop>
         requires { h < length self.now.machine.core.harts }
-        ensures { result ≡ allowed P.model self.now.machine h look.now }
+        ensures { result ≡ rule_answer P.model self.now.machine h look.now }
     {
         match self.policy.rule(look.group, look.inputs) {
             Ok(outs) => Ok(outs),
@@ -148,11 +150,11 @@ impl<P: Policy> Plain<P> {
         requires own { is_call look.now.group ≡ false }
         requires sound { IsSound (ram_bytes self.old.machine.core.ram) look.now.effect }
         ensures standing { self.new ≡ after_turn self.old
-            (effected P.model self.old.machine feed.old h look.now outs None).machine }
+            (turn_effect P.model self.old.machine feed.old h look.now outs None).machine }
         ensures feed { feed.new
-            ≡ (effected P.model self.old.machine feed.old h look.now outs None).feed }
+            ≡ (turn_effect P.model self.old.machine feed.old h look.now outs None).feed }
         ensures end { result
-            ≡ (effected P.model self.old.machine feed.old h look.now outs None).ended }
+            ≡ (turn_effect P.model self.old.machine feed.old h look.now outs None).ended }
         ensures no_failure { (why : Stop) → IsFailure why → result ≢ TurnEnd.Stopped why }
         ensures harts { length self.new.machine.core.harts ≡ length self.old.machine.core.harts }
         ensures bytes { ram_bytes self.new.machine.core.ram ≡ ram_bytes self.old.machine.core.ram }
@@ -203,7 +205,7 @@ impl<P: Policy> Plain<P> {
             job.now.words.items }
         requires aligned { look.now.effect.next % 4 ≡ 0 }
         ensures served { result ≢ TurnEnd.Memory
-            → self.new ≡ after_turn self.old (effected P.model self.old.machine [] h look.now
+            → self.new ≡ after_turn self.old (turn_effect P.model self.old.machine [] h look.now
             outs (Some (job_by job.now.plan job.now.words.items))).machine }
         ensures memory { result ≡ TurnEnd.Memory → self.new ≡ given_up self.old }
         ensures end { result ≢ TurnEnd.Memory → result ≡ TurnEnd.Ran None }

@@ -9,7 +9,7 @@ use Rattle.heap_policy.specs.Heap.{HeapState, heap, heap_knows}
 use Rattle.policy_product.specs.Both.{IsApart, both}
 use Rattle.policy_product.specs.Maybe.{knows_in, lend_in, maybe, room_in}
 use Rattle.policy_product.specs.declared.maybe.Maybe.{Maybe}
-use Rattle.policy_choice.specs.All.{all, chosen, compartment_count, flat_all, heap_of, pair_of}
+use Rattle.policy_choice.specs.All.{all, choice_state, compartment_count, flat_all, heap_of, pair_of}
 use Rattle.policy_choice.specs.declared.choice.Choice.{Choice}
 use Rattle.policy_choice.specs.Flat.{parts_of}
 use Rattle.policy_choice.specs.Told.{IsToldAs}
@@ -102,7 +102,7 @@ heap_room : (on : Bool) (state : HeapState) (ram : ℕ) → heap.room state ≤ 
 heap_room true state ram fits = fits
 heap_room false state ram fits = omega arith
 
-pub room_of_chosen : (choice : Choice) (g : Picture) → heap.room (heap_of g) ≤ g.ram → all.room (chosen choice g) ≤ g.ram
+pub room_of_chosen : (choice : Choice) (g : Picture) → heap.room (heap_of g) ≤ g.ram → all.room (choice_state choice g) ≤ g.ram
 room_of_chosen choice g fits =
     let seal = seal_room choice.seal in
     let comp = comp_room choice.comp (compartment_count g.compartments) in

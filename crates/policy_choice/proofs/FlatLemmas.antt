@@ -14,7 +14,7 @@ use Rattle.policy_trait.specs.declared.services.Plan.{Plan}
 use Rattle.policy_trait.specs.declared.services.PlanEnd.{PlanEnd}
 use Rattle.policy_trait.specs.declared.services.Rest.{Rest}
 use Rattle.policy_trait.specs.declared.services.Rest.TheVariants.{AsA0, Plain}
-use Rattle.policy_product.specs.Both.{IsApart, beside_left, beside_right, both, both_outs, joined, left, lent, lent_if, rest_tag, right, tag_beside}
+use Rattle.policy_product.specs.Both.{IsApart, beside_left, beside_right, both, both_outs, joint_text, left, lending_of, lent_if, rest_tag, right, tag_beside}
 use Rattle.policy_choice.specs.Flat.{Four, answer_among, flat, parts_of, plan_among}
 use Rattle.policy_choice.specs.Told.{IsToldAs}
 
@@ -89,9 +89,9 @@ lent_each true true false a b c = refl
 lent_each true true true a b c = refl
 
 -- a policy that lends every tag lends all arguments
-lent_always : {T : Type 0} (lend : T → Result (Unit {0}) Part) → Lends lend → (uses : ℕ) (a : Args T) → lent lend uses a ≡ Ok tt
+lent_always : {T : Type 0} (lend : T → Result (Unit {0}) Part) → Lends lend → (uses : ℕ) (a : Args T) → lending_of lend uses a ≡ Ok tt
 lent_always lend lends uses a =
-    ap (λ (l : _ → Result (Unit {0}) Part). lent l uses a) (λ j t. lends t j) ∙ lent_each (nat_le 1 uses) (nat_le 2 uses) (nat_le 3 uses) a.t0 a.t1 a.t2
+    ap (λ (l : _ → Result (Unit {0}) Part). lending_of l uses a) (λ j t. lends t j) ∙ lent_each (nat_le 1 uses) (nat_le 2 uses) (nat_le 3 uses) a.t0 a.t1 a.t2
 
 lends_both : {T U S R : Type 0} (m : PolicyModel T S) (n : PolicyModel U R) (s : S) (r : R) → Lends (m.lend s) → Lends (n.lend r) → Lends ((both m n).lend (s, r))
 lends_both m n s r first second t = ap (λ x. x >>= λ y. n.lend r t.1) (first t.0) ∙ second t.1
@@ -230,31 +230,31 @@ module _ {T U V W S R Q P : Type 0} (m0 : PolicyModel T S) (m1 : PolicyModel U R
     module _ (arguments : Args (T × (U × (V × W)))) (pc : T × (U × (V × W))) where
       abbrev plan_2 : Bool → Result (Plan (V × W)) PlanEnd
       plan_2 c = if c
-          then (lent (m3.lend s.1.1.1) (m2.uses s.1.1.0 k) (args_by right (args_by right (args_by right arguments))) >>= λ all.
+          then (lending_of (m3.lend s.1.1.1) (m2.uses s.1.1.0 k) (args_by right (args_by right (args_by right arguments))) >>= λ all.
           ok_by (beside_right pc.1.1.1 (m3.plain s.1.1.1) arguments.t0.1.1.1) (m2.plan s.1.1.0 k (args_by left (args_by right (args_by right arguments))) pc.1.1.0))
-          else (lent (m2.lend s.1.1.0) (m3.uses s.1.1.1 k) (args_by left (args_by right (args_by right arguments))) >>= λ all.
+          else (lending_of (m2.lend s.1.1.0) (m3.uses s.1.1.1 k) (args_by left (args_by right (args_by right arguments))) >>= λ all.
           ok_by (beside_left pc.1.1.0 (m2.plain s.1.1.0) arguments.t0.1.1.0) (m3.plan s.1.1.1 k (args_by right (args_by right (args_by right arguments))) pc.1.1.1))
 
       abbrev plan_1 : Bool → Bool → Result (Plan (U × (V × W))) PlanEnd
       plan_1 b c = if b
-          then (lent (inner.lend s.1.1) (m1.uses s.1.0 k) (args_by right (args_by right arguments)) >>= λ all.
+          then (lending_of (inner.lend s.1.1) (m1.uses s.1.0 k) (args_by right (args_by right arguments)) >>= λ all.
           ok_by (beside_right pc.1.1 (inner.plain s.1.1) arguments.t0.1.1) (m1.plan s.1.0 k (args_by left (args_by right arguments)) pc.1.0))
-          else (lent (m1.lend s.1.0) (uses_2 c) (args_by left (args_by right arguments)) >>= λ all.
+          else (lending_of (m1.lend s.1.0) (uses_2 c) (args_by left (args_by right arguments)) >>= λ all.
           ok_by (beside_left pc.1.0 (m1.plain s.1.0) arguments.t0.1.0) (plan_2 c))
 
       abbrev plan_0 : Bool → Bool → Bool → Result (Plan (T × (U × (V × W)))) PlanEnd
       plan_0 a b c = if a
-          then (lent (middle.lend s.1) (m0.uses s.0 k) (args_by right arguments) >>= λ all.
+          then (lending_of (middle.lend s.1) (m0.uses s.0 k) (args_by right arguments) >>= λ all.
           ok_by (beside_right pc.1 (middle.plain s.1) arguments.t0.1) (m0.plan s.0 k (args_by left arguments) pc.0))
-          else (lent (m0.lend s.0) (uses_1 b c) (args_by left arguments) >>= λ all.
+          else (lending_of (m0.lend s.0) (uses_1 b c) (args_by left arguments) >>= λ all.
           ok_by (beside_left pc.0 (m0.plain s.0) arguments.t0.0) (plan_1 b c))
 
       abbrev lent_at : Bool → Bool → Bool → Bool → Lent
       lent_at a b c d =
-          lent_or a (lent (m0.lend s.0) (uses_0 a b c) (args_by left arguments)) >>= λ x.
-          lent_or b (lent (m1.lend s.1.0) (uses_0 a b c) (args_by left (args_by right arguments))) >>= λ y.
-          lent_or c (lent (m2.lend s.1.1.0) (uses_0 a b c) (args_by left (args_by right (args_by right arguments)))) >>= λ z.
-          lent_or d (lent (m3.lend s.1.1.1) (uses_0 a b c) (args_by right (args_by right (args_by right arguments))))
+          lent_or a (lending_of (m0.lend s.0) (uses_0 a b c) (args_by left arguments)) >>= λ x.
+          lent_or b (lending_of (m1.lend s.1.0) (uses_0 a b c) (args_by left (args_by right arguments))) >>= λ y.
+          lent_or c (lending_of (m2.lend s.1.1.0) (uses_0 a b c) (args_by left (args_by right (args_by right arguments)))) >>= λ z.
+          lent_or d (lending_of (m3.lend s.1.1.1) (uses_0 a b c) (args_by right (args_by right (args_by right arguments))))
 
       abbrev owner_plan_at : Bool → Bool → Bool → Result (Plan (Four T U V W)) PlanEnd
       owner_plan_at a b c =
@@ -264,13 +264,13 @@ module _ {T U V W S R Q P : Type 0} (m0 : PolicyModel T S) (m1 : PolicyModel U R
           ok_by (among pc (nest.plain s) arguments.t0 (λ t all. record all { heap = t })) (m3.plan s.1.1.1 k (args_by right (args_by right (args_by right arguments))) pc.1.1.1)
 
       module _ (lends_1 : Lends (m1.lend s.1.0)) (lends_2 : Lends (m2.lend s.1.1.0)) (lends_3 : Lends (m3.lend s.1.1.1)) where
-        lent_1 : (uses : ℕ) → lent (m1.lend s.1.0) uses (args_by left (args_by right arguments)) ≡ Ok tt
+        lent_1 : (uses : ℕ) → lending_of (m1.lend s.1.0) uses (args_by left (args_by right arguments)) ≡ Ok tt
         lent_1 uses = lent_always (m1.lend s.1.0) lends_1 uses (args_by left (args_by right arguments))
 
-        lent_2 : (uses : ℕ) → lent (m2.lend s.1.1.0) uses (args_by left (args_by right (args_by right arguments))) ≡ Ok tt
+        lent_2 : (uses : ℕ) → lending_of (m2.lend s.1.1.0) uses (args_by left (args_by right (args_by right arguments))) ≡ Ok tt
         lent_2 uses = lent_always (m2.lend s.1.1.0) lends_2 uses (args_by left (args_by right (args_by right arguments)))
 
-        lent_3 : (uses : ℕ) → lent (m3.lend s.1.1.1) uses (args_by right (args_by right (args_by right arguments))) ≡ Ok tt
+        lent_3 : (uses : ℕ) → lending_of (m3.lend s.1.1.1) uses (args_by right (args_by right (args_by right arguments))) ≡ Ok tt
         lent_3 uses = lent_always (m3.lend s.1.1.1) lends_3 uses (args_by right (args_by right (args_by right arguments)))
 
         lends_inner : Lends (inner.lend s.1.1)
@@ -288,7 +288,7 @@ module _ {T U V W S R Q P : Type 0} (m0 : PolicyModel T S) (m1 : PolicyModel U R
             let r = m0.plan s.0 k (args_by left arguments) pc.0 in
             let uses = m0.uses s.0 k in
             let put = among pc plain arguments.t0 (λ t all. record all { seal = t }) in
-            last (lent (middle.lend s.1) uses (args_by right arguments)) (plan_by parts_of) (of_seal pc plain arguments.t0) r (λ x. x) put r (ok_itself r) (seal_plan pc plain arguments.t0)
+            last (lending_of (middle.lend s.1) uses (args_by right arguments)) (plan_by parts_of) (of_seal pc plain arguments.t0) r (λ x. x) put r (ok_itself r) (seal_plan pc plain arguments.t0)
             ∙ (ap (λ l. l >>= λ all. ok_by put r) (lent_always (middle.lend s.1) lends_middle uses (args_by right arguments))
             ∙ sym (passed (Ok tt) _ _ _ (ok_by put r) (lent_1 uses) (lent_2 uses) (lent_3 uses)))
 
@@ -299,7 +299,7 @@ module _ {T U V W S R Q P : Type 0} (m0 : PolicyModel T S) (m1 : PolicyModel U R
             let uses = m1.uses s.1.0 k in
             let put = among pc plain arguments.t0 (λ t all. record all { comp = t }) in
             let beside = beside_right pc.1.1 plain.1.1 arguments.t0.1.1 in
-            last (lent (m0.lend s.0) uses (args_by left arguments)) (plan_by parts_of) (beside_left pc.0 plain.0 arguments.t0.0) _ beside put r
+            last (lending_of (m0.lend s.0) uses (args_by left arguments)) (plan_by parts_of) (beside_left pc.0 plain.0 arguments.t0.0) _ beside put r
             (ap (λ l. l >>= λ all. ok_by beside r) (lent_always (inner.lend s.1.1) lends_inner uses (args_by right (args_by right arguments)))) (comp_plan pc plain arguments.t0)
             ∙ sym (passed _ (Ok tt) _ _ (ok_by put r) refl (lent_2 uses) (lent_3 uses))
 
@@ -311,7 +311,7 @@ module _ {T U V W S R Q P : Type 0} (m0 : PolicyModel T S) (m1 : PolicyModel U R
             let put = among pc plain arguments.t0 (λ t all. record all { flow = t }) in
             let before = beside_left pc.1.0 plain.1.0 arguments.t0.1.0 in
             let beside = beside_right pc.1.1.1 plain.1.1.1 arguments.t0.1.1.1 in
-            last (lent (m0.lend s.0) uses (args_by left arguments)) (plan_by parts_of) (beside_left pc.0 plain.0 arguments.t0.0) _ (λ x. before (beside x)) put r
+            last (lending_of (m0.lend s.0) uses (args_by left arguments)) (plan_by parts_of) (beside_left pc.0 plain.0 arguments.t0.0) _ (λ x. before (beside x)) put r
             (behind _ before _ beside r (lent_1 uses) (ap (λ l. l >>= λ all. ok_by beside r) (lent_3 uses))) (flow_plan pc plain arguments.t0)
             ∙ sym (passed _ _ (Ok tt) _ (ok_by put r) (lent_1 uses) refl (lent_3 uses))
 
@@ -323,7 +323,7 @@ module _ {T U V W S R Q P : Type 0} (m0 : PolicyModel T S) (m1 : PolicyModel U R
             let put = among pc plain arguments.t0 (λ t all. record all { heap = t }) in
             let before = beside_left pc.1.0 plain.1.0 arguments.t0.1.0 in
             let beside = beside_left pc.1.1.0 plain.1.1.0 arguments.t0.1.1.0 in
-            last (lent (m0.lend s.0) uses (args_by left arguments)) (plan_by parts_of) (beside_left pc.0 plain.0 arguments.t0.0) _ (λ x. before (beside x)) put r
+            last (lending_of (m0.lend s.0) uses (args_by left arguments)) (plan_by parts_of) (beside_left pc.0 plain.0 arguments.t0.0) _ (λ x. before (beside x)) put r
             (behind _ before _ beside r (lent_1 uses) (ap (λ l. l >>= λ all. ok_by beside r) (lent_2 uses))) (heap_plan pc plain arguments.t0)
             ∙ sym (passed _ _ _ (Ok tt) (ok_by put r) (lent_1 uses) (lent_2 uses) refl)
 
@@ -464,7 +464,7 @@ module _ {T U V W S R Q P : Type 0} (m0 : PolicyModel T S) (m1 : PolicyModel U R
 
   -- ---- all of it
 
-  joined_nothing : (text : List ℕ) → joined text [] ≡ text
+  joined_nothing : (text : List ℕ) → joint_text text [] ≡ text
   joined_nothing [] = refl
   joined_nothing (byte ∷ bytes) =
       let some : (length (byte ∷ bytes) == 0) ≡ false = grind (arith, nat_tests) in
@@ -490,6 +490,6 @@ module _ {T U V W S R Q P : Type 0} (m0 : PolicyModel T S) (m1 : PolicyModel U R
       commit = λ s p known. same_commit s p p.pc _ _ _ _ (owned s p.service known);
       start_pc = λ s b. refl;
       start_word = λ s b. refl;
-      text = λ s t. ap (λ text. joined (m0.text s.0 t.0) (joined (m1.text s.1.0 t.1.0) (joined (m2.text s.1.1.0 t.1.1.0) text))) (sym (joined_nothing (m3.text s.1.1.1 t.1.1.1)));
+      text = λ s t. ap (λ text. joint_text (m0.text s.0 t.0) (joint_text (m1.text s.1.0 t.1.0) (joint_text (m2.text s.1.1.0 t.1.1.0) text))) (sym (joined_nothing (m3.text s.1.1.1 t.1.1.1)));
       listed = λ s place. refl;
     }

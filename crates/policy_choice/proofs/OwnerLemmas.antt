@@ -1,7 +1,7 @@
 -- No owner in an image's ranges is past the 32 that there can be.
 use Rattle.std.proofs.Common.{◌≡◌, ℕ, zero, suc, ◌<◌, ◌≤◌, true, ◌&&◌, List, [], ◌∷◌, Option, Some, None, length, slice_index_or, arith}
 use Rattle.std.proofs.lemmas.Bool.{leb-true}
-use Rattle.image_format.proofs.FieldLaws.{both}
+use Rattle.image_format.proofs.FieldLemmas.{both}
 use Rattle.image_format.specs.Conditions.{IsList, are_rows, in_order, is_compartment, is_compartment_after, is_owner, is_range, is_u32, whole}
 use Rattle.image_format.specs.declared.rows.CompartmentRange.{CompartmentRange}
 

@@ -57,8 +57,8 @@ abbrev pub part_if : {S : Type 0} → Bool → S → Maybe S
 part_if chosen s = record { part = if chosen then Some s else None }
 
 -- the chosen policies at the start of an image, before anything was asked of them
-abbrev pub chosen : Choice → Picture → AllState
-chosen choice g = (
+abbrev pub choice_state : Choice → Picture → AllState
+choice_state choice g = (
   part_if choice.seal 0,
   (
     part_if choice.comp (compartment_count g.compartments),

@@ -12,8 +12,8 @@ use Rattle.policy_trait.specs.declared.services.Answer.{Answer}
 use Rattle.policy_trait.specs.declared.services.Args.{Args}
 use Rattle.policy_trait.specs.declared.services.Plan.{Plan}
 use Rattle.policy_trait.specs.declared.services.PlanEnd.{PlanEnd}
-use Rattle.policy_product.specs.Both.{both_ignore, joined, lent, or_else, rest_tag}
-use Rattle.policy_parts.specs.Part.{committed, word_tag}
+use Rattle.policy_product.specs.Both.{both_ignore, joint_text, lending_of, or_else, rest_tag}
+use Rattle.policy_parts.specs.Part.{value_after, word_tag}
 
 -- one for each policy, in the order in which they are asked
 pub record Four (A B C D : Type 0) : Type 0 where
@@ -31,12 +31,12 @@ parts_of x = record { seal = x.0; comp = x.1.0; flow = x.1.1.0; heap = x.1.1.1 }
 module _ {T S : Type 0} (m : PolicyModel T S) where
   -- a policy lends the used arguments of a service that is not its own
   abbrev pub lent_to_others : S → ℕ → ℕ → Args T → Result (Unit {0}) PlanEnd
-  lent_to_others s number uses a = if m.knows s number then Ok tt else lent (m.lend s) uses a
+  lent_to_others s number uses a = if m.knows s number then Ok tt else lending_of (m.lend s) uses a
 
 -- texts that are not empty, with bars between
 abbrev pub all_joined : List (List ℕ) → List ℕ
 all_joined [] = []
-all_joined (text ∷ texts) = joined text (all_joined texts)
+all_joined (text ∷ texts) = joint_text text (all_joined texts)
 
 -- a policy's answer among the components of all: the others are plain, or those of a0
 abbrev pub answer_among : {T W : Type 0} → (T → W → W) → W → W → Answer T → Answer W
@@ -107,10 +107,10 @@ module _ {T U V W S R Q P : Type 0} (seal : PolicyModel T S) (comp : PolicyModel
         seal.wipe s.seal pc.seal old.seal >>= λ a. comp.wipe s.comp pc.comp old.comp >>= λ b.
         flow.wipe s.flow pc.flow old.flow >>= λ c. heap.wipe s.heap pc.heap old.heap >>= λ d. Ok (record { seal = a; comp = b; flow = c; heap = d });
     commit = λ s p. record {
-      seal = committed seal s.seal (plan_by (λ t. t.seal) p);
-      comp = committed comp s.comp (plan_by (λ t. t.comp) p);
-      flow = committed flow s.flow (plan_by (λ t. t.flow) p);
-      heap = committed heap s.heap (plan_by (λ t. t.heap) p);
+      seal = value_after seal s.seal (plan_by (λ t. t.seal) p);
+      comp = value_after comp s.comp (plan_by (λ t. t.comp) p);
+      flow = value_after flow s.flow (plan_by (λ t. t.flow) p);
+      heap = value_after heap s.heap (plan_by (λ t. t.heap) p);
     };
     start_pc = λ s b. record { seal = seal.start_pc s.seal b; comp = comp.start_pc s.comp b; flow = flow.start_pc s.flow b; heap = heap.start_pc s.heap b };
     start_word = λ s b. record { seal = seal.start_word s.seal b; comp = comp.start_word s.comp b; flow = flow.start_word s.flow b; heap = heap.start_word s.heap b };

@@ -2,7 +2,7 @@
 
 ghost use Rattle.std.specs.Prelude.{◌≡◌, ◌≤◌, IfOk, map};
 ghost use Rattle.heap_policy.specs.Heap.{heap};
-ghost use Rattle.policy_choice.specs.All.{all, chosen, compartment_count, heap_of, pair_of, part_if};
+ghost use Rattle.policy_choice.specs.All.{all, choice_state, compartment_count, heap_of, pair_of, part_if};
 
 use crate::choice::Choice;
 use compartment_policy::{CompartmentTag, Compartments};
@@ -83,7 +83,7 @@ fn heap_of(alloc: Global, image: &Image) -> Heap
 /// The chosen policies at the start of the image, before anything was asked of them; the others are off. The image says how
 /// many compartments there are, the edges, and where the heap region is; its memory has the bytes that they count on. The only error is want of memory.
 pub fn choose(alloc: Global, choice: Choice, image: &Image) -> Result<All, AllocError>
-    ensures value { IfOk result (λ policy. policy ≡ chosen choice image.now) }
+    ensures value { IfOk result (λ policy. policy ≡ choice_state choice image.now) }
     ensures room { IfOk result (λ policy. all.room policy ≤ image.now.ram) }
 {
     let seal = part_if(choice.seal, Sealing::new());

@@ -3,9 +3,9 @@
 ghost use Rattle.std.specs.Prelude.{◌≡◌, true};
 ghost use Rattle.policy_trait.specs.Mirrors.{Mirrors};
 ghost use Rattle.image_format.specs.Picture.{Picture};
-ghost use Rattle.policy_product.specs.Nothing.{nothing, untagged};
+ghost use Rattle.policy_product.specs.Nothing.{nothing, no_tag};
 ghost use Rattle.policy_product.specs.declared.nothing.Nothing.{Nothing};
-ghost use Rattle.policy_choice.specs.All.{all, chosen, flat_all};
+ghost use Rattle.policy_choice.specs.All.{all, choice_state, flat_all};
 ghost use Rattle.policy_choice.specs.Choice.{is_none};
 ghost use Rattle.policy_choice.specs.Flat.{parts_of};
 ghost use Rattle.policy_choice.specs.Told.{IsToldAs};
@@ -21,5 +21,5 @@ pub fn flat_law()
 /// content. The function does nothing.
 pub fn nothing_law()
     ensures { (choice : Choice) (g : Picture) (s : Nothing) → is_none choice ≡ true
-        → Mirrors untagged all (chosen choice g) nothing s }
+        → Mirrors no_tag all (choice_state choice g) nothing s }
 {}

@@ -1,7 +1,7 @@
 -- What may be absent, and is changed where it is there.
 use Rattle.std.proofs.Common.{◌≡◌, Option, Some, None, option_map, refl, subst}
 use Rattle.std.specs.Option.{ForSome}
-use Rattle.policy_trait.specs.Laws.{KeepsValue}
+use Rattle.policy_trait.specs.PolicyLaws.{KeepsValue}
 use Rattle.policy_trait.specs.Maps.{answer_by, args_by}
 use Rattle.policy_trait.specs.declared.services.Answer.{Answer}
 use Rattle.policy_trait.specs.declared.services.Args.{Args}

@@ -2,7 +2,7 @@
 use Rattle.std.proofs.Common.{◌≡◌, ℕ, ◌≤◌, Bool, true, Option, Some, None, Result, Ok, Err, refl, sym, ap, ◌∙◌, subst, if◌then◌else◌, arith}
 use Rattle.std.specs.Option.{is_some, unwrap_or}
 use Rattle.rv_decode.specs.declared.groups.Group.{Group}
-use Rattle.policy_trait.specs.Laws.{KeepsLaws}
+use Rattle.policy_trait.specs.PolicyLaws.{KeepsLaws}
 use Rattle.policy_trait.specs.Maps.{answer_by, args_by, ins_by, ok_by, outs_by, plan_by}
 use Rattle.policy_trait.specs.Model.{PolicyModel}
 use Rattle.policy_trait.specs.declared.birth.Birth.{Birth}
@@ -12,7 +12,7 @@ use Rattle.policy_trait.specs.declared.services.Args.{Args}
 use Rattle.policy_trait.specs.declared.services.Plan.{Plan}
 use Rattle.policy_product.specs.Both.{tag_beside}
 use Rattle.policy_product.specs.Maybe.{commit_in, knows_in, maybe, plan_in, plain_in, retag_in, room_in, rule_in, some_tag, start_pc_in, start_word_in, tag_or, wipe_in}
-use Rattle.policy_parts.specs.Part.{IsPart, Planned, committed, own, word_tag}
+use Rattle.policy_parts.specs.Part.{IsPart, Planned, value_after, own, word_tag}
 use Rattle.policy_parts.specs.View.{on_view}
 use Rattle.policy_parts.proofs.MapLemmas.{mapped_twice}
 use Rattle.std.proofs.lemmas.Iterator.Adapters.{option_map_id}
@@ -62,7 +62,7 @@ module _ {U V : Type 0} (m : PolicyModel U V) (holds : V → Type 0) (laws : Kee
       ∙ subst (λ (f : Option U → U). m.retag v (plan_by f p) (f old) ≡ Ok (read new)) (reads_so v)
       (came some_tag read (λ t. refl) (m.retag v (plan_by (λ tag. tag_or (m.plain v) tag) p) (tag_or (m.plain v) old)) new e)
 
-  commit_on : (v : V) (p : Plan (Option U)) → m.knows v p.service ≡ true → m.commit v (plan_by (λ tag. tag_or (m.plain v) tag) p) ≡ committed m v (plan_by read p)
+  commit_on : (v : V) (p : Plan (Option U)) → m.knows v p.service ≡ true → m.commit v (plan_by (λ tag. tag_or (m.plain v) tag) p) ≡ value_after m v (plan_by read p)
   commit_on v p known =
       ap (λ (f : Option U → U). m.commit v (plan_by f p)) (reads_so v)
       ∙ ap (λ (b : Bool). if b then m.commit v (plan_by read p) else v) (sym known)
@@ -107,7 +107,7 @@ module _ {U V : Type 0} (m : PolicyModel U V) (holds : V → Type 0) (laws : Kee
   retag_of (Some v) p old new on known e = retag_on v p old new known e
 
   commit_of : (part : Option V) (p : Plan (Option U)) → IsOn part → knows_in m part p.service ≡ true
-      → value (commit_in m part p) ≡ committed m (value part) (plan_by read p)
+      → value (commit_in m part p) ≡ value_after m (value part) (plan_by read p)
   commit_of None p on known = absurd (cc on)
   commit_of (Some v) p on known = commit_on v p known
 

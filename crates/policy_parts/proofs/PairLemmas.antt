@@ -3,7 +3,7 @@ use Rattle.std.proofs.Common.{◌≡◌, ℕ, Bool, true, false, not, ◌||◌, 
 use Rattle.std.specs.Option.{ForSome}
 use Rattle.std.proofs.Math.Nat.{le-max_left, le-max_right}
 use Rattle.std.proofs.lemmas.Iterator.Adapters.{option_map_id}
-use Rattle.policy_trait.specs.Laws.{KeepsLaws, KeepsValue}
+use Rattle.policy_trait.specs.PolicyLaws.{KeepsLaws, KeepsValue}
 use Rattle.policy_trait.specs.Maps.{answer_by, args_by, ok_by, outs_by, plan_by}
 use Rattle.policy_trait.specs.Model.{PolicyModel}
 use Rattle.policy_trait.specs.Steps.{◌>>=◌}
@@ -12,9 +12,9 @@ use Rattle.policy_trait.specs.declared.services.Answer.{Answer}
 use Rattle.policy_trait.specs.declared.services.Args.{Args}
 use Rattle.policy_trait.specs.declared.services.Plan.{Plan}
 use Rattle.policy_trait.specs.declared.services.PlanEnd.{PlanEnd}
-use Rattle.policy_product.specs.Both.{IsApart, answer_before, answer_beside, beside_left, beside_right, both, both_outs, left, lent, plan_of_left, plan_of_right, rest_tag, retag_of_left, retag_of_right, right, tag_beside}
+use Rattle.policy_product.specs.Both.{IsApart, answer_before, answer_beside, beside_left, beside_right, both, both_outs, left, lending_of, plan_of_left, plan_of_right, rest_tag, retag_of_left, retag_of_right, right, tag_beside}
 use Rattle.policy_product.specs.BothLaws.{both_laws}
-use Rattle.policy_parts.specs.Part.{IsPart, Planned, committed, others, own, word_tag}
+use Rattle.policy_parts.specs.Part.{IsPart, Planned, value_after, others, own, word_tag}
 use Rattle.policy_parts.specs.View.{View, left_view, right_view}
 use Rattle.policy_parts.proofs.MapLemmas.{for_some_mapped, mapped_twice, value_mapped}
 use Rattle.policy_parts.proofs.WithinLemmas.{part_of_part}
@@ -125,11 +125,11 @@ module _ {T U S R : Type 0} (m : PolicyModel T S) (n : PolicyModel U R) (holds :
   left_planned true s k a pc p owned number values e =
       own owned number
       (plan_came (λ r q. r ≡ Ok (plan_by left q)) _ (λ q. ap ok (sym (left_again pc.1 (n.plain s.1) a.t0.1 q)))
-      (lent (n.lend s.1) (m.uses s.0 k) (args_by right a)) _ p e)
+      (lending_of (n.lend s.1) (m.uses s.0 k) (args_by right a)) _ p e)
   left_planned false s k a pc p owned number values e =
       of_others m s.0 left k a pc p number values owned
       (plan_came (λ r. IsBeside left pc.0 (m.plain s.0) a.t0.0) _ (left_beside pc.0 (m.plain s.0) a.t0.0)
-      (lent (m.lend s.0) (n.uses s.1 k) (args_by left a)) _ p e)
+      (lending_of (m.lend s.0) (n.uses s.1 k) (args_by left a)) _ p e)
 
   left_retagged : (owns : Bool) (s : S × R) (p : Plan (T × U)) (old new : T × U) → retagged owns s p old ≡ Ok new
       → (if owns then m.retag s.0 (plan_by left p) old.0 else tag_beside m s.0 p.zero p.pc.0 old.0) ≡ Ok new.0
@@ -173,11 +173,11 @@ module _ {T U S R : Type 0} (m : PolicyModel T S) (n : PolicyModel U R) (holds :
     right_planned true s k a pc p owned number values e =
         of_others n s.1 right k a pc p number values owned
         (plan_came (λ r. IsBeside right pc.1 (n.plain s.1) a.t0.1) _ (right_beside pc.1 (n.plain s.1) a.t0.1)
-        (lent (n.lend s.1) (m.uses s.0 k) (args_by right a)) _ p e)
+        (lending_of (n.lend s.1) (m.uses s.0 k) (args_by right a)) _ p e)
     right_planned false s k a pc p owned number values e =
         own owned number
         (plan_came (λ r q. r ≡ Ok (plan_by right q)) _ (λ q. ap ok (sym (right_again pc.0 (m.plain s.0) a.t0.0 q)))
-        (lent (m.lend s.0) (n.uses s.1 k) (args_by left a)) _ p e)
+        (lending_of (m.lend s.0) (n.uses s.1 k) (args_by left a)) _ p e)
 
     abbrev right_word : S × R → Plan (T × U) → T × U → Bool → Result U Refused
     right_word s p old owned = if owned then n.retag s.1 (plan_by right p) old.1 else tag_beside n s.1 p.zero p.pc.1 old.1
@@ -188,7 +188,7 @@ module _ {T U S R : Type 0} (m : PolicyModel T S) (n : PolicyModel U R) (holds :
     right_retagged false s p old new owned e = ap (right_word s p old) owned ∙ right_came _ _ new e
 
     right_committed : (owns : Bool) (s : S × R) (p : Plan (T × U)) → n.knows s.1 p.service ≡ not owns
-        → right (carried_out owns s p) ≡ committed n s.1 (plan_by right p)
+        → right (carried_out owns s p) ≡ value_after n s.1 (plan_by right p)
     right_committed true s p owned = ap (λ known. if known then n.commit s.1 (plan_by right p) else s.1) (sym owned)
     right_committed false s p owned = ap (λ known. if known then n.commit s.1 (plan_by right p) else s.1) (sym owned)
 

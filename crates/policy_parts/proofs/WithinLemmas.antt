@@ -9,7 +9,7 @@ use Rattle.policy_trait.specs.declared.services.Plan.{Plan}
 use Rattle.policy_trait.specs.declared.services.Rest.{Rest}
 use Rattle.policy_trait.specs.declared.services.Rest.TheVariants.{AsA0, Plain}
 use Rattle.policy_product.specs.Both.{rest_tag, tag_beside}
-use Rattle.policy_parts.specs.Part.{IsOthers, IsPart, Planned, committed, others, own, word_tag}
+use Rattle.policy_parts.specs.Part.{IsOthers, IsPart, Planned, value_after, others, own, word_tag}
 use Rattle.policy_parts.specs.View.{View}
 use Rattle.policy_parts.proofs.MapLemmas.{for_some_mapped, mapped_twice}
 
@@ -68,7 +68,7 @@ module _ {U V X Y : Type 0} (m : PolicyModel U V) (q : PolicyModel X Y) (l : Vie
       ∙ beside_within p.zero v p.pc old new on e
 
   commit_within : (owns : Bool) (v : V) (p : Plan U) → m.knows v p.service ≡ owns → l.is_on v ≡ true
-      → l.value (if owns then m.commit v p else v) ≡ committed q (l.value v) (plan_by l.tag p)
+      → l.value (if owns then m.commit v p else v) ≡ value_after q (l.value v) (plan_by l.tag p)
   commit_within true v p owned on = part.commit v p on owned
   commit_within false v p owned on =
       ap (λ known. if known then q.commit (l.value v) (plan_by l.tag p) else l.value v) (sym (not_known v p.service on owned))
@@ -123,7 +123,7 @@ module _ {T S U V X Y : Type 0} (w : PolicyModel T S) (m : PolicyModel U V) (q :
     commit = λ s p on known.
         ap k.value (whole.commit s p (l_on s on) known)
         ∙ commit_within m q k part (m.knows (l.value s) p.service) (l.value s) (plan_by l.tag p) refl (k_on s on)
-        ∙ ap (λ (r : Plan X). committed q (k.value (l.value s)) r) (plan_twice p);
+        ∙ ap (λ (r : Plan X). value_after q (k.value (l.value s)) r) (plan_twice p);
     stays = λ s p on known.
         both_on (whole.stays s p (l_on s on) known)
         (ap k.is_on (whole.commit s p (l_on s on) known)

@@ -2,7 +2,7 @@
 -- tags and its own value; and a service of another part leaves what is the part's.
 use Rattle.std.specs.Prelude.{◌≡◌, ℕ, ◌≤◌, true, false, Some, Result, Ok, if◌then◌else◌}
 use Rattle.rv_decode.specs.declared.groups.Group.{Group}
-use Rattle.policy_trait.specs.Laws.{KeepsValue}
+use Rattle.policy_trait.specs.PolicyLaws.{KeepsValue}
 use Rattle.policy_trait.specs.Maps.{args_by, ins_by, outs_by, plan_by}
 use Rattle.policy_trait.specs.Model.{PolicyModel}
 use Rattle.policy_trait.specs.declared.birth.Birth.{Birth}
@@ -23,12 +23,12 @@ module _ {U V : Type 0} (m : PolicyModel U V) where
   word_tag v p old = if m.knows v p.service then m.retag v p old else tag_beside m v p.zero p.pc old
 
   -- only its own services change its value
-  abbrev pub committed : V → Plan U → V
-  committed v p = if m.knows v p.service then m.commit v p else v
+  abbrev pub value_after : V → Plan U → V
+  value_after v p = if m.knows v p.service then m.commit v p else v
 
   -- the policy with its words and its value as any service leaves them
   abbrev pub beside_others : PolicyModel U V
-  beside_others = record m { retag = word_tag; commit = committed }
+  beside_others = record m { retag = word_tag; commit = value_after }
 
 -- an answer of another's service has the plain tag here, or that of a0, whose value it then has too
 pub record IsOthers {U : Type 0} (plain : U) (a : Args U) (answer : Answer U) : Type 0 where
@@ -53,7 +53,7 @@ pub record IsPart {T S U V : Type 0} (w : PolicyModel T S) (m : PolicyModel U V)
       → Planned m (l.value s) k (args_by l.tag a) (l.tag pc) (plan_by l.tag p)
   pub retag : (s : S) (p : Plan T) (old new : T) → l.is_on s ≡ true → w.knows s p.service ≡ true → w.retag s p old ≡ Ok new
       → word_tag m (l.value s) (plan_by l.tag p) (l.tag old) ≡ Ok (l.tag new)
-  pub commit : (s : S) (p : Plan T) → l.is_on s ≡ true → w.knows s p.service ≡ true → l.value (w.commit s p) ≡ committed m (l.value s) (plan_by l.tag p)
+  pub commit : (s : S) (p : Plan T) → l.is_on s ≡ true → w.knows s p.service ≡ true → l.value (w.commit s p) ≡ value_after m (l.value s) (plan_by l.tag p)
   pub stays : (s : S) (p : Plan T) → l.is_on s ≡ true → w.knows s p.service ≡ true → l.is_on (w.commit s p) ≡ true
   pub start_pc : (s : S) (b : Birth) → l.is_on s ≡ true → l.tag (w.start_pc s b) ≡ m.start_pc (l.value s) b
   pub start_word : (s : S) (b : Birth) → l.is_on s ≡ true → l.tag (w.start_word s b) ≡ m.start_word (l.value s) b

@@ -16,10 +16,11 @@ use Rattle.policy_trait.specs.declared.services.PlanEnd.TheVariants as plan_end
 use Rattle.policy_trait.specs.declared.services.Rest.{Rest}
 use Rattle.policy_trait.specs.declared.services.Rest.TheVariants.{AsA0, Plain}
 
--- the two parts of a pair
+-- the first part of a pair
 abbrev pub left : {A B : Type 0} → A × B → A
 left pair = pair.0
 
+-- the second part of a pair
 abbrev pub right : {A B : Type 0} → A × B → B
 right pair = pair.1
 
@@ -29,6 +30,7 @@ IsApart m n s r = (k : ℕ) → m.knows s k ≡ true → n.knows r k ≡ false
 
 -- ---- the rule
 
+-- the outputs of both, paired
 abbrev pub both_outs : {T U : Type 0} → Outs T → Outs U → Outs (T × U)
 both_outs x y = record { pc = (x.pc, y.pc); result = (x.result, y.result) }
 
@@ -48,14 +50,15 @@ lent_if lend true tag = or_refused (lend tag)
     or_refused (Err part) = Err (plan_end.Refused (record { part = part; why = Lend }))
 
 -- the arguments that are used, one by one
-abbrev pub lent : {T : Type 0} → (T → Result (Unit {0}) Part) → ℕ → Args T → Result (Unit {0}) PlanEnd
-lent lend uses a = lent_if lend (nat_le 1 uses) a.t0 >>= λ first. lent_if lend (nat_le 2 uses) a.t1 >>= λ second. lent_if lend (nat_le 3 uses) a.t2
+abbrev pub lending_of : {T : Type 0} → (T → Result (Unit {0}) Part) → ℕ → Args T → Result (Unit {0}) PlanEnd
+lending_of lend uses a = lent_if lend (nat_le 1 uses) a.t0 >>= λ first. lent_if lend (nat_le 2 uses) a.t1 >>= λ second. lent_if lend (nat_le 3 uses) a.t2
 
 -- the other component of an answer: plain, or that of a0
 abbrev pub rest_tag : {U : Type 0} → Rest → U → U → U
 rest_tag Plain plain a0 = plain
 rest_tag AsA0 plain a0 = a0
 
+-- an answer of the left part, with the right part's tag
 abbrev pub answer_beside : {T U : Type 0} → U → U → Answer T → Answer (T × U)
 answer_beside plain a0 x = record { value = x.value; tag = (x.tag, rest_tag x.rest plain a0); rest = x.rest }
 
@@ -64,10 +67,11 @@ abbrev pub beside_right : {T U : Type 0} → U → U → U → Plan T → Plan (
 beside_right pc plain a0 p =
     record { service = p.service; pc = (p.pc, pc); note = p.note; range = p.range; zero = p.zero; answer = option_map (answer_beside plain a0) p.answer }
 
+-- an answer of the right part, with the left part's tag
 abbrev pub answer_before : {T U : Type 0} → T → T → Answer U → Answer (T × U)
 answer_before plain a0 x = record { value = x.value; tag = (rest_tag x.rest plain a0, x.tag); rest = x.rest }
 
--- the same of the right part
+-- a plan of the right part likewise, with the left part's tags
 abbrev pub beside_left : {T U : Type 0} → T → T → T → Plan U → Plan (T × U)
 beside_left pc plain a0 p =
     record { service = p.service; pc = (pc, p.pc); note = p.note; range = p.range; zero = p.zero; answer = option_map (answer_before plain a0) p.answer }
@@ -77,32 +81,38 @@ abbrev pub tag_beside : {T S : Type 0} → PolicyModel T S → S → Bool → T 
 tag_beside m s zero pc old = if zero then m.wipe s pc old else Ok old
 
 -- texts that are not empty, with a bar between
-abbrev pub joined : List ℕ → List ℕ → List ℕ
-joined x y = if length x == 0 then y else if length y == 0 then x else x ++ codes "|" ++ y
+abbrev pub joint_text : List ℕ → List ℕ → List ℕ
+joint_text x y = if length x == 0 then y else if length y == 0 then x else x ++ codes "|" ++ y
 
+-- the first, or else the second
 abbrev pub or_else : {A : Type 0} → Option A → Option A → Option A
 or_else None other = other
 or_else (Some x) other = Some x
 
 module _ {T U S R : Type 0} (m : PolicyModel T S) (n : PolicyModel U R) where
+  -- the plan of a service that the left part owns, to which the right part lends its arguments
   abbrev pub plan_of_left : S × R → ℕ → Args (T × U) → T × U → Result (Plan (T × U)) PlanEnd
   plan_of_left s number a pc =
-      lent (n.lend s.1) (m.uses s.0 number) (args_by right a) >>= λ all.
+      lending_of (n.lend s.1) (m.uses s.0 number) (args_by right a) >>= λ all.
       ok_by (beside_right pc.1 (n.plain s.1) a.t0.1) (m.plan s.0 number (args_by left a) pc.0)
 
+  -- the same for the right part
   abbrev pub plan_of_right : S × R → ℕ → Args (T × U) → T × U → Result (Plan (T × U)) PlanEnd
   plan_of_right s number a pc =
-      lent (m.lend s.0) (n.uses s.1 number) (args_by left a) >>= λ all.
+      lending_of (m.lend s.0) (n.uses s.1 number) (args_by left a) >>= λ all.
       ok_by (beside_left pc.0 (m.plain s.0) a.t0.0) (n.plan s.1 number (args_by right a) pc.1)
 
+  -- the new tag of a word of the left part's service
   abbrev pub retag_of_left : S × R → Plan (T × U) → T × U → Result (T × U) Refused
   retag_of_left s p old =
       m.retag s.0 (plan_by left p) old.0 >>= λ x. tag_beside n s.1 p.zero p.pc.1 old.1 >>= λ y. Ok (x, y)
 
+  -- the same for the right part's
   abbrev pub retag_of_right : S × R → Plan (T × U) → T × U → Result (T × U) Refused
   retag_of_right s p old =
       tag_beside m s.0 p.zero p.pc.0 old.0 >>= λ x. n.retag s.1 (plan_by right p) old.1 >>= λ y. Ok (x, y)
 
+  -- the two as one policy: both must allow, and a service is owned by the left part where that knows it
   abbrev pub both : PolicyModel (T × U) (S × R)
   both = record {
     plain = λ s. (m.plain s.0, n.plain s.1);
@@ -118,7 +128,7 @@ module _ {T U S R : Type 0} (m : PolicyModel T S) (n : PolicyModel U R) where
     commit = λ s p. if m.knows s.0 p.service then (m.commit s.0 (plan_by left p), s.1) else (s.0, n.commit s.1 (plan_by right p));
     start_pc = λ s birth. (m.start_pc s.0 birth, n.start_pc s.1 birth);
     start_word = λ s birth. (m.start_word s.0 birth, n.start_word s.1 birth);
-    text = λ s tag. joined (m.text s.0 tag.0) (n.text s.1 tag.1);
+    text = λ s tag. joint_text (m.text s.0 tag.0) (n.text s.1 tag.1);
     listed = λ s place. or_else (m.listed s.0 place) (n.listed s.1 place);
   }
 

@@ -3,10 +3,10 @@ use Rattle.std.proofs.Common.{◌≡◌, ℕ, ◌≤◌, Bool, true, false, ◌&
 use Rattle.std.specs.Option.{ForSome}
 use Rattle.std.proofs.Math.Nat.{le-max_left, le-max_right}
 use Rattle.rv_decode.specs.declared.groups.Group.{Group}
-use Rattle.policy_trait.specs.Laws.{IsRange, KeepsLaws, KeepsValue, SameRules}
-use Rattle.policy_trait.specs.LawsLemmas.{rule_by_key}
+use Rattle.policy_trait.specs.PolicyLaws.{IsRange, KeepsLaws, KeepsValue, SameRules}
+use Rattle.policy_trait.specs.UseLaws.{rule_by_key}
 use Rattle.policy_trait.specs.Maps.{args_by, ins_by, ok_by, plan_by}
-use Rattle.policy_trait.specs.Model.{CanPlan, IsGiven, PolicyModel, masked}
+use Rattle.policy_trait.specs.Model.{CanPlan, IsGiven, PolicyModel, masked_inputs}
 use Rattle.policy_trait.specs.Steps.{◌>>=◌}
 use Rattle.policy_trait.specs.declared.rules.Ins.{Ins}
 use Rattle.policy_trait.specs.declared.rules.Outs.{Outs}
@@ -16,7 +16,7 @@ use Rattle.policy_trait.specs.declared.services.Args.{Args}
 use Rattle.policy_trait.specs.declared.services.Plan.{Plan}
 use Rattle.policy_trait.specs.declared.services.PlanEnd.{PlanEnd}
 use Rattle.policy_trait.specs.declared.services.Words.{Words}
-use Rattle.policy_product.specs.Both.{BothHold, answer_before, answer_beside, beside_left, beside_right, both, both_ignore, both_outs, joined, left, lent, plan_of_left, plan_of_right, right}
+use Rattle.policy_product.specs.Both.{BothHold, answer_before, answer_beside, beside_left, beside_right, both, both_ignore, both_outs, joint_text, left, lending_of, plan_of_left, plan_of_right, right}
 
 -- ---- a plan of one part
 
@@ -77,21 +77,23 @@ module _ {T U S R : Type 0} (m : PolicyModel T S) (n : PolicyModel U R) (holds :
     (laws : KeepsLaws m holds) (also_laws : KeepsLaws n also) where
   -- ---- plans
 
+  -- the plan is one of the left part, put beside the tags of the right part
   abbrev FromLeft : S × R → ℕ → Args (T × U) → T × U → Plan (T × U) → Type 0
   FromLeft s k a pc p = FromPlan (beside_right pc.1 (n.plain s.1) a.t0.1) (m.plan s.0 k (args_by left a) pc.0) p
 
+  -- the same for the right part
   abbrev FromRight : S × R → ℕ → Args (T × U) → T × U → Plan (T × U) → Type 0
   FromRight s k a pc p = FromPlan (beside_left pc.0 (m.plain s.0) a.t0.0) (n.plan s.1 k (args_by right a) pc.1) p
 
   -- whose service it is decides whose plan it is
   of_left : (owns : Bool) (s : S × R) (k : ℕ) (a : Args (T × U)) (pc : T × U) (p : Plan (T × U)) → owns ≡ true
       → (if owns then plan_of_left m n s k a pc else plan_of_right m n s k a pc) ≡ Ok p → FromLeft s k a pc p
-  of_left true s k a pc p owned e = from_plan (lent (n.lend s.1) (m.uses s.0 k) (args_by right a)) _ _ p e
+  of_left true s k a pc p owned e = from_plan (lending_of (n.lend s.1) (m.uses s.0 k) (args_by right a)) _ _ p e
   of_left false s k a pc p owned e = absurd (cc owned)
 
   of_right : (owns : Bool) (s : S × R) (k : ℕ) (a : Args (T × U)) (pc : T × U) (p : Plan (T × U)) → owns ≡ false
       → (if owns then plan_of_left m n s k a pc else plan_of_right m n s k a pc) ≡ Ok p → FromRight s k a pc p
-  of_right false s k a pc p owned e = from_plan (lent (m.lend s.0) (n.uses s.1 k) (args_by left a)) _ _ p e
+  of_right false s k a pc p owned e = from_plan (lending_of (m.lend s.0) (n.uses s.1 k) (args_by left a)) _ _ p e
   of_right true s k a pc p owned e = absurd (cc owned)
 
   left_given : (s : S × R) (p : Plan (T × U)) → IsGiven (both m n) s p → m.knows s.0 p.service ≡ true → IsGiven m s.0 (plan_by left p)
@@ -152,10 +154,11 @@ module _ {T U S R : Type 0} (m : PolicyModel T S) (n : PolicyModel U R) (holds :
   pick_right true false plain t = refl
   pick_right false false plain t = refl
 
+  -- the inputs that both ignore made plain
   abbrev all_masked : S × R → Group → Ins (T × U) → Ins (T × U)
-  all_masked s g x = masked (both_ignore (m.ignores s.0 g) (n.ignores s.1 g)) (m.plain s.0, n.plain s.1) x
+  all_masked s g x = masked_inputs (both_ignore (m.ignores s.0 g) (n.ignores s.1 g)) (m.plain s.0, n.plain s.1) x
 
-  left_key : (s : S × R) (g : Group) (x : Ins (T × U)) → masked (m.ignores s.0 g) (m.plain s.0) (ins_by left x) ≡ masked (m.ignores s.0 g) (m.plain s.0) (ins_by left (all_masked s g x))
+  left_key : (s : S × R) (g : Group) (x : Ins (T × U)) → masked_inputs (m.ignores s.0 g) (m.plain s.0) (ins_by left x) ≡ masked_inputs (m.ignores s.0 g) (m.plain s.0) (ins_by left (all_masked s g x))
   left_key s g x =
       let plain : T × U = (m.plain s.0, n.plain s.1) in
       let a = m.ignores s.0 g in
@@ -168,7 +171,7 @@ module _ {T U S R : Type 0} (m : PolicyModel T S) (n : PolicyModel U R) (holds :
         tm = pick_left a.tm b.tm plain x.tm j;
       })
 
-  right_key : (s : S × R) (g : Group) (x : Ins (T × U)) → masked (n.ignores s.1 g) (n.plain s.1) (ins_by right x) ≡ masked (n.ignores s.1 g) (n.plain s.1) (ins_by right (all_masked s g x))
+  right_key : (s : S × R) (g : Group) (x : Ins (T × U)) → masked_inputs (n.ignores s.1 g) (n.plain s.1) (ins_by right x) ≡ masked_inputs (n.ignores s.1 g) (n.plain s.1) (ins_by right (all_masked s g x))
   right_key s g x =
       let plain : T × U = (m.plain s.0, n.plain s.1) in
       let a = m.ignores s.0 g in
@@ -204,7 +207,7 @@ module _ {T U S R : Type 0} (m : PolicyModel T S) (n : PolicyModel U R) (holds :
     wipe = λ pc old. ap (λ first. first >>= λ x. n.wipe r pc.1 old.1 >>= λ y. Ok (x, y)) (same.wipe pc.0 old.0);
     start_pc = λ b. ap (λ (x : T). (x, n.start_pc r b)) (same.start_pc b);
     start_word = λ b. ap (λ (x : T). (x, n.start_word r b)) (same.start_word b);
-    text = λ tag. ap (λ (x : List ℕ). joined x (n.text r tag.1)) (same.text tag.0);
+    text = λ tag. ap (λ (x : List ℕ). joint_text x (n.text r tag.1)) (same.text tag.0);
   }
 
   same_right : (s : S) (r t : R) → SameRules n r t → SameRules (both m n) (s, r) (s, t)
@@ -219,9 +222,10 @@ module _ {T U S R : Type 0} (m : PolicyModel T S) (n : PolicyModel U R) (holds :
     wipe = λ pc old. ap (λ second. m.wipe s pc.0 old.0 >>= λ x. second >>= λ y. Ok (x, y)) (same.wipe pc.1 old.1);
     start_pc = λ b. ap (λ (y : U). (m.start_pc s b, y)) (same.start_pc b);
     start_word = λ b. ap (λ (y : U). (m.start_word s b, y)) (same.start_word b);
-    text = λ tag. ap (joined (m.text s tag.0)) (same.text tag.1);
+    text = λ tag. ap (joint_text (m.text s tag.0)) (same.text tag.1);
   }
 
+  -- the two values after a commit, by whether the left part owns the service
   abbrev committed : Bool → S × R → Plan (T × U) → S × R
   committed owns s p = if owns then (m.commit s.0 (plan_by left p), s.1) else (s.0, n.commit s.1 (plan_by right p))
 
@@ -235,6 +239,7 @@ module _ {T U S R : Type 0} (m : PolicyModel T S) (n : PolicyModel U R) (holds :
 
   -- ---- what a plan is
 
+  -- the plan, by whether the left part owns the service
   abbrev planned : Bool → S × R → ℕ → Args (T × U) → T × U → Result (Plan (T × U)) PlanEnd
   planned owns s k a pc = if owns then plan_of_left m n s k a pc else plan_of_right m n s k a pc
 
@@ -279,6 +284,7 @@ module _ {T U S R : Type 0} (m : PolicyModel T S) (n : PolicyModel U R) (holds :
       (value_beside (answer_before (m.plain s.0) a.t0.0) (args_by right a) a from.plan.answer refl (λ x. refl) (λ x. refl)
       (also_laws.value s.1 k (args_by right a) pc.1 from.plan (either_known (m.knows s.0 k) (n.knows s.1 k) known owned) from.given))
 
+  -- the laws of the two as one
   pub both_laws : KeepsLaws (both m n) (BothHold holds also)
   both_laws = record {
     masks = rule_masked;

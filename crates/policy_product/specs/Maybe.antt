@@ -16,6 +16,7 @@ use Rattle.policy_trait.specs.declared.services.PlanEnd.TheVariants as plan_end
 use Rattle.policy_trait.specs.Maps.{args_by, ins_by, ok_by, outs_by, plan_by}
 use Rattle.policy_product.specs.declared.maybe.Maybe.{Maybe}
 
+-- a tag that may be missing, which is then the plain one
 abbrev pub tag_or : {T : Type 0} → T → Option T → T
 tag_or plain None = plain
 tag_or plain (Some tag) = tag
@@ -24,9 +25,11 @@ tag_or plain (Some tag) = tag
 abbrev pub some_tag : {T : Type 0} → T → Option T
 some_tag tag = Some tag
 
+-- every input is ignored
 abbrev pub all_ignored : Mask
 all_ignored = record { pc = true; ci = true; t1 = true; t2 = true; tm = true }
 
+-- the outputs where the policy is off
 abbrev pub no_tags : {T : Type 0} → Outs (Option T)
 no_tags = record { pc = None; result = None }
 
@@ -35,6 +38,7 @@ module _ {T S : Type 0} (m : PolicyModel T S) where
   abbrev pub read_by : S → Option T → T
   read_by s tag = tag_or (m.plain s) tag
 
+  -- each function of the policy, by whether it is on, and then by its value
   abbrev pub plain_in : Option S → Option T
   plain_in None = None
   plain_in (Some s) = Some (m.plain s)
@@ -95,6 +99,7 @@ module _ {T S : Type 0} (m : PolicyModel T S) where
   listed_in None place = None
   listed_in (Some s) place = m.listed s place
 
+  -- these functions as one policy
   abbrev pub maybe : PolicyModel (Option T) (Maybe S)
   maybe = record {
     plain = λ s. plain_in s.part;
@@ -119,5 +124,6 @@ abbrev pub HoldsIn : {S : Type 0} → (S → Type 0) → Option S → Type 0
 HoldsIn holds None = Unit {0}
 HoldsIn holds (Some s) = holds s
 
+-- the same of a value that may be off
 abbrev pub MaybeHolds : {S : Type 0} → (S → Type 0) → Maybe S → Type 0
 MaybeHolds holds s = HoldsIn holds s.part

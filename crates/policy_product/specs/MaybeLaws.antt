@@ -2,8 +2,8 @@
 use Rattle.std.proofs.Common.{◌≡◌, ℕ, ◌≤◌, Bool, true, false, Option, Some, None, Result, Ok, Err, IsTrue, option_map, refl, sym, ap, ◌∙◌, subst, if◌then◌else◌}
 use Rattle.std.specs.Option.{ForSome}
 use Rattle.rv_decode.specs.declared.groups.Group.{Group}
-use Rattle.policy_trait.specs.Laws.{IsRange, KeepsLaws, KeepsValue, SameRules}
-use Rattle.policy_trait.specs.Model.{CanPlan, IsGiven, PolicyModel, masked}
+use Rattle.policy_trait.specs.PolicyLaws.{IsRange, KeepsLaws, KeepsValue, SameRules}
+use Rattle.policy_trait.specs.Model.{CanPlan, IsGiven, PolicyModel, masked_inputs}
 use Rattle.policy_trait.specs.declared.rules.Ins.{Ins}
 use Rattle.policy_trait.specs.declared.rules.Mask.{Mask}
 use Rattle.policy_trait.specs.declared.services.Answer.{Answer}
@@ -15,11 +15,12 @@ use Rattle.policy_trait.specs.Maps.{answer_by, args_by, ins_by, ok_by, outs_by, 
 use Rattle.policy_product.specs.Maybe.{HoldsIn, MaybeHolds, commit_in, ignores_in, knows_in, maybe, plain_in, plan_in, read_by, rule_in, some_tag, tag_or, uses_in}
 use Rattle.policy_product.specs.declared.maybe.Maybe.{Maybe}
 
--- a plan put on and read again is the plan
+-- an answer put on and read again is the answer
 answer_again : {T : Type 0} (plain : T) (x : Option (Answer T)) → option_map (answer_by (tag_or plain)) (option_map (answer_by some_tag) x) ≡ x
 answer_again plain None = refl
 answer_again plain (Some x) = refl
 
+-- a plan put on and read again is the plan
 pub plan_again : {T : Type 0} (plain : T) (p : Plan T) → plan_by (tag_or plain) (plan_by some_tag p) ≡ p
 plan_again plain p = ap (λ x. record p { answer = x }) (answer_again plain p.answer)
 
@@ -29,11 +30,13 @@ pub record FromPart {T : Type 0} (r : Result (Plan T) PlanEnd) (p : Plan (Option
   pub given : r ≡ Ok plan
   pub put_on : plan_by some_tag plan ≡ p
 
+-- a plan put on comes from a plan of the policy
 pub from_part : {T : Type 0} (r : Result (Plan T) PlanEnd) (p : Plan (Option T)) → ok_by (plan_by some_tag) r ≡ Ok p → FromPart r p
 from_part (Ok plan) p e = record { plan = plan; given = refl; put_on = cc }
 from_part (Err end) p e = absurd (let h : Err end ≡ Ok p = e in cc)
 
 module _ {T S : Type 0} (m : PolicyModel T S) (holds : S → Type 0) (laws : KeepsLaws m holds) where
+  -- the plan of the policy, with missing tags read as plain
   abbrev planned : S → ℕ → Args (Option T) → Option T → Result (Plan T) PlanEnd
   planned s k a pc = m.plan s k (args_by (read_by m s) a) (read_by m s pc)
 
@@ -52,6 +55,7 @@ module _ {T S : Type 0} (m : PolicyModel T S) (holds : S → Type 0) (laws : Kee
       given_as : Plan T → Result (Plan T) PlanEnd
       given_as q = Ok q
 
+  -- a given plan of the policy that is on, read, is one that it gives
   pub on_given : (s : S) (p : Plan (Option T)) → IsGiven (maybe m) (record { part = Some s }) p → IsGiven m s (plan_by (read_by m s) p)
   on_given s p given =
       given_in s p.service given.arguments given.pc p given.can.known given.can.room (from_part (planned s p.service given.arguments given.pc) p given.given) refl
@@ -65,7 +69,7 @@ module _ {T S : Type 0} (m : PolicyModel T S) (holds : S → Type 0) (laws : Kee
   read_masked true plain t = refl
   read_masked false plain t = refl
 
-  inputs_masked : (mask : Mask) (plain : T) (x : Ins (Option T)) → ins_by (tag_or plain) (masked mask (Some plain) x) ≡ masked mask plain (ins_by (tag_or plain) x)
+  inputs_masked : (mask : Mask) (plain : T) (x : Ins (Option T)) → ins_by (tag_or plain) (masked_inputs mask (Some plain) x) ≡ masked_inputs mask plain (ins_by (tag_or plain) x)
   inputs_masked mask plain x = λ i. record {
     pc = read_masked mask.pc plain x.pc i;
     ci = read_masked mask.ci plain x.ci i;
@@ -74,7 +78,7 @@ module _ {T S : Type 0} (m : PolicyModel T S) (holds : S → Type 0) (laws : Kee
     tm = read_masked mask.tm plain x.tm i;
   }
 
-  rule_masked : (part : Option S) (g : Group) (x : Ins (Option T)) → rule_in m part g x ≡ rule_in m part g (masked (ignores_in m part g) (plain_in m part) x)
+  rule_masked : (part : Option S) (g : Group) (x : Ins (Option T)) → rule_in m part g x ≡ rule_in m part g (masked_inputs (ignores_in m part g) (plain_in m part) x)
   rule_masked None g x = refl
   rule_masked (Some s) g x =
       ap (ok_by (outs_by some_tag))
@@ -160,6 +164,7 @@ module _ {T S : Type 0} (m : PolicyModel T S) (holds : S → Type 0) (laws : Kee
       subst (λ (answer : Option (Answer (Option T))). ForSome answer (KeepsValue a)) (ap (λ (q : Plan (Option T)). q.answer) from.put_on)
       (value_by (args_by (read_by m s) a) a from.plan.answer refl (laws.value s k (args_by (read_by m s) a) (read_by m s pc) from.plan known from.given))
 
+  -- the laws of a policy that may be off
   pub maybe_laws : KeepsLaws (maybe m) (MaybeHolds holds)
   maybe_laws = record {
     masks = λ s g x. rule_masked s.part g x;

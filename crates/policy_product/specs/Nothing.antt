@@ -5,6 +5,7 @@ use Rattle.policy_trait.specs.declared.services.PlanEnd.TheVariants as plan_end
 use Rattle.policy_product.specs.Maybe.{all_ignored}
 use Rattle.policy_product.specs.declared.nothing.Nothing.{Nothing}
 
+-- its functions
 abbrev pub nothing : PolicyModel (Unit {0}) Nothing
 nothing = record {
   plain = λ s. tt;
@@ -25,5 +26,5 @@ nothing = record {
 }
 
 -- whatever a tag was, it is the only one
-abbrev pub untagged : {T : Type 0} → T → Unit {0}
-untagged tag = tt
+abbrev pub no_tag : {T : Type 0} → T → Unit {0}
+no_tag tag = tt

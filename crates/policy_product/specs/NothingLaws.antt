@@ -1,8 +1,9 @@
 -- The policy that is nothing keeps the laws.
 use Rattle.std.proofs.Common.{◌≤◌, refl, arith}
-use Rattle.policy_trait.specs.Laws.{KeepsLaws}
+use Rattle.policy_trait.specs.PolicyLaws.{KeepsLaws}
 use Rattle.policy_product.specs.Nothing.{nothing}
 
+-- each by computing
 pub nothing_laws : KeepsLaws nothing (λ s. Unit {0})
 nothing_laws = record {
   masks = λ s g x. refl;

@@ -1,7 +1,7 @@
 //! Two policies as one.
 
 ghost use Rattle.std.specs.Prelude.{◌≡◌, ◌+◌, ◌≤◌, ◌++◌, Ok, Err, IsTrue, OnErr, OnOk};
-ghost use Rattle.policy_product.specs.Both.{IsApart, answer_before, answer_beside, beside_left, beside_right, both, both_ignore, left, lent, lent_if, rest_tag, right, tag_beside};
+ghost use Rattle.policy_product.specs.Both.{IsApart, answer_before, answer_beside, beside_left, beside_right, both, both_ignore, left, lending_of, lent_if, rest_tag, right, tag_beside};
 
 use policy_trait::{
     Answer, Args, Birth, Ins, Mask, Outs, Part, Plan, PlanEnd, Policy, Refused, Rest, TagMap, Why,
@@ -106,7 +106,7 @@ fn lend_if<P: Policy>(policy: &P, used: bool, tag: P::Tag) -> Result<(), PlanEnd
 
 /// Whether the arguments that are used are lent by the policy, one by one.
 fn lend_all<P: Policy>(policy: &P, uses: u8, arguments: &Args<P::Tag>) -> Result<(), PlanEnd>
-    ensures { result ≡ lent (P.model.lend policy.now) uses arguments.now }
+    ensures { result ≡ lending_of (P.model.lend policy.now) uses arguments.now }
 {
     lend_if(policy, 1 <= uses, arguments.t0)?;
     lend_if(policy, 2 <= uses, arguments.t1)?;

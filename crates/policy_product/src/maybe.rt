@@ -1,3 +1,5 @@
+//! A policy that may be off.
+
 ghost use Rattle.std.specs.Prelude.{◌≡◌, ◌≤◌, ◌++◌, Some, None, length};
 ghost use Rattle.policy_product.specs.Maybe.{maybe, some_tag, tag_or};
 

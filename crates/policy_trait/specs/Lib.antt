@@ -1,5 +1,5 @@
-pub mod Laws
-pub mod LawsLemmas
+pub mod PolicyLaws
+pub mod UseLaws
 pub mod Maps
 pub mod Mirrors
 pub mod Model

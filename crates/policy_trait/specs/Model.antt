@@ -31,8 +31,8 @@ pub record PolicyModel (T S : Type 0) : Type 0 where
   pub listed : S → ℕ → Option (ℕ × ℕ × ℕ)
 
 -- the inputs with each that the mask ignores made plain
-abbrev pub masked : {T : Type 0} → Mask → T → Ins T → Ins T
-masked mask plain x = record {
+abbrev pub masked_inputs : {T : Type 0} → Mask → T → Ins T → Ins T
+masked_inputs mask plain x = record {
   pc = if mask.pc then plain else x.pc;
   ci = if mask.ci then plain else x.ci;
   t1 = if mask.t1 then plain else x.t1;

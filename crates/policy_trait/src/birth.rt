@@ -1,3 +1,5 @@
+//! What an image says of a word.
+
 use crate::sets::CompartmentSet;
 
 /// What an image says of one memory word.

@@ -1,3 +1,5 @@
+//! The trait of policies.
+
 ghost use Rattle.std.specs.Prelude.{◌≡◌, ◌+◌, ◌≤◌, ◌++◌, ℕ, IsTrue, OnErr, OnOk};
 ghost use Rattle.arrayvec.specs.ArrayVec.{array_vec_len};
 
@@ -13,7 +15,7 @@ use std::alloc::AllocError;
 /// than `longest`.
 pub trait Policy: Drop {
     ghost use Rattle.policy_trait.specs.Model.{CanPlan, IsGiven, PolicyModel};
-    ghost use Rattle.policy_trait.specs.Laws.{KeepsLaws};
+    ghost use Rattle.policy_trait.specs.PolicyLaws.{KeepsLaws};
 
     type Tag: Same;
 

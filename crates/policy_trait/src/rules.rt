@@ -1,3 +1,5 @@
+//! What a rule is asked with, what it gives, and why a policy refuses.
+
 use rv_decode::Group;
 
 /// The tags that a rule is asked with: of the pc, of the instruction's word, of the two operands, and of the memory

@@ -1,3 +1,5 @@
+//! What a service is asked with, and what it plans.
+
 use crate::rules::Refused;
 
 /// What a service is asked with: the values and tags of a0, a1 and a2, and the bytes of memory.

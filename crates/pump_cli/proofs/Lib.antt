@@ -1,12 +1,12 @@
-pub mod Answering
-pub mod Bare
-pub mod Ends
-pub mod Gathering
-pub mod NoneRuns
-mod OneTag
-mod OneTagRuns
-pub mod SafeRuns
+pub mod AnswerLemmas
+pub mod BareLemmas
+pub mod EndLemmas
+pub mod GatheringLemmas
+pub mod NoneRunLemmas
+mod OneTagLemmas
+mod OneTagRunLemmas
+pub mod SafeRunLemmas
 pub mod SessionLemmas
-pub mod Starts
-pub mod Tasks
-pub mod Ways
+pub mod StartLemmas
+pub mod TaskLemmas
+pub mod WayLemmas

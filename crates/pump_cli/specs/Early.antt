@@ -4,7 +4,7 @@ use Rattle.host_io.specs.Causes.{Rose, RoseAt}
 use Rattle.host_io.specs.TwoSinks.{OneRose, PutFaults}
 use Rattle.pump_cli.specs.Codes.{status_of_refusal}
 use Rattle.pump_cli.specs.Facts.{Does, PutsFaultBy}
-use Rattle.pump_cli.specs.Program.{refused}
+use Rattle.pump_cli.specs.Program.{refusal_outcome}
 use Rattle.pump_cli.specs.declared.cut.Cut.{Cut}
 use Rattle.pump_cli.specs.declared.cut.Cut.TheVariants as cut
 use Rattle.pump_cli.specs.declared.reading.EarlyEnd.{EarlyEnd}
@@ -61,7 +61,7 @@ IsOfFile refusal.TooLong = Unit {0}
 
 -- The refusal is told on standard error, which ends the program, whatever standard output has taken beside it.
 pub record Tells (refusal : Refusal) (err_before err_after : Option (List ℕ)) (before after : ℕ) (result : Result Status Cut) : Type 0 where
-  pub does : (out : Option (List ℕ)) → Does (refused refusal) (record { out = out; err = err_before }) (record { out = out; err = err_after }) result
+  pub does : (out : Option (List ℕ)) → Does (refusal_outcome refusal) (record { out = out; err = err_before }) (record { out = out; err = err_after }) result
   pub faults : (out : ℕ) → PutsFaultBy (record { out = out; err = before }) (record { out = out; err = after }) result
   pub status : IfOk result (λ status. status ≡ status_of_refusal refusal)
 

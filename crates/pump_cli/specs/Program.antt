@@ -25,8 +25,8 @@ use Rattle.pump_cli.specs.declared.refusal.Refusal.TheVariants.{BadWords, TooLon
 use Rattle.pump_cli.specs.declared.status.Status.TheVariants.{Done}
 
 -- one line on standard error, and nothing else
-abbrev pub refused : Refusal → Outcome
-refused refusal = record { pieces = err (line (refusal_text refusal)) ∷ []; status = status_of_refusal refusal }
+abbrev pub refusal_outcome : Refusal → Outcome
+refusal_outcome refusal = record { pieces = err (line (refusal_text refusal)) ∷ []; status = status_of_refusal refusal }
 
 -- ---- `run`
 
@@ -35,8 +35,8 @@ abbrev pub started_account : {T : Type 0} → Account T → Account T
 started_account account = if is_over account then record account { halt = Some halt.TagWords } else account
 
 -- an engine whose start needs more words than there may be is out of them from the start
-abbrev pub started : {S T : Type 0} → Standing S T → Standing S T
-started e = record { machine = e.machine; account = started_account e.account }
+abbrev pub standing_at_start : {S T : Type 0} → Standing S T → Standing S T
+standing_at_start e = record { machine = e.machine; account = started_account e.account }
 
 -- with a cache of 0 no rules are kept, and no tag has a word
 abbrev pub account_of_run : RunTask → Picture → Account AllTag
@@ -57,7 +57,7 @@ outcome_of_run task picture fed = outcome_of_course (course_of_run task picture 
 -- the input is fed as a whole
 abbrev pub outcome_of_fed : RunTask → Picture → Result (List ℕ) Refusal → Outcome
 outcome_of_fed task picture (Ok fed) = outcome_of_run task picture fed
-outcome_of_fed task picture (Err refusal) = refused refusal
+outcome_of_fed task picture (Err refusal) = refusal_outcome refusal
 
 -- an input whose bytes are not told leaves the outcome unsaid
 abbrev pub outcome_of_input : RunTask → Picture → Option (List ℕ) → Option Outcome
@@ -73,7 +73,7 @@ setup_of task = record { choice = task.choice; cache = task.cache; tags = task.t
 abbrev pub outcome_of_end : SessionEnd → Outcome
 outcome_of_end session_end.Quit = record { pieces = []; status = Done }
 outcome_of_end session_end.InputEnd = record { pieces = []; status = Done }
-outcome_of_end session_end.TooLong = refused TooLong
+outcome_of_end session_end.TooLong = refusal_outcome TooLong
 outcome_of_end session_end.TagsOut = out_at_start
 
 abbrev pub outcome_of_told : Told → Outcome
@@ -116,7 +116,7 @@ outcome_of_picture (disassemble task) picture input = Some (outcome_of_listing p
 -- where the file is refused, the input is not looked at
 abbrev pub outcome_of_image : Task → Result Picture Refusal → Option (List ℕ) → Option Outcome
 outcome_of_image task (Ok picture) input = outcome_of_picture task picture input
-outcome_of_image task (Err refusal) input = Some (refused refusal)
+outcome_of_image task (Err refusal) input = Some (refusal_outcome refusal)
 
 -- a file whose content is not told leaves the outcome unsaid too
 abbrev pub outcome_of_file : Task → Option (List ℕ) → Option (List ℕ) → Option Outcome
@@ -127,7 +127,7 @@ abbrev pub outcome_of_task : Task → (List ℕ → Option (List ℕ)) → Optio
 outcome_of_task task held input = outcome_of_file task (held (file_in task)) input
 
 abbrev pub outcome_of_words : Option Task → (List ℕ → Option (List ℕ)) → Option (List ℕ) → Option Outcome
-outcome_of_words None held input = Some (refused BadWords)
+outcome_of_words None held input = Some (refusal_outcome BadWords)
 outcome_of_words (Some task) held input = outcome_of_task task held input
 
 -- the words, what the files hold by name where it is told, and the bytes of the input where they are

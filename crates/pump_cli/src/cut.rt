@@ -1,3 +1,5 @@
+//! Why a call was cut short.
+
 ghost use Rattle.std.specs.Prelude.{◌≡◌};
 ghost use Rattle.pump_cli.specs.Codes.{status_of_cut};
 

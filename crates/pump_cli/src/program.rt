@@ -2,7 +2,7 @@
 
 ghost use Rattle.std.specs.Prelude.{◌≤◌, Some};
 ghost use Rattle.pump_line.specs.Task.{AllowsTags, run, shell, task_of};
-ghost use Rattle.pump_line.specs.Told.{run_told, shell_told, texts_of, told};
+ghost use Rattle.pump_line.specs.Told.{run_value, shell_value, texts_of, task_value};
 ghost use Rattle.pump_cli.specs.Facts.{status_in};
 ghost use Rattle.pump_cli.specs.Outsides.{outside};
 ghost use Rattle.pump_cli.specs.Program.{outcome_of_file, outcome_of_task, program};
@@ -32,9 +32,9 @@ fn run_task<F: Files, S: Source, K: Sink, L: Sink>(
 ) -> Result<Status, Cut>
     requires { 1 ≤ task.tags }
     ensures { Answers
-        (outcome_of_file (run (run_told task.entry)) (F.held files.old task.entry.image.now)
+        (outcome_of_file (run (run_value task.entry)) (F.held files.old task.entry.image.now)
         (S.left input.old))
-        (Some (run (run_told task.entry))) (status_in result)
+        (Some (run (run_value task.entry))) (status_in result)
         (outside F.tells F.held F.read_faults F.write_faults F.calls S.left S.closed S.faults
         K.taken K.faults L.taken L.faults files.old input.old out.old err.old)
         (outside F.tells F.held F.read_faults F.write_faults F.calls S.left S.closed S.faults
@@ -62,9 +62,9 @@ fn shell_task<F: Files, S: Source, K: Sink, L: Sink>(
 ) -> Result<Status, Cut>
     requires { 1 ≤ task.tags }
     ensures { Answers
-        (outcome_of_file (shell (shell_told task.entry)) (F.held files.old task.entry.image.now)
+        (outcome_of_file (shell (shell_value task.entry)) (F.held files.old task.entry.image.now)
         (S.left input.old))
-        (Some (shell (shell_told task.entry))) (status_in result)
+        (Some (shell (shell_value task.entry))) (status_in result)
         (outside F.tells F.held F.read_faults F.write_faults F.calls S.left S.closed S.faults
         K.taken K.faults L.taken L.faults files.old input.old out.old err.old)
         (outside F.tells F.held F.read_faults F.write_faults F.calls S.left S.closed S.faults
@@ -85,10 +85,10 @@ fn do_task<F: Files, S: Source, K: Sink, L: Sink>(
     out: &mut K,
     err: &mut L,
 ) -> Result<Status, Cut>
-    requires { AllowsTags (told task) }
+    requires { AllowsTags (task_value task) }
     ensures { Answers
-        (outcome_of_task (told task.entry) (F.held files.old) (S.left input.old))
-        (Some (told task.entry)) (status_in result)
+        (outcome_of_task (task_value task.entry) (F.held files.old) (S.left input.old))
+        (Some (task_value task.entry)) (status_in result)
         (outside F.tells F.held F.read_faults F.write_faults F.calls S.left S.closed S.faults
         K.taken K.faults L.taken L.faults files.old input.old out.old err.old)
         (outside F.tells F.held F.read_faults F.write_faults F.calls S.left S.closed S.faults

@@ -3,11 +3,11 @@
 ghost use Rattle.std.specs.Prelude.{◌≡◌, ◌≤◌, IfOk, true};
 ghost use Rattle.policy_choice.specs.Choice.{is_none};
 ghost use Rattle.rounds.specs.Course.{rounds};
-ghost use Rattle.pump_line.specs.Told.{run_told};
+ghost use Rattle.pump_line.specs.Told.{run_value};
 ghost use Rattle.pump_cli.specs.Codes.{IsOfRun};
 ghost use Rattle.pump_cli.specs.Endings.{outcome_of_course};
 ghost use Rattle.pump_cli.specs.Facts.{Does, PutsFaultBy};
-ghost use Rattle.pump_cli.specs.Program.{outcome_of_run, started};
+ghost use Rattle.pump_cli.specs.Program.{outcome_of_run, standing_at_start};
 
 use crate::cut::Cut;
 use crate::ending::{end_at_start, run_engine};
@@ -31,7 +31,8 @@ fn run_load<D: Loader, K: Sink, L: Sink>(
     err: &mut L,
 ) -> Result<Status, Cut>
     ensures does { Does (outcome_of_course
-        (rounds D.E.P.Tag.eq D.E.P.model turns 0 (started (D.start loader.now)) fed.items))
+        (rounds D.E.P.Tag.eq D.E.P.model turns 0 (standing_at_start (D.start loader.now))
+        fed.items))
         (record { out = K.taken out.old; err = L.taken err.old })
         (record { out = K.taken out.new; err = L.taken err.new }) result }
     ensures faults { PutsFaultBy
@@ -59,7 +60,7 @@ fn run_bare<K: Sink, L: Sink>(
 ) -> Result<Status, Cut>
     requires none { is_none task.choice ≡ true }
     requires tags { 1 ≤ task.tags }
-    ensures does { Does (outcome_of_run (run_told task.entry) image.now fed.items)
+    ensures does { Does (outcome_of_run (run_value task.entry) image.now fed.items)
         (record { out = K.taken out.old; err = L.taken err.old })
         (record { out = K.taken out.new; err = L.taken err.new }) result }
     ensures faults { PutsFaultBy
@@ -82,7 +83,7 @@ fn run_cached<K: Sink, L: Sink>(
 ) -> Result<Status, Cut>
     requires rules { 1 ≤ task.cache }
     requires tags { 1 ≤ task.tags }
-    ensures does { Does (outcome_of_run (run_told task.entry) image.now fed.items)
+    ensures does { Does (outcome_of_run (run_value task.entry) image.now fed.items)
         (record { out = K.taken out.old; err = L.taken err.old })
         (record { out = K.taken out.new; err = L.taken err.new }) result }
     ensures faults { PutsFaultBy
@@ -104,7 +105,7 @@ fn run_uncached<K: Sink, L: Sink>(
     err: &mut L,
 ) -> Result<Status, Cut>
     requires { task.cache ≡ 0 }
-    ensures does { Does (outcome_of_run (run_told task.entry) image.now fed.items)
+    ensures does { Does (outcome_of_run (run_value task.entry) image.now fed.items)
         (record { out = K.taken out.old; err = L.taken err.old })
         (record { out = K.taken out.new; err = L.taken err.new }) result }
     ensures faults { PutsFaultBy
@@ -126,7 +127,7 @@ pub(crate) fn run_image<K: Sink, L: Sink>(
     err: &mut L,
 ) -> Result<Status, Cut>
     requires { 1 ≤ task.tags }
-    ensures does { Does (outcome_of_run (run_told task.entry) image.now fed.items)
+    ensures does { Does (outcome_of_run (run_value task.entry) image.now fed.items)
         (record { out = K.taken out.old; err = L.taken err.old })
         (record { out = K.taken out.new; err = L.taken err.new }) result }
     ensures faults { PutsFaultBy

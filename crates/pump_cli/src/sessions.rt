@@ -2,7 +2,7 @@
 
 ghost use Rattle.std.specs.Prelude.{◌≡◌, ℕ, List, Option, ◌+◌, ◌≤◌, IfOk, IfSome, Ok};
 ghost use Rattle.host_io.specs.Fronts.{LosesFront};
-ghost use Rattle.pump_line.specs.Told.{shell_told};
+ghost use Rattle.pump_line.specs.Told.{shell_value};
 ghost use Rattle.pump_cli.specs.Codes.{IsOfSession};
 ghost use Rattle.pump_cli.specs.Early.{SessionFaultBy};
 ghost use Rattle.pump_cli.specs.Facts.{Does, IsLongInput, PutsFaultBy};
@@ -51,7 +51,7 @@ pub(crate) fn obey_lines<S: Source, K: Sink, L: Sink>(
 ) -> Result<Status, Cut>
     requires { 1 ≤ task.tags }
     ensures does { IfSome (S.left input.old) (λ bytes. Does
-        (outcome_of_lines (shell_told task.entry) image.now bytes)
+        (outcome_of_lines (shell_value task.entry) image.now bytes)
         (record { out = K.taken out.old; err = L.taken err.old })
         (record { out = K.taken out.new; err = L.taken err.new }) result) }
     ensures faults { SessionFaultBy (S.faults input.old) (S.faults input.new)

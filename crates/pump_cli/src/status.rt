@@ -1,3 +1,5 @@
+//! The statuses of the program.
+
 ghost use Rattle.std.specs.Prelude.{◌≡◌};
 ghost use Rattle.pump_cli.specs.Codes.{code_of};
 

@@ -6,8 +6,8 @@ use Rattle.policy_trait.specs.Model.{PolicyModel}
 use Rattle.policy_trait.specs.declared.rules.Outs.{Outs}
 use Rattle.policy_trait.specs.declared.rules.Refused.{Refused}
 use Rattle.turn_steps.specs.declared.look.Look.{Look}
-use Rattle.engine_trait.specs.Accounts.{Account, Key, counted, is_kept, is_over, keeping, looked_up, rule_kept, with_tags}
-use Rattle.rule_cache.specs.Stores.{Store, found}
+use Rattle.engine_trait.specs.Accounts.{Account, Key, next_count, is_kept, is_over, keeping, looked_up, rule_kept, with_tags}
+use Rattle.rule_cache.specs.Stores.{Store, lookup_of}
 use Rattle.tag_intern.specs.Table.{Extends, TableState}
 use Rattle.miss_handler.specs.Asked.{AreInWords, AreOutWords, AreRules, answer_on, outs_on, tag_key, word_key}
 use Rattle.miss_handler.specs.Books.{rulebook_of}
@@ -31,9 +31,9 @@ in_both f false x y b first second = second
 
 module _ {T : Type 0} (eq : T → T → Bool) (key : Key T) where
   -- a look-up leaves what does not count look-ups
-  looked_leaves : {B : Type 0} (f : Account T → B) (a : Account T) → f (record (keeping eq key a) { hits = counted a.hits }) ≡ f a
-      → f (record a { misses = counted a.misses }) ≡ f a → f (looked_up eq key a) ≡ f a
-  looked_leaves f a hit miss = in_both f (is_kept eq key a) (record (keeping eq key a) { hits = counted a.hits }) (record a { misses = counted a.misses }) (f a) hit miss
+  looked_leaves : {B : Type 0} (f : Account T → B) (a : Account T) → f (record (keeping eq key a) { hits = next_count a.hits }) ≡ f a
+      → f (record a { misses = next_count a.misses }) ≡ f a → f (looked_up eq key a) ≡ f a
+  looked_leaves f a hit miss = in_both f (is_kept eq key a) (record (keeping eq key a) { hits = next_count a.hits }) (record a { misses = next_count a.misses }) (f a) hit miss
 
   -- so does a rule that is kept
   ruled_leaves : {B : Type 0} (f : Account T → B) (answer : Result (Outs T) Refused) (a : Account T)
@@ -74,9 +74,9 @@ module _ {S T : Type 0} (eq : T → T → Bool) (m : PolicyModel T S) (p : PumpS
         (λ outs. p.table.limit < length (with_tags eq p.table.tags (outs.pc ∷ outs.result ∷ [])))
     pub within : length table.tags ≤ table.limit
     pub extends : Extends p.table.tags table.tags
-    pub hit : is_some (found (word_key (rulebook_of m s) look.group look.inputs) p.store) ≡ true → IsOk answered
+    pub hit : is_some (lookup_of (word_key (rulebook_of m s) look.group look.inputs) p.store) ≡ true → IsOk answered
     pub told : (account : Account T) → Tells (m.plain s) p.table p.store account
-        → is_kept eq (tag_key (rulebook_of m s) p.table.tags look.group look.inputs) account ≡ is_some (found (word_key (rulebook_of m s) look.group look.inputs) p.store)
+        → is_kept eq (tag_key (rulebook_of m s) p.table.tags look.group look.inputs) account ≡ is_some (lookup_of (word_key (rulebook_of m s) look.group look.inputs) p.store)
     pub rules : AreRules (rulebook_of m s) table.tags store.kept
 
   module _ (is : IsPump m p) where

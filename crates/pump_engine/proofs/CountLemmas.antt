@@ -9,7 +9,7 @@ use Rattle.rv_step.specs.declared.faults.Fault.{Fault}
 use Rattle.rv_step.specs.declared.faults.Fault.TheVariants.{NoService}
 use Rattle.tag_memory.specs.Hart.{HartState}
 use Rattle.tag_memory.specs.Maps.{ram_by}
-use Rattle.turn_steps.specs.Looks.{looked}
+use Rattle.turn_steps.specs.Looks.{look_result}
 use Rattle.turn_steps.specs.Maps.{look_by}
 use Rattle.turn_steps.specs.declared.look.Look.{Look}
 use Rattle.turn_steps.specs.declared.stop.Stop.{Stop}
@@ -18,7 +18,7 @@ use Rattle.turn_steps.proofs.MapLemmas.{looked_by}
 use Rattle.engine_trait.specs.Accounts.{Account, Key, look_counted, rule_counted, rule_kept}
 use Rattle.engine_trait.specs.Machine.{hart_at, is_ready_in}
 use Rattle.engine_trait.specs.Standing.{is_ready, is_running}
-use Rattle.engine_trait.specs.Turn.{allowed, offered, or_fault, or_violation, prepared}
+use Rattle.engine_trait.specs.Turn.{rule_answer, service_look, or_fault, or_violation, preparation}
 use Rattle.engine_trait.proofs.MapLemmas.{hart_at_by}
 use Rattle.engine_trait.proofs.MirrorLemmas.{ready_by}
 use Rattle.pump_engine.specs.Pump.{PumpState, account_by_words, decode, machine_by_words, standing_by_words}
@@ -45,26 +45,26 @@ module _ {S T : Type 0} (m : PolicyModel T S) (p : PumpState S T) where
   known_by false look why = refl
 
   checked_by : (found : Result (Look ℕ) Fault)
-      → (or_fault (ok_by (look_by (decode m p)) found) >>= offered m (machine_by_words m p)) ≡ ok_by (look_by (decode m p)) (or_fault found >>= known_or m p.policy)
+      → (or_fault (ok_by (look_by (decode m p)) found) >>= service_look m (machine_by_words m p)) ≡ ok_by (look_by (decode m p)) (or_fault found >>= known_or m p.policy)
   checked_by (Ok look) = known_by (is_known m p.policy look) look (stop.Fault (NoService look.service))
   checked_by (Err fault) = refl
 
-  pub prepared_by_words : (h : ℕ) → prepared m (machine_by_words m p) h ≡ ok_by (look_by (decode m p)) (prepared_words m p h)
-  unfolding prepared prepared_words
+  pub prepared_by_words : (h : ℕ) → preparation m (machine_by_words m p) h ≡ ok_by (look_by (decode m p)) (prepared_words m p h)
+  unfolding preparation prepared_words
   prepared_by_words h =
-      ap (λ (hart : HartState T). or_fault (looked hart (ram_by (decode m p) p.core.ram)) >>= offered m (machine_by_words m p)) (hart_at_by (decode m p) p.core h)
-      ∙ ap (λ found. or_fault found >>= offered m (machine_by_words m p)) (looked_by (decode m p) (hart_at p.core h) p.core.ram)
-      ∙ checked_by (looked (hart_at p.core h) p.core.ram)
+      ap (λ (hart : HartState T). or_fault (look_result hart (ram_by (decode m p) p.core.ram)) >>= service_look m (machine_by_words m p)) (hart_at_by (decode m p) p.core h)
+      ∙ ap (λ found. or_fault found >>= service_look m (machine_by_words m p)) (looked_by (decode m p) (hart_at p.core h) p.core.ram)
+      ∙ checked_by (look_result (hart_at p.core h) p.core.ram)
 
   module _ (h : ℕ) (look : Look ℕ) where
-    pub prepared_at : prepared_words m p h ≡ Ok look → prepared m (machine_by_words m p) h ≡ Ok (look_by (decode m p) look)
+    pub prepared_at : prepared_words m p h ≡ Ok look → preparation m (machine_by_words m p) h ≡ Ok (look_by (decode m p) look)
     prepared_at found = prepared_by_words h ∙ ap (ok_by (look_by (decode m p))) found
 
     -- ---- the rule
 
     module _ (eq : T → T → Bool) where
-      pub allowed_at : allowed m (machine_by_words m p) h (look_by (decode m p) look) ≡ or_violation (hart_at p.core h).pc (answer_in eq m p look)
-      unfolding allowed
+      pub allowed_at : rule_answer m (machine_by_words m p) h (look_by (decode m p) look) ≡ or_violation (hart_at p.core h).pc (answer_in eq m p look)
+      unfolding rule_answer
       allowed_at = ap (λ (hart : HartState T). or_violation hart.pc (answer_in eq m p look)) (hart_at_by (decode m p) p.core h)
 
       module _ (found : prepared_words m p h ≡ Ok look) where
@@ -79,5 +79,5 @@ module _ {S T : Type 0} (m : PolicyModel T S) (p : PumpState S T) where
 
   -- a turn that fails a check is counted, and nothing else
   module _ (h : ℕ) (why : Stop) where
-    pub checked_at : prepared_words m p h ≡ Err why → prepared m (machine_by_words m p) h ≡ Err why
+    pub checked_at : prepared_words m p h ≡ Err why → preparation m (machine_by_words m p) h ≡ Err why
     checked_at found = prepared_by_words h ∙ ap (ok_by (look_by (decode m p))) found

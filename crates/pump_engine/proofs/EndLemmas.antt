@@ -13,10 +13,10 @@ use Rattle.turn_steps.specs.declared.look.Look.{Look}
 use Rattle.turn_steps.specs.declared.stop.Stop.{Stop}
 use Rattle.turn_steps.specs.declared.stop.Stop.TheVariants as stop
 use Rattle.engine_trait.specs.Accounts.{is_kept}
-use Rattle.engine_trait.specs.Laws.{is_made}
+use Rattle.engine_trait.specs.EngineLaws.{is_made}
 use Rattle.engine_trait.specs.Machine.{Machine, is_ready_in}
 use Rattle.engine_trait.specs.Standing.{GivesUp, IsFailure, Standing, Stepped, StopsOnly, Unchanged, is_ready, step}
-use Rattle.engine_trait.specs.Turn.{Turned, allowed, attempt, carried_at, effected, end_of, planned, prepared, settled, stopped_at, turn_by, turn_of}
+use Rattle.engine_trait.specs.Turn.{Turned, rule_answer, attempt, carried_at, turn_effect, end_of, turn_job, preparation, settlement, stopped_at, turn_by, turn_of}
 use Rattle.engine_trait.specs.declared.ends.TurnEnd.{TurnEnd}
 use Rattle.engine_trait.specs.declared.ends.TurnEnd.TheVariants as ends
 use Rattle.engine_trait.proofs.StepLemmas.{step_follows, step_stays_idle}
@@ -40,26 +40,26 @@ module _ {S T : Type 0} (m : PolicyModel T S) (s : Machine S T) (feed : List ℕ
   end_fails done.Broke is = cc
   end_fails (done.Exited code) is = let exits : why ≡ stop.Exit code = cc in subst IsFailure exits failing
 
-  effect_fails : (look : Look T) (outs : Outs T) (job : Option (Job T)) → (effected m s feed h look outs job).ended ≡ ends.Stopped why
-      → HasFailed (effected m s feed h look outs job)
+  effect_fails : (look : Look T) (outs : Outs T) (job : Option (Job T)) → (turn_effect m s feed h look outs job).ended ≡ ends.Stopped why
+      → HasFailed (turn_effect m s feed h look outs job)
   effect_fails look outs (Some job) is = absurd cc
   effect_fails look outs None is = absurd (end_fails (carried_at s.core feed h look outs).done is)
 
-  stop_fails : (other : Stop) → (settled m s feed h (Err other)).ended ≡ ends.Stopped why → HasFailed (settled m s feed h (Err other))
+  stop_fails : (other : Stop) → (settlement m s feed h (Err other)).ended ≡ ends.Stopped why → HasFailed (settlement m s feed h (Err other))
   stop_fails other is = let same : other ≡ why = cc in (ap (stopped_at s h) same, refl)
 
   steps_fail : {A : Type 0} (first : Result A Stop) (rest : A → Result (Turned S T) Stop)
-      → ((x : A) → (settled m s feed h (rest x)).ended ≡ ends.Stopped why → HasFailed (settled m s feed h (rest x)))
-      → (settled m s feed h (first >>= rest)).ended ≡ ends.Stopped why → HasFailed (settled m s feed h (first >>= rest))
+      → ((x : A) → (settlement m s feed h (rest x)).ended ≡ ends.Stopped why → HasFailed (settlement m s feed h (rest x)))
+      → (settlement m s feed h (first >>= rest)).ended ≡ ends.Stopped why → HasFailed (settlement m s feed h (first >>= rest))
   steps_fail (Ok x) rest each is = each x is
   steps_fail (Err other) rest each is = stop_fails other is
 
-  attempt_fails : (settled m s feed h (attempt m s feed h)).ended ≡ ends.Stopped why → HasFailed (settled m s feed h (attempt m s feed h))
+  attempt_fails : (settlement m s feed h (attempt m s feed h)).ended ≡ ends.Stopped why → HasFailed (settlement m s feed h (attempt m s feed h))
   unfolding attempt
   attempt_fails =
-      steps_fail (prepared m s h) (allowed_turn m s feed h) λ look.
-      steps_fail (allowed m s h look) (planned_turn m s feed h look) λ outs.
-      steps_fail (planned m s h look outs) (λ job. Ok (effected m s feed h look outs job)) (effect_fails look outs)
+      steps_fail (preparation m s h) (allowed_turn m s feed h) λ look.
+      steps_fail (rule_answer m s h look) (planned_turn m s feed h look) λ outs.
+      steps_fail (turn_job m s h look outs) (λ job. Ok (turn_effect m s feed h look outs job)) (effect_fails look outs)
 
   turn_fails_by : (ready : Bool) → (turn_by m s feed h ready).ended ≡ ends.Stopped why → HasFailed (turn_by m s feed h ready)
   turn_fails_by true is = attempt_fails is

@@ -12,7 +12,7 @@ use Rattle.tag_memory.specs.Hart.{HartState, reg_tag}
 use Rattle.tag_memory.specs.Maps.{hart_by, ram_by}
 use Rattle.tag_memory.specs.Ram.{RamState, ram_tag}
 use Rattle.tag_memory.proofs.MapLemmas.{ram_tag_by, reg_tag_by}
-use Rattle.turn_steps.specs.Looks.{looked}
+use Rattle.turn_steps.specs.Looks.{look_result}
 use Rattle.turn_steps.specs.Maps.{look_by}
 use Rattle.turn_steps.specs.declared.look.Look.{Look}
 use Rattle.turn_steps.specs.declared.stop.Stop.{Stop}
@@ -169,10 +169,10 @@ module _ (n : ℕ) (core : CoreState ℕ) (is : IsLowCore n core) where
       subst (λ (l : Look ℕ). AreInWords n l.inputs) same (below_ins n found.inputs)
   by_looked (Err fault) look e = absurd cc
 
-  pub low_look : (h : ℕ) (look : Look ℕ) → looked (hart_at core h) core.ram ≡ Ok look → AreInWords n look.inputs
-  low_look h look = by_low (λ c. looked (hart_at c h) c.ram ≡ Ok look → AreInWords n look.inputs) λ low e.
-      by_looked (looked (hart_at low h) low.ram) look
-      (sym (ap (λ hart. looked hart (ram_by number low.ram)) (hart_at_by number low h) ∙ looked_by number (hart_at low h) low.ram) ∙ e)
+  pub low_look : (h : ℕ) (look : Look ℕ) → look_result (hart_at core h) core.ram ≡ Ok look → AreInWords n look.inputs
+  low_look h look = by_low (λ c. look_result (hart_at c h) c.ram ≡ Ok look → AreInWords n look.inputs) λ low e.
+      by_looked (look_result (hart_at low h) low.ram) look
+      (sym (ap (λ hart. look_result hart (ram_by number low.ram)) (hart_at_by number low h) ∙ looked_by number (hart_at low h) low.ram) ∙ e)
 
   -- ---- what is done to it
 
@@ -210,9 +210,9 @@ module _ {S T : Type 0} (m : PolicyModel T S) (p : PumpState S T) where
   by_prepared (Ok found) look e = ap (λ l. Ok l) (by_known (is_known m p.policy found) found look _ e)
   by_prepared (Err fault) look e = absurd cc
 
-  pub prepared_looked : (h : ℕ) (look : Look ℕ) → prepared_words m p h ≡ Ok look → looked (hart_at p.core h) p.core.ram ≡ Ok look
+  pub prepared_looked : (h : ℕ) (look : Look ℕ) → prepared_words m p h ≡ Ok look → look_result (hart_at p.core h) p.core.ram ≡ Ok look
   unfolding prepared_words
-  prepared_looked h look e = by_prepared (looked (hart_at p.core h) p.core.ram) look e
+  prepared_looked h look e = by_prepared (look_result (hart_at p.core h) p.core.ram) look e
 
   pub low_prepared : (n : ℕ) → IsLowCore n p.core → (h : ℕ) (look : Look ℕ) → prepared_words m p h ≡ Ok look → AreInWords n look.inputs
   low_prepared n is h look e = low_look n p.core is h look (prepared_looked h look e)

@@ -2,7 +2,7 @@
 use Rattle.std.proofs.Common.{◌≡◌, ℕ, ◌%◌, ◌<◌, ◌≤◌, Bool, List, All, length, map, Option, option_map, take, refl, sym, ap, ◌∙◌, if◌then◌else◌}
 use Rattle.std.proofs.lemmas.Bool.{le-ltb}
 use Rattle.std.specs.Map.{keys_of}
-use Rattle.policy_trait.specs.Laws.{KeepsLaws}
+use Rattle.policy_trait.specs.PolicyLaws.{KeepsLaws}
 use Rattle.policy_trait.specs.Maps.{answer_by, args_by}
 use Rattle.policy_trait.specs.Model.{IsGiven, PolicyModel}
 use Rattle.policy_trait.specs.declared.rules.Outs.{Outs}
@@ -11,10 +11,10 @@ use Rattle.policy_trait.specs.declared.services.Args.{Args}
 use Rattle.tag_memory.specs.Maps.{ram_by}
 use Rattle.tag_memory.specs.Ram.{RamState, ram_tag, ram_word}
 use Rattle.tag_memory.proofs.MapLemmas.{ram_tag_by}
-use Rattle.monitor_calls.specs.Service.{Job, served}
+use Rattle.monitor_calls.specs.Service.{Job, service_job}
 use Rattle.turn_steps.specs.Services.{args_on}
 use Rattle.turn_steps.specs.declared.look.Look.{Look}
-use Rattle.engine_trait.specs.Accounts.{counted, with_tags, written_tags}
+use Rattle.engine_trait.specs.Accounts.{next_count, with_tags, written_tags}
 use Rattle.engine_trait.specs.Machine.{hart_at}
 use Rattle.engine_trait.specs.Maps.{core_by, words_by}
 use Rattle.engine_trait.specs.Turn.{core_served, service_on}
@@ -39,20 +39,20 @@ module _ {S T : Type 0} (eq : T → T → Bool) (m : PolicyModel T S) (p : PumpS
   arguments_words = ap (λ hart. args_on hart (ram_by (decode m p) p.core.ram)) (hart_at_by (decode m p) p.core h) ∙ args_on_by (decode m p) (hart_at p.core h) p.core.ram
 
   service_words : service_in eq m p h look outs
-      ≡ served m p.policy (ram_word p.core.ram) (λ address. decode m p (ram_tag p.core.ram address)) look.service
+      ≡ service_job m p.policy (ram_word p.core.ram) (λ address. decode m p (ram_tag p.core.ram address)) look.service
       (args_by (decode m p) (args_on (hart_at p.core h) p.core.ram)) (decode m p outs.pc)
   unfolding service_on
-  service_words = λ j. served m p.policy (ram_word p.core.ram) (λ address. ram_tag_by (decode m p) p.core.ram address j) look.service (arguments_words j) (decode m p outs.pc)
+  service_words = λ j. service_job m p.policy (ram_word p.core.ram) (λ address. ram_tag_by (decode m p) p.core.ram address j) look.service (arguments_words j) (decode m p outs.pc)
 
   -- by a reading of words that is the engine's
   pub service_by : (plain : T) (table : TableState T) (ram : RamState ℕ) (arguments : Args T) (pc : T) → table ≡ p.table → plain ≡ m.plain p.policy → ram ≡ p.core.ram
       → arguments ≡ args_by (tag_at plain table.tags) (args_on (hart_at p.core h) p.core.ram) → pc ≡ tag_at plain table.tags outs.pc
-      → service_in eq m p h look outs ≡ served m p.policy (ram_word ram) (λ address. tag_at plain table.tags (ram_tag ram address)) look.service arguments pc
+      → service_in eq m p h look outs ≡ service_job m p.policy (ram_word ram) (λ address. tag_at plain table.tags (ram_tag ram address)) look.service arguments pc
   service_by plain table ram arguments pc table_is plain_is ram_is arguments_are pc_is =
       service_words
-      ∙ (λ j. served m p.policy (ram_word p.core.ram) (λ address. tag_at (sym plain_is j) (sym table_is j).tags (ram_tag p.core.ram address)) look.service
+      ∙ (λ j. service_job m p.policy (ram_word p.core.ram) (λ address. tag_at (sym plain_is j) (sym table_is j).tags (ram_tag p.core.ram address)) look.service
       (args_by (tag_at (sym plain_is j) (sym table_is j).tags) (args_on (hart_at p.core h) p.core.ram)) (tag_at (sym plain_is j) (sym table_is j).tags outs.pc))
-      ∙ (λ j. served m p.policy (ram_word (sym ram_is j)) (λ address. tag_at plain table.tags (ram_tag (sym ram_is j) address)) look.service (sym arguments_are j) (sym pc_is j))
+      ∙ (λ j. service_job m p.policy (ram_word (sym ram_is j)) (λ address. tag_at plain table.tags (ram_tag (sym ram_is j) address)) look.service (sym arguments_are j) (sym pc_is j))
 
 -- ---- what it leaves
 
@@ -82,7 +82,7 @@ module _ {S T : Type 0} (eq : T → T → Bool) (m : PolicyModel T S) (holds : S
 
   -- and after the service
   abbrev pub left : PumpState S T
-  left = after_service m grown h job.plan words answer look.effect.next outs.pc (counted p.turns)
+  left = after_service m grown h job.plan words answer look.effect.next outs.pc (next_count p.turns)
 
   module _ (written : IsWritten) (given : IsGiven m p.policy job.plan) (outputs : AreOutWords (length p.table.tags) outs) where
     grown_is : IsPump m grown
@@ -90,7 +90,7 @@ module _ {S T : Type 0} (eq : T → T → Bool) (m : PolicyModel T S) (holds : S
 
     pub pump_left : h < length p.core.harts → look.effect.next % 4 ≡ 0 → outs.pc < length table.tags → IsPump m left
     pump_left there aligned below =
-        pump_served m holds laws grown job.plan given h words answer look.effect.next outs.pc (counted p.turns) grown_is there aligned written.below written.answer_below below
+        pump_served m holds laws grown job.plan given h words answer look.effect.next outs.pc (next_count p.turns) grown_is there aligned written.below written.answer_below below
 
     plain_stays : m.plain left.policy ≡ m.plain p.policy
     plain_stays = (laws.keeps p.policy job.plan given).plain
@@ -106,22 +106,22 @@ module _ {S T : Type 0} (eq : T → T → Bool) (m : PolicyModel T S) (holds : S
       core = core_served (machine_by_words m p).core h job.words job.plan.answer look.effect.next (decode m p outs.pc);
     }
     machine_left =
-        machine_served m holds laws grown job.plan given h words answer look.effect.next outs.pc (counted p.turns)
+        machine_served m holds laws grown job.plan given h words answer look.effect.next outs.pc (next_count p.turns)
         ∙ (λ j. record {
           policy = m.commit p.policy job.plan;
           core = core_served (same_core j) h (written.words_are (m.plain p.policy) j) (written.answer_is (m.plain p.policy) j) look.effect.next (pc_stays j);
         })
 
-    account_left : account_by_words m left ≡ record (written_in eq m p h look outs job) { turns = counted p.turns }
+    account_left : account_by_words m left ≡ record (written_in eq m p h look outs job) { turns = next_count p.turns }
     account_left =
         (λ j. record (account_by_words m p) {
           seen = written.seen j;
           limit = written.limit j;
           kept = (ap (λ plain. map (key_by (tag_at plain table.tags)) (keys_of p.store.kept)) plain_stays
               ∙ keys_grown (m.plain p.policy) p.table.tags table.tags written.extends (keys_of p.store.kept) (keys_below (rulebook_of m p.policy) p.table.tags p.store.kept is.rules)) j;
-          turns = counted p.turns;
+          turns = next_count p.turns;
         })
-        ∙ sym (ap (λ is_none. record (if is_none then account_by_words m p else record (account_by_words m p) { seen = with_tags eq p.table.tags (written_tags job) }) { turns = counted p.turns })
+        ∙ sym (ap (λ is_none. record (if is_none then account_by_words m p else record (account_by_words m p) { seen = with_tags eq p.table.tags (written_tags job) }) { turns = next_count p.turns })
         (not_none p.store.capacity is.room))
 
     pub serves : Serves eq m p h look outs job left

@@ -2,7 +2,7 @@
 use Rattle.std.proofs.Common.{◌≡◌, ℕ, ◌%◌, ◌<◌, ◌≤◌, List, All, length, Option, Some, option_map, ap, sym, ◌∙◌, subst}
 use Rattle.std.proofs.lemmas.List.{length-map}
 use Rattle.std.proofs.lemmas.Option.{slice_get_within}
-use Rattle.policy_trait.specs.Laws.{KeepsLaws, SameRules}
+use Rattle.policy_trait.specs.PolicyLaws.{KeepsLaws, SameRules}
 use Rattle.policy_trait.specs.Maps.{answer_by, outs_by}
 use Rattle.policy_trait.specs.Model.{IsGiven, PolicyModel}
 use Rattle.policy_trait.specs.declared.rules.Outs.{Outs}
@@ -14,7 +14,7 @@ use Rattle.turn_steps.specs.Effects.{IsSound}
 use Rattle.turn_steps.specs.Maps.{look_by}
 use Rattle.turn_steps.specs.declared.look.Look.{Look}
 use Rattle.turn_steps.specs.declared.stop.Stop.{Stop}
-use Rattle.engine_trait.specs.Accounts.{counted}
+use Rattle.engine_trait.specs.Accounts.{next_count}
 use Rattle.engine_trait.specs.Machine.{CoreState, IsMachine, Machine, stopping}
 use Rattle.engine_trait.specs.Maps.{core_by, words_by}
 use Rattle.engine_trait.specs.Turn.{core_effected, core_served}
@@ -102,7 +102,7 @@ module _ {S T : Type 0} (m : PolicyModel T S) (p : PumpState S T) where
 
     pub pump_stopped : (h : ℕ) (why : Stop) → IsPump m (after_stop p h why)
     pump_stopped h why =
-        pump_with (stopping p.core h why) (counted p.turns) (stopped_stays m (machine_by_words m p) is.machine h why).machine
+        pump_with (stopping p.core h why) (next_count p.turns) (stopped_stays m (machine_by_words m p) is.machine h why).machine
         (low_stopped (length p.table.tags) p.core is.words h why)
 
     pub pump_halted : (why : Halt) → IsPump m (after_halt p why)
@@ -121,7 +121,7 @@ module _ {S T : Type 0} (m : PolicyModel T S) (p : PumpState S T) where
         let tags_look = look_by (decode m p) look in
         let tags_outs = outs_by (decode m p) outs in
         let stays = effected_stays m (machine_by_words m p) is.machine feed h tags_look tags_outs (harts_there h there) sound in
-        pump_with (core_effected p.core feed h look outs) (counted p.turns)
+        pump_with (core_effected p.core feed h look outs) (next_count p.turns)
         (subst (IsMachine m) (sym (machine_effected feed h look outs)) stays.machine)
         (low_effected (length p.table.tags) p.core is.words feed h look outs ins_are outs_are)
 

@@ -11,10 +11,10 @@ use Rattle.monitor_calls.specs.Service.{Job}
 use Rattle.turn_steps.specs.Looks.{is_call}
 use Rattle.turn_steps.specs.declared.look.Look.{Look}
 use Rattle.turn_steps.specs.declared.stop.Stop.{Stop}
-use Rattle.engine_trait.specs.Accounts.{Account, accounted, after_look, after_rule, after_service, counted, is_over, key_of, look_counted, rule_counted, rule_kept, seeing, with_tag, with_tags, written_tags}
+use Rattle.engine_trait.specs.Accounts.{Account, account_after_turn, after_look, after_rule, after_service, next_count, is_over, key_of, look_counted, rule_counted, rule_kept, seeing, with_tag, with_tags, written_tags}
 use Rattle.engine_trait.specs.Machine.{Machine, hart_at}
 use Rattle.engine_trait.specs.Standing.{Standing, Stepped, is_ready, step}
-use Rattle.engine_trait.specs.Turn.{Turned, allowed, effected, job_at, or_unserved, planned, prepared, service_on, settled, turn_of}
+use Rattle.engine_trait.specs.Turn.{Turned, rule_answer, turn_effect, job_at, or_unserved, turn_job, preparation, service_on, settlement, turn_of}
 use Rattle.engine_trait.specs.declared.ends.Halt.TheVariants as halt
 use Rattle.engine_trait.specs.declared.ends.TurnEnd.TheVariants as ends
 use Rattle.engine_trait.proofs.StepLemmas.{ready_parts, step_made, step_out}
@@ -55,21 +55,21 @@ module _ {S T : Type 0} (eq : T → T → Bool) (m : PolicyModel T S) (s : Machi
   after_service_over (Ok None) a over = over
   after_service_over (Err why) a over = over
 
-  accounted_over : (a b : Account T) → rule_counted eq m s h a ≡ b → is_over b ≡ true → is_over (accounted eq m s h a) ≡ true
-  unfolding accounted
+  accounted_over : (a b : Account T) → rule_counted eq m s h a ≡ b → is_over b ≡ true → is_over (account_after_turn eq m s h a) ≡ true
+  unfolding account_after_turn
   accounted_over a b ruled_is over =
       ap (λ c. is_over (after_service eq m s h (job_at m s h) c)) ruled_is ∙ after_service_over (job_at m s h) b over
 
   abbrev turn_counted : Account T → Account T → Account T
-  turn_counted a b = record b { turns = counted a.turns }
+  turn_counted a b = record b { turns = next_count a.turns }
 
   accounted_by : (a b : Account T) (job : Result (Option (Job T)) Stop) → rule_counted eq m s h a ≡ b → job_at m s h ≡ job
-      → accounted eq m s h a ≡ turn_counted a (after_service eq m s h job b)
-  unfolding accounted
+      → account_after_turn eq m s h a ≡ turn_counted a (after_service eq m s h job b)
+  unfolding account_after_turn
   accounted_by a b job ruled_is job_is = λ j. turn_counted a (after_service eq m s h (job_is j) (ruled_is j))
 
   -- one of the checks failed
-  module _ (why : Stop) (looked : prepared m s h ≡ Err why) where
+  module _ (why : Stop) (looked : preparation m s h ≡ Err why) where
     look_counted_checked : (a : Account T) → look_counted eq m s h a ≡ a
     unfolding look_counted
     look_counted_checked a = ap (λ found. after_look eq m s h found a) looked
@@ -80,13 +80,13 @@ module _ {S T : Type 0} (eq : T → T → Bool) (m : PolicyModel T S) (s : Machi
 
     job_checked : job_at m s h ≡ Err why
     unfolding job_at
-    job_checked = ap (λ found. found >>= λ l. allowed m s h l >>= λ o. planned m s h l o) looked
+    job_checked = ap (λ found. found >>= λ l. rule_answer m s h l >>= λ o. turn_job m s h l o) looked
 
-    pub accounted_checked : (a : Account T) → accounted eq m s h a ≡ record a { turns = counted a.turns }
+    pub accounted_checked : (a : Account T) → account_after_turn eq m s h a ≡ record a { turns = next_count a.turns }
     accounted_checked a = accounted_by a a (Err why) (rule_counted_checked a) job_checked
 
   -- the turn came to its rule
-  module _ (look : Look T) (looked : prepared m s h ≡ Ok look) where
+  module _ (look : Look T) (looked : preparation m s h ≡ Ok look) where
     pub look_counted_at : (a : Account T) → look_counted eq m s h a ≡ after_look eq m s h (Ok look) a
     unfolding look_counted
     look_counted_at a = ap (λ found. after_look eq m s h found a) looked
@@ -96,21 +96,21 @@ module _ {S T : Type 0} (eq : T → T → Bool) (m : PolicyModel T S) (s : Machi
     rule_counted_at a b looked_is = λ j. after_rule eq m s h (looked j) (looked_is j)
 
     -- which refused
-    module _ (why : Stop) (ruled : allowed m s h look ≡ Err why) where
+    module _ (why : Stop) (ruled : rule_answer m s h look ≡ Err why) where
       rule_counted_refused : (a b : Account T) → look_counted eq m s h a ≡ b → rule_counted eq m s h a ≡ b
       rule_counted_refused a b looked_is = rule_counted_at a b looked_is ∙ ap (λ answer. rule_kept eq (key_of eq m s h look) answer b) ruled
 
       job_refused : job_at m s h ≡ Err why
       unfolding job_at
       job_refused =
-          ap (λ found. found >>= λ l. allowed m s h l >>= λ o. planned m s h l o) looked ∙ ap (λ answer. answer >>= λ o. planned m s h look o) ruled
+          ap (λ found. found >>= λ l. rule_answer m s h l >>= λ o. turn_job m s h l o) looked ∙ ap (λ answer. answer >>= λ o. turn_job m s h look o) ruled
 
-      accounted_refused : (a b : Account T) → look_counted eq m s h a ≡ b → accounted eq m s h a ≡ record b { turns = counted a.turns }
+      accounted_refused : (a b : Account T) → look_counted eq m s h a ≡ b → account_after_turn eq m s h a ≡ record b { turns = next_count a.turns }
       accounted_refused a b looked_is = accounted_by a b (Err why) (rule_counted_refused a b looked_is) job_refused
 
     -- which allowed
-    pub accounted_ruled : (outs : Outs T) (job : Result (Option (Job T)) Stop) (a b : Account T) → allowed m s h look ≡ Ok outs → planned m s h look outs ≡ job
-        → rule_counted eq m s h a ≡ b → accounted eq m s h a ≡ record (after_service eq m s h job b) { turns = counted a.turns }
+    pub accounted_ruled : (outs : Outs T) (job : Result (Option (Job T)) Stop) (a b : Account T) → rule_answer m s h look ≡ Ok outs → turn_job m s h look outs ≡ job
+        → rule_counted eq m s h a ≡ b → account_after_turn eq m s h a ≡ record (after_service eq m s h job b) { turns = next_count a.turns }
     accounted_ruled outs job a b ruled planned_is ruled_is = accounted_by a b job ruled_is (job_ruled m s h look outs looked ruled ∙ planned_is)
 
 -- ---- a call of the policy's services
@@ -119,13 +119,13 @@ module _ {S T : Type 0} (m : PolicyModel T S) (s : Machine S T) (h : ℕ) (look 
   abbrev planned_if : Bool → Result (Job T) PlanEnd → Result (Option (Job T)) Stop
   planned_if call given = if call then or_unserved (hart_at s.core h).pc look.service given else Ok None
 
-  pub planned_own : is_call look.group ≡ false → planned m s h look outs ≡ Ok None
-  unfolding planned
+  pub planned_own : is_call look.group ≡ false → turn_job m s h look outs ≡ Ok None
+  unfolding turn_job
   planned_own own = ap (λ call. planned_if call (service_on m s h look outs)) own
 
   pub planned_call : (given : Result (Job T) PlanEnd) → is_call look.group ≡ true → service_on m s h look outs ≡ given
-      → planned m s h look outs ≡ or_unserved (hart_at s.core h).pc look.service given
-  unfolding planned
+      → turn_job m s h look outs ≡ or_unserved (hart_at s.core h).pc look.service given
+  unfolding turn_job
   planned_call given call given_is = λ j. planned_if (call j) (given_is j)
 
 -- a step as the account and the turn tell it
@@ -135,41 +135,41 @@ stepped_to account turned = record { standing = record { machine = turned.machin
 module _ {S T : Type 0} (eq : T → T → Bool) (m : PolicyModel T S) (e : Standing S T) (feed : List ℕ) (h : ℕ) (ready : is_ready e h ≡ true) where
   -- ---- steps that are turns
 
-  by_turn : (account : Account T) (turned : Turned S T) → accounted eq m e.machine h e.account ≡ account → is_over account ≡ false
+  by_turn : (account : Account T) (turned : Turned S T) → account_after_turn eq m e.machine h e.account ≡ account → is_over account ≡ false
       → turn_of m e.machine feed h ≡ turned → step eq m e feed h ≡ stepped_to account turned
   by_turn account turned counted_is within turned_is =
       step_made eq m e feed h ready (ap is_over counted_is ∙ within) ∙ λ j. stepped_to (counted_is j) (turned_is j)
 
   abbrev with_turn : Account T → Account T
-  with_turn account = record account { turns = counted e.account.turns }
+  with_turn account = record account { turns = next_count e.account.turns }
 
   -- one of the checks failed
-  pub checked_step : (why : Stop) → prepared m e.machine h ≡ Err why → is_over e.account ≡ false
-      → step eq m e feed h ≡ stepped_to (with_turn e.account) (settled m e.machine feed h (Err why))
+  pub checked_step : (why : Stop) → preparation m e.machine h ≡ Err why → is_over e.account ≡ false
+      → step eq m e feed h ≡ stepped_to (with_turn e.account) (settlement m e.machine feed h (Err why))
   checked_step why looked within =
-      by_turn (with_turn e.account) (settled m e.machine feed h (Err why)) (accounted_checked eq m e.machine h why looked e.account) within
+      by_turn (with_turn e.account) (settlement m e.machine feed h (Err why)) (accounted_checked eq m e.machine h why looked e.account) within
       (turn_checked m e.machine feed h why (ready_parts e h ready).1 looked)
 
   -- ---- steps that come to the rule
 
-  module _ (look : Look T) (looked : prepared m e.machine h ≡ Ok look) where
+  module _ (look : Look T) (looked : preparation m e.machine h ≡ Ok look) where
     -- which refused
-    pub refused_step : (why : Stop) (b : Account T) → allowed m e.machine h look ≡ Err why → look_counted eq m e.machine h e.account ≡ b → is_over b ≡ false
-        → step eq m e feed h ≡ stepped_to (with_turn b) (settled m e.machine feed h (Err why))
+    pub refused_step : (why : Stop) (b : Account T) → rule_answer m e.machine h look ≡ Err why → look_counted eq m e.machine h e.account ≡ b → is_over b ≡ false
+        → step eq m e feed h ≡ stepped_to (with_turn b) (settlement m e.machine feed h (Err why))
     refused_step why b ruled looked_is within =
-        by_turn (with_turn b) (settled m e.machine feed h (Err why)) (accounted_refused eq m e.machine h look looked why ruled e.account b looked_is) within
+        by_turn (with_turn b) (settlement m e.machine feed h (Err why)) (accounted_refused eq m e.machine h look looked why ruled e.account b looked_is) within
         (turn_refused m e.machine feed h look why (ready_parts e h ready).1 looked ruled)
 
     -- which allowed
-    module _ (outs : Outs T) (job : Result (Option (Job T)) Stop) (ruled : allowed m e.machine h look ≡ Ok outs) (planned_is : planned m e.machine h look outs ≡ job) where
+    module _ (outs : Outs T) (job : Result (Option (Job T)) Stop) (ruled : rule_answer m e.machine h look ≡ Ok outs) (planned_is : turn_job m e.machine h look outs ≡ job) where
       pub ruled_step : (b : Account T) → rule_counted eq m e.machine h e.account ≡ b → is_over (after_service eq m e.machine h job b) ≡ false
           → step eq m e feed h ≡ stepped_to (with_turn (after_service eq m e.machine h job b))
-          (settled m e.machine feed h (job >>= λ j. Ok (effected m e.machine feed h look outs j)))
+          (settlement m e.machine feed h (job >>= λ j. Ok (turn_effect m e.machine feed h look outs j)))
       ruled_step b ruled_is within =
-          by_turn (with_turn (after_service eq m e.machine h job b)) (settled m e.machine feed h (job >>= λ j. Ok (effected m e.machine feed h look outs j)))
+          by_turn (with_turn (after_service eq m e.machine h job b)) (settlement m e.machine feed h (job >>= λ j. Ok (turn_effect m e.machine feed h look outs j)))
           (accounted_ruled eq m e.machine h look looked outs job e.account b ruled planned_is ruled_is) within
           (turn_ruled m e.machine feed h look outs (ready_parts e h ready).1 looked ruled
-          ∙ ap (λ given. settled m e.machine feed h (given >>= λ j. Ok (effected m e.machine feed h look outs j))) planned_is)
+          ∙ ap (λ given. settlement m e.machine feed h (given >>= λ j. Ok (turn_effect m e.machine feed h look outs j))) planned_is)
 
   -- ---- steps that run out of words
 
@@ -191,7 +191,7 @@ module _ {S T : Type 0} (eq : T → T → Bool) (m : PolicyModel T S) (e : Stand
       ∙ λ j. out_with (before_by ((ap is_over ruled_is ∙ over) j) (looked_is j) (rule_counted eq m e.machine h e.account))
 
   -- what the service writes has no words
-  pub out_at_service : (b c : Account T) → rule_counted eq m e.machine h e.account ≡ b → is_over b ≡ false → accounted eq m e.machine h e.account ≡ c
+  pub out_at_service : (b c : Account T) → rule_counted eq m e.machine h e.account ≡ b → is_over b ≡ false → account_after_turn eq m e.machine h e.account ≡ c
       → is_over c ≡ true → step eq m e feed h ≡ out_with b
   out_at_service b c ruled_is within counted_is over =
       step_out eq m e feed h ready (ap is_over counted_is ∙ over)

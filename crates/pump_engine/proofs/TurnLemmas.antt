@@ -12,10 +12,10 @@ use Rattle.turn_steps.specs.Looks.{is_call}
 use Rattle.turn_steps.specs.Maps.{look_by}
 use Rattle.turn_steps.specs.declared.look.Look.{Look}
 use Rattle.turn_steps.specs.declared.stop.Stop.{Stop}
-use Rattle.engine_trait.specs.Accounts.{Account, counted, is_over, look_counted, rule_counted}
+use Rattle.engine_trait.specs.Accounts.{Account, next_count, is_over, look_counted, rule_counted}
 use Rattle.engine_trait.specs.Machine.{CoreState, Machine, hart_at}
 use Rattle.engine_trait.specs.Standing.{GivesUp, Standing, is_ready, step, wanting}
-use Rattle.engine_trait.specs.Turn.{Turned, allowed, carried_at, end_of, or_unserved, or_violation, planned, prepared, stopped_at, unserved, violation}
+use Rattle.engine_trait.specs.Turn.{Turned, rule_answer, carried_at, end_of, or_unserved, or_violation, turn_job, preparation, stopped_at, service_stop, violation}
 use Rattle.engine_trait.specs.declared.ends.Halt.TheVariants as halt
 use Rattle.engine_trait.specs.declared.ends.TurnEnd.{TurnEnd}
 use Rattle.engine_trait.specs.declared.ends.TurnEnd.TheVariants as ends
@@ -63,8 +63,8 @@ module _ {S T : Type 0} (eq : T → T → Bool) (m : PolicyModel T S) (p : PumpS
     module _ (q : PumpState S T) (look : Look ℕ) (found : prepared_words m p h ≡ Ok look) (parts : HasParts p q) where
       -- the rule counts no turn
       counts_on : (b : Account T) (turned : Turned S T)
-          → stepped_to (record b { turns = counted p.turns }) turned ≡ stepped_to (record b { turns = counted q.turns }) turned
-      counts_on b turned = ap (λ (n : ℕ). stepped_to (record b { turns = counted n }) turned) (sym parts.turns)
+          → stepped_to (record b { turns = next_count p.turns }) turned ≡ stepped_to (record b { turns = next_count q.turns }) turned
+      counts_on b turned = ap (λ (n : ℕ). stepped_to (record b { turns = next_count n }) turned) (sym parts.turns)
 
       -- the same engine with the table that it has after its rule
       module _ (machine : machine_by_words m q ≡ machine_by_words m p) where
@@ -78,12 +78,12 @@ module _ {S T : Type 0} (eq : T → T → Bool) (m : PolicyModel T S) (p : PumpS
             → step eq m asked feed h ≡ record { standing = standing_by_words m f; feed = fed; ended = ended } → StepsTo f fed ended
         by_asked f fed ended is = ap (λ s. step eq m (on s) feed h) (sym machine) ∙ is
 
-        asked_prepared : prepared m asked.machine h ≡ Ok (look_by (decode m p) look)
-        asked_prepared = ap (λ s. prepared m s h) machine ∙ prepared_at m p h look found
+        asked_prepared : preparation m asked.machine h ≡ Ok (look_by (decode m p) look)
+        asked_prepared = ap (λ s. preparation m s h) machine ∙ prepared_at m p h look found
 
-        asked_allowed : allowed m asked.machine h (look_by (decode m p) look) ≡ or_violation (hart_at q.core h).pc (answer_in eq m p look)
+        asked_allowed : rule_answer m asked.machine h (look_by (decode m p) look) ≡ or_violation (hart_at q.core h).pc (answer_in eq m p look)
         asked_allowed =
-            ap (λ s. allowed m s h (look_by (decode m p) look)) machine
+            ap (λ s. rule_answer m s h (look_by (decode m p) look)) machine
             ∙ allowed_at m p h look eq
             ∙ ap (λ (core : CoreState ℕ). or_violation (hart_at core h).pc (answer_in eq m p look)) (sym parts.core)
 
@@ -157,11 +157,11 @@ module _ {S T : Type 0} (eq : T → T → Bool) (m : PolicyModel T S) (p : PumpS
         look_is : look_by (decode m p) look ≡ look_now
         look_is = ap (λ (inputs : Ins T). record look_now { inputs = inputs }) (sym rule.inputs)
 
-        prepared_now : prepared m now.machine h ≡ Ok look_now
+        prepared_now : preparation m now.machine h ≡ Ok look_now
         prepared_now = asked_prepared rule.machine ∙ ap (λ l. Ok l) look_is
 
-        allowed_now : allowed m now.machine h look_now ≡ Ok outs_now
-        allowed_now = ap (allowed m now.machine h) (sym look_is) ∙ asked_allowed rule.machine ∙ ap (or_violation (hart_at q.core h).pc) rule.rule
+        allowed_now : rule_answer m now.machine h look_now ≡ Ok outs_now
+        allowed_now = ap (rule_answer m now.machine h) (sym look_is) ∙ asked_allowed rule.machine ∙ ap (or_violation (hart_at q.core h).pc) rule.rule
 
         counted_now : rule_counted eq m now.machine h now.account ≡ account_by_words m q
         counted_now = rule_counted_asked rule.machine ∙ sym rule.account
@@ -175,7 +175,7 @@ module _ {S T : Type 0} (eq : T → T → Bool) (m : PolicyModel T S) (p : PumpS
             ∙ λ j. record {
               standing = record {
                 machine = record { policy = q.policy; core = core_effected_by (decode m q) q.core feed h look outs j };
-                account = record (account_by_words m q) { turns = counted (sym parts.turns j) };
+                account = record (account_by_words m q) { turns = next_count (sym parts.turns j) };
               };
               feed = (carried_at_by (decode m q) q.core feed h look outs j).feed;
               ended = end_of (carried_at_by (decode m q) q.core feed h look outs j).done;
@@ -193,9 +193,9 @@ module _ {S T : Type 0} (eq : T → T → Bool) (m : PolicyModel T S) (p : PumpS
 
         module _ (call : is_call look.group ≡ true) where
           unserved_by : (end : PlanEnd) → service_in eq m q h look outs ≡ Err end
-              → StepsTo (after_stop q h (unserved (hart_at q.core h).pc look.service end)) feed (ends.Stopped (unserved (hart_at q.core h).pc look.service end))
+              → StepsTo (after_stop q h (service_stop (hart_at q.core h).pc look.service end)) feed (ends.Stopped (service_stop (hart_at q.core h).pc look.service end))
           unserved_by end ends_so =
-              let why = unserved (hart_at q.core h).pc look.service end in
+              let why = service_stop (hart_at q.core h).pc look.service end in
               by_asked rule.machine (after_stop q h why) feed (ends.Stopped why)
               (ruled_step eq m now feed h (asked_ready rule.machine) look_now prepared_now outs_now (Err why) allowed_now
               (planned_call m now.machine h look_now outs_now (Err end) call ends_so
@@ -205,14 +205,14 @@ module _ {S T : Type 0} (eq : T → T → Bool) (m : PolicyModel T S) (p : PumpS
 
           -- which isn't served
           pub unserved_turn : (f : PumpState S T) (end : PlanEnd) (ended : TurnEnd) → service_in eq m q h look outs ≡ Err end
-              → f ≡ after_stop q h (unserved (hart_at q.core h).pc look.service end) → ended ≡ ends.Stopped (unserved (hart_at q.core h).pc look.service end)
+              → f ≡ after_stop q h (service_stop (hart_at q.core h).pc look.service end) → ended ≡ ends.Stopped (service_stop (hart_at q.core h).pc look.service end)
               → StepsTo f feed ended
           unserved_turn f end ended ends_so f_is ended_is =
-              let why = unserved (hart_at q.core h).pc look.service end in
+              let why = service_stop (hart_at q.core h).pc look.service end in
               told f (after_stop q h why) feed feed ended (ends.Stopped why) (unserved_by end ends_so) f_is refl ended_is
 
           module _ (f : PumpState S T) (job : Job T) (serves : service_in eq m q h look outs ≡ Ok job) where
-            planned_now : planned m now.machine h look_now outs_now ≡ Ok (Some job)
+            planned_now : turn_job m now.machine h look_now outs_now ≡ Ok (Some job)
             planned_now = planned_call m now.machine h look_now outs_now (Ok job) call serves
 
             served_by : Serves eq m q h look outs job f → StepsTo f feed (ends.Ran None)
@@ -223,7 +223,7 @@ module _ {S T : Type 0} (eq : T → T → Bool) (m : PolicyModel T S) (p : PumpS
                 ∙ λ j. record {
                   standing = record {
                     machine = sym done.machine j;
-                    account = (ap (λ (n : ℕ). record (written_in eq m q h look outs job) { turns = counted n }) (sym parts.turns) ∙ sym done.account) j;
+                    account = (ap (λ (n : ℕ). record (written_in eq m q h look outs job) { turns = next_count n }) (sym parts.turns) ∙ sym done.account) j;
                   };
                   feed = feed;
                   ended = ends.Ran None;
@@ -233,7 +233,7 @@ module _ {S T : Type 0} (eq : T → T → Bool) (m : PolicyModel T S) (p : PumpS
             out_by over =
                 by_asked rule.machine (after_halt q halt.TagWords) feed ends.TagsOut
                 (out_at_service eq m now feed h (asked_ready rule.machine) (account_by_words m q)
-                (record (written_in eq m q h look outs job) { turns = counted p.turns }) counted_now rule.within
+                (record (written_in eq m q h look outs job) { turns = next_count p.turns }) counted_now rule.within
                 (accounted_ruled eq m now.machine h look_now prepared_now outs_now (Ok (Some job)) now.account (account_by_words m q) allowed_now planned_now counted_now) over)
 
             -- which is carried out, or writes more tags than can have words

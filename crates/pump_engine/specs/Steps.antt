@@ -10,15 +10,15 @@ use Rattle.policy_trait.specs.declared.services.PlanEnd.{PlanEnd}
 use Rattle.tag_memory.specs.Hart.{HartState}
 use Rattle.tag_memory.specs.Ram.{RamState}
 use Rattle.monitor_calls.specs.Service.{Job}
-use Rattle.turn_steps.specs.Looks.{is_call, looked}
+use Rattle.turn_steps.specs.Looks.{is_call, look_result}
 use Rattle.turn_steps.specs.Maps.{look_by}
 use Rattle.turn_steps.specs.declared.look.Look.{Look}
 use Rattle.turn_steps.specs.declared.stop.Stop.{Stop}
 use Rattle.turn_steps.specs.declared.stop.Stop.TheVariants as stop
-use Rattle.engine_trait.specs.Accounts.{Account, Key, counted, is_kept, is_over, key_of, looked_up, rule_kept, seeing, written_tags}
+use Rattle.engine_trait.specs.Accounts.{Account, Key, next_count, is_kept, is_over, key_of, looked_up, rule_kept, seeing, written_tags}
 use Rattle.engine_trait.specs.Machine.{fresh_core, hart_at, stopping}
 use Rattle.engine_trait.specs.Standing.{Standing}
-use Rattle.engine_trait.specs.Turn.{core_effected, core_served, or_fault, prepared, service_on, unserved, violation}
+use Rattle.engine_trait.specs.Turn.{core_effected, core_served, or_fault, preparation, service_on, service_stop, violation}
 use Rattle.engine_trait.specs.declared.ends.Halt.{Halt}
 use Rattle.engine_trait.specs.declared.ends.Halt.TheVariants as halt
 use Rattle.engine_trait.specs.declared.ends.TurnEnd.{TurnEnd}
@@ -45,11 +45,11 @@ module _ {S T : Type 0} (m : PolicyModel T S) where
 
   -- the checks of a hart's turn, which no tag decides
   unfoldable pub prepared_words : PumpState S T → ℕ → Result (Look ℕ) Stop
-  prepared_words p h = or_fault (looked (hart_at p.core h) p.core.ram) >>= known_or p.policy
+  prepared_words p h = or_fault (look_result (hart_at p.core h) p.core.ram) >>= known_or p.policy
 
 -- a turn that stopped the hart is counted
 abbrev pub after_stop : {S T : Type 0} → PumpState S T → ℕ → Stop → PumpState S T
-after_stop p h why = record p { core = stopping p.core h why; turns = counted p.turns }
+after_stop p h why = record p { core = stopping p.core h why; turns = next_count p.turns }
 
 -- the engine stopped as a whole
 abbrev pub after_halt : {S T : Type 0} → PumpState S T → Halt → PumpState S T
@@ -57,7 +57,7 @@ after_halt p why = record p { halt = Some why }
 
 -- a turn that had the effect of its instruction
 abbrev pub after_effect : {S T : Type 0} → PumpState S T → List ℕ → ℕ → Look ℕ → Outs ℕ → PumpState S T
-after_effect p feed h look outs = record p { core = core_effected p.core feed h look outs; turns = counted p.turns }
+after_effect p feed h look outs = record p { core = core_effected p.core feed h look outs; turns = next_count p.turns }
 
 -- ---- the rule
 
@@ -128,7 +128,7 @@ module _ {S T : Type 0} (eq : T → T → Bool) (m : PolicyModel T S) (p : PumpS
       policy = m.commit p.policy job.plan;
       core = core_served (machine_by_words m p).core h job.words job.plan.answer look.effect.next (decode m p outs.pc);
     }
-    pub account : account_by_words m q ≡ record (written_in job) { turns = counted p.turns }
+    pub account : account_by_words m q ≡ record (written_in job) { turns = next_count p.turns }
     pub within : is_over (account_by_words m q) ≡ false
 
   -- how it ended where nothing refuses it
@@ -142,7 +142,7 @@ module _ {S T : Type 0} (eq : T → T → Bool) (m : PolicyModel T S) (p : PumpS
   pub record EndsService (q : PumpState S T) (ended : TurnEnd) : Type 0 where
     pub served : (job : Job T) → service_in ≡ Ok job → CarriesOut job q ended
     pub stopped : (end : PlanEnd) → service_in ≡ Err end
-        → (q ≡ after_stop p h (unserved (hart_at p.core h).pc look.service end)) × (ended ≡ ends.Stopped (unserved (hart_at p.core h).pc look.service end))
+        → (q ≡ after_stop p h (service_stop (hart_at p.core h).pc look.service end)) × (ended ≡ ends.Stopped (service_stop (hart_at p.core h).pc look.service end))
 
 -- ---- memory
 
@@ -154,4 +154,4 @@ module _ {S T : Type 0} (eq : T → T → Bool) (m : PolicyModel T S) (e : Stand
 
   -- the turn is one that may take memory
   abbrev pub takes_memory : Bool
-  takes_memory = may_grow (prepared m e.machine h)
+  takes_memory = may_grow (preparation m e.machine h)

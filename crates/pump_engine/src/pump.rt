@@ -1,3 +1,5 @@
+//! The engine whose tags are words of a table, with a cache of rules.
+
 ghost use Rattle.std.specs.Prelude.{◌≡◌, ◌≢◌, ◌+◌, ◌%◌, ◌<◌, ◌≤◌, ◌&&◌, ◌||◌, not, [], Err, Ok, Some, None, IfErr, IfOk, IsOk, IsTrue, false, true, is_none, length};
 ghost use Rattle.std.specs.List.{All};
 ghost use Rattle.policy_trait.specs.Maps.{ins_by, outs_by};

@@ -3,5 +3,5 @@ pub mod CommandLemmas
 pub mod GivenLemmas
 pub mod LimitLemmas
 pub mod ReadLemmas
-pub mod Rows
+pub mod RowLemmas
 pub mod ValueLemmas

@@ -9,7 +9,7 @@ use Rattle.clap.specs.declared.parser.matches.ArgMatches.{ArgMatches}
 use Rattle.pump_line.specs.Line.{HasMatch, asm_shape, dis_shape, faults_of, match_of, pump_app, run_shape, shell_shape}
 use Rattle.pump_line.specs.Request.{request_at, request_of}
 use Rattle.pump_line.specs.Task.{Task, task_in, task_of}
-use Rattle.pump_line.specs.Told.{told}
+use Rattle.pump_line.specs.Told.{task_value}
 use Rattle.pump_line.specs.declared.task.Task.{Task as TaskWords}
 use Rattle.pump_line.specs.declared.task.WordsEnd.{WordsEnd}
 use Rattle.pump_line.specs.declared.task.WordsEnd.TheVariants.{Bad, Memory}
@@ -54,13 +54,13 @@ pub is_simple_if : (app : App) → app ≡ pump_app → is_simple_and_free app �
 is_simple_if app is = ap is_simple_and_free is ∙ pump_is_simple
 
 -- what `ok_or` makes of the task that was read, where the words ask for a task
-pub task_if_ok : (read : Option TaskWords) (made : Result TaskWords WordsEnd) (asked : Option Task) → option_map told read ≡ asked
-    → made ≡ ok_or read Bad → IfOk made (λ t. asked ≡ Some (told t))
+pub task_if_ok : (read : Option TaskWords) (made : Result TaskWords WordsEnd) (asked : Option Task) → option_map task_value read ≡ asked
+    → made ≡ ok_or read Bad → IfOk made (λ t. asked ≡ Some (task_value t))
 task_if_ok None made asked is e = rw e tt
 task_if_ok (Some task) made asked is e = rw e (sym is)
 
 -- and where they ask for none
-pub none_if_bad : (read : Option TaskWords) (made : Result TaskWords WordsEnd) (asked : Option Task) → option_map told read ≡ asked
+pub none_if_bad : (read : Option TaskWords) (made : Result TaskWords WordsEnd) (asked : Option Task) → option_map task_value read ≡ asked
     → made ≡ ok_or read Bad → IfErr made (λ e. e ≡ Bad → asked ≡ None)
 none_if_bad None made asked is e = rw e (λ bad. sym is)
 none_if_bad (Some task) made asked is e = rw e tt

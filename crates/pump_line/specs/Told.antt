@@ -14,11 +14,11 @@ abbrev pub texts_of : {A : Type 0} → List (String A) → List (List ℕ)
 texts_of words = map string_bytes words
 
 -- what an optional text holds
-abbrev pub lent : Option (Bor (List ℕ)) → Option (List ℕ)
-lent = option_map (λ text. text.now)
+abbrev pub text_value : Option (Bor (List ℕ)) → Option (List ℕ)
+text_value = option_map (λ text. text.now)
 
-abbrev pub run_told : RunWords → RunTask
-run_told task = record {
+abbrev pub run_value : RunWords → RunTask
+run_value task = record {
   image = task.image.now;
   choice = task.choice;
   cache = task.cache;
@@ -26,17 +26,17 @@ run_told task = record {
   turns = task.turns;
 }
 
-abbrev pub shell_told : ShellWords → ShellTask
-shell_told task = record { image = task.image.now; choice = task.choice; cache = task.cache; tags = task.tags }
+abbrev pub shell_value : ShellWords → ShellTask
+shell_value task = record { image = task.image.now; choice = task.choice; cache = task.cache; tags = task.tags }
 
-abbrev pub assemble_told : AssembleWords → AssembleTask
-assemble_told task = record { source = task.source.now; image = task.image.now }
+abbrev pub assemble_value : AssembleWords → AssembleTask
+assemble_value task = record { source = task.source.now; image = task.image.now }
 
-abbrev pub disassemble_told : DisassembleWords → DisassembleTask
-disassemble_told task = record { image = task.image.now }
+abbrev pub disassemble_value : DisassembleWords → DisassembleTask
+disassemble_value task = record { image = task.image.now }
 
-abbrev pub told : TaskWords → Task
-told (Run task) = run (run_told task)
-told (Shell task) = shell (shell_told task)
-told (Assemble task) = assemble (assemble_told task)
-told (Disassemble task) = disassemble (disassemble_told task)
+abbrev pub task_value : TaskWords → Task
+task_value (Run task) = run (run_value task)
+task_value (Shell task) = shell (shell_value task)
+task_value (Assemble task) = assemble (assemble_value task)
+task_value (Disassemble task) = disassemble (disassemble_value task)

@@ -4,7 +4,7 @@ ghost use Rattle.std.specs.Prelude.{◌≡◌, ◌≢◌, Some, None, IfOk, IfEr
 ghost use Rattle.clap.specs.Words.{first_of, found_of, kind_of, rows_of, subcommand_rows_of};
 ghost use Rattle.pump_line.specs.Request.{assemble_in, disassemble_in, request_at, request_by, run_in, shell_in};
 ghost use Rattle.pump_line.specs.Task.{AllowsTags, run_task_in, shell_task_in, task_in, task_of};
-ghost use Rattle.pump_line.specs.Told.{assemble_told, disassemble_told, lent, run_told, shell_told, texts_of, told};
+ghost use Rattle.pump_line.specs.Told.{assemble_value, disassemble_value, text_value, run_value, shell_value, texts_of, task_value};
 
 use crate::command::pump_command;
 use crate::values::{choice_from, read_cache, read_tags, read_turns};
@@ -91,7 +91,7 @@ impl From<AllocError> for WordsEnd {
 
 /// The text that a match has for an argument.
 fn text_of<'a>(matches: &ArgMatches<'a>, id: &str) -> Option<&'a str>
-    ensures { lent result ≡ first_of id.now (rows_of (found_of matches.now)) }
+    ensures { text_value result ≡ first_of id.now (rows_of (found_of matches.now)) }
 {
     matches.get_str(id)
 }
@@ -99,7 +99,7 @@ fn text_of<'a>(matches: &ArgMatches<'a>, id: &str) -> Option<&'a str>
 /// The run that a match of `run` asks for; `None` where a value is bad.
 #[tactic(auto, unfolding(crate::specs::Request::run_in, crate::specs::Task::run_task_in))]
 fn run_task<'a>(matches: &ArgMatches<'a>) -> Option<RunTask<'a>>
-    ensures { option_map run_told result
+    ensures { option_map run_value result
         ≡ option_and_then run_task_in (run_in (rows_of (found_of matches.now))) }
 {
     let image = text_of(matches, "image")?;
@@ -119,7 +119,7 @@ fn run_task<'a>(matches: &ArgMatches<'a>) -> Option<RunTask<'a>>
 /// The session of the shell that a match of `shell` asks for; `None` where a value is bad.
 #[tactic(auto, unfolding(crate::specs::Request::shell_in, crate::specs::Task::shell_task_in))]
 fn shell_task<'a>(matches: &ArgMatches<'a>) -> Option<ShellTask<'a>>
-    ensures { option_map shell_told result
+    ensures { option_map shell_value result
         ≡ option_and_then shell_task_in (shell_in (rows_of (found_of matches.now))) }
 {
     let image = text_of(matches, "image")?;
@@ -137,7 +137,7 @@ fn shell_task<'a>(matches: &ArgMatches<'a>) -> Option<ShellTask<'a>>
 /// The assembly that a match of `asm` asks for.
 #[tactic(auto, unfolding(crate::specs::Request::assemble_in))]
 fn assemble_task<'a>(matches: &ArgMatches<'a>) -> Option<AssembleTask<'a>>
-    ensures { option_map assemble_told result ≡ assemble_in (rows_of (found_of matches.now)) }
+    ensures { option_map assemble_value result ≡ assemble_in (rows_of (found_of matches.now)) }
 {
     let source = text_of(matches, "source")?;
     let image = text_of(matches, "image")?;
@@ -147,7 +147,7 @@ fn assemble_task<'a>(matches: &ArgMatches<'a>) -> Option<AssembleTask<'a>>
 /// The listing that a match of `dis` asks for.
 #[tactic(auto, unfolding(crate::specs::Request::disassemble_in))]
 fn disassemble_task<'a>(matches: &ArgMatches<'a>) -> Option<DisassembleTask<'a>>
-    ensures { option_map disassemble_told result
+    ensures { option_map disassemble_value result
         ≡ disassemble_in (rows_of (found_of matches.now)) }
 {
     let image = text_of(matches, "image")?;
@@ -157,7 +157,7 @@ fn disassemble_task<'a>(matches: &ArgMatches<'a>) -> Option<DisassembleTask<'a>>
 /// What a match of the subcommand with this name asks for.
 #[tactic(auto, unfolding(crate::specs::Request::request_by))]
 fn task_named<'a>(name: &str, matches: &ArgMatches<'a>) -> Option<Task<'a>>
-    ensures { option_map told result
+    ensures { option_map task_value result
         ≡ option_and_then task_in (request_by name.now (rows_of (found_of matches.now))) }
 {
     match name {
@@ -171,7 +171,7 @@ fn task_named<'a>(name: &str, matches: &ArgMatches<'a>) -> Option<Task<'a>>
 
 /// What a match asks for.
 fn task_matched<'a>(matches: &ArgMatches<'a>) -> Option<Task<'a>>
-    ensures { option_map told result
+    ensures { option_map task_value result
         ≡ option_and_then task_in (request_at (subcommand_rows_of matches.now)) }
 {
     let (name, inner) = matches.subcommand()?;
@@ -198,8 +198,8 @@ fn end_of(error: &Error) -> WordsEnd
 /// that starts an image. SOURCE and IMAGE are names of files, of any text: no file is looked at. This is the project's own
 /// command line; `clap` judges its form. Any other words are `Bad`. A line in want of memory may end as `Memory`.
 pub fn read_task<'a>(alloc: Global, words: &'a Vec<String>) -> Result<Task<'a>, WordsEnd>
-    ensures task { IfOk result (λ t. task_of (texts_of words.now.items) ≡ Some (told t)) }
-    ensures tags { IfOk result (λ t. AllowsTags (told t)) }
+    ensures task { IfOk result (λ t. task_of (texts_of words.now.items) ≡ Some (task_value t)) }
+    ensures tags { IfOk result (λ t. AllowsTags (task_value t)) }
     ensures bad { IfErr result (λ e. e ≡ WordsEnd.Bad → task_of (texts_of words.now.items) ≡ None) }
 {
     let command = pump_command(alloc)?;

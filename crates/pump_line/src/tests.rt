@@ -1,3 +1,5 @@
+//! Command lines that ask for a run or for a shell, and bad ones.
+
 use super::{Task, WordsEnd, match_law, read_task};
 use policy_choice::Choice;
 use std::alloc::{AllocError, Global};

@@ -2,7 +2,7 @@
 
 ghost use Rattle.std.specs.Prelude.{◌≡◌};
 ghost use Rattle.pump_line.specs.Task.{cache_of, choice_in, number_or, number_within, tags_of, turns_of};
-ghost use Rattle.pump_line.specs.Told.{lent};
+ghost use Rattle.pump_line.specs.Told.{text_value};
 
 use policy_choice::{Choice, read_choice};
 use pump_words::read_number;
@@ -39,7 +39,7 @@ fn read_number_within(text: &str, least: u32, most: u32) -> Option<u32>
 /// The number from `least` to `most` that is an option's value: `default` where the option isn't on the line; `None` for any
 /// other text.
 fn read_number_or(text: Option<&str>, default: u32, least: u32, most: u32) -> Option<u32>
-    ensures { result ≡ number_or default least most (lent text.entry) }
+    ensures { result ≡ number_or default least most (text_value text.entry) }
 {
     match text {
         None => Some(default),
@@ -50,7 +50,7 @@ fn read_number_or(text: Option<&str>, default: u32, least: u32, most: u32) -> Op
 /// The policies that are chosen, from the value of `--policy`: none where the option isn't on the line; `None` for a bad
 /// list.
 pub(crate) fn choice_from(list: Option<&str>) -> Option<Choice>
-    ensures { result ≡ choice_in (lent list.entry) }
+    ensures { result ≡ choice_in (text_value list.entry) }
 {
     match list {
         None => Some(Choice::none()),
@@ -61,7 +61,7 @@ pub(crate) fn choice_from(list: Option<&str>) -> Option<Choice>
 /// The most rules that are kept, from the value of `--cache`: 1,024 where the option isn't on the line; `None` for a text
 /// that is no number from 0 to 65,536.
 pub(crate) fn read_cache(text: Option<&str>) -> Option<u32>
-    ensures { result ≡ cache_of (lent text.entry) }
+    ensures { result ≡ cache_of (text_value text.entry) }
 {
     read_number_or(text, DEFAULT_CACHE, 0, MOST_CACHE)
 }
@@ -69,7 +69,7 @@ pub(crate) fn read_cache(text: Option<&str>) -> Option<u32>
 /// The most tags that may have words, from the value of `--tags`: 65,536 where the option isn't on the line; `None` for a
 /// text that is no number from 1 to 1,048,576.
 pub(crate) fn read_tags(text: Option<&str>) -> Option<u32>
-    ensures { result ≡ tags_of (lent text.entry) }
+    ensures { result ≡ tags_of (text_value text.entry) }
 {
     read_number_or(text, DEFAULT_TAGS, 1, MOST_TAGS)
 }
@@ -77,7 +77,7 @@ pub(crate) fn read_tags(text: Option<&str>) -> Option<u32>
 /// The most turns, from the value of `--turns`: 1,000,000 where the option isn't on the line; `None` for a text that is no
 /// number from 1 to 1,000,000,000.
 pub(crate) fn read_turns(text: Option<&str>) -> Option<u64>
-    ensures { result ≡ turns_of (lent text.entry) }
+    ensures { result ≡ turns_of (text_value text.entry) }
 {
     read_number_or(text, DEFAULT_TURNS, 1, MOST_TURNS).map(u64::from)
 }

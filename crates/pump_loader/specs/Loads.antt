@@ -1,7 +1,7 @@
 -- A start on the engine that keeps rules, that can be made again and again.
 use Rattle.std.specs.Prelude.{ℕ, ◌≤◌}
 use Rattle.image_format.specs.Picture.{Picture}
-use Rattle.policy_choice.specs.All.{AllState, AllTag, all, all_eq, chosen}
+use Rattle.policy_choice.specs.All.{AllState, AllTag, all, all_eq, choice_state}
 use Rattle.policy_choice.specs.declared.choice.Choice.{Choice}
 use Rattle.engine_trait.specs.Standing.{Standing}
 use Rattle.word_loader.specs.CachedStart.{cached_standing}
@@ -20,7 +20,7 @@ pub record HasRoom (load : CachedLoad) : Type 0 where
 
 -- the image's start under the chosen policies
 abbrev pub cached_start_of : Choice → ℕ → ℕ → Picture → Standing AllState AllTag
-cached_start_of choice cache tags g = cached_standing all_eq all (chosen choice g) g cache tags
+cached_start_of choice cache tags g = cached_standing all_eq all (choice_state choice g) g cache tags
 
 abbrev pub cached_start_of_load : CachedLoad → Standing AllState AllTag
 cached_start_of_load load = cached_start_of load.choice load.cache load.tags load.image

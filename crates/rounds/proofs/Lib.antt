@@ -1,5 +1,5 @@
 pub mod MirrorLemmas
-pub mod Readiness
+pub mod ReadinessLemmas
 pub mod RunLemmas
-pub mod Stopping
-pub mod Turning
+pub mod StopLemmas
+pub mod TurnLemmas

@@ -5,7 +5,7 @@ use Rattle.host_io.specs.Pieces.{Piece}
 use Rattle.policy_trait.specs.Model.{PolicyModel}
 use Rattle.tag_memory.specs.Maps.{hart_by}
 use Rattle.engine_trait.specs.Events.{Event}
-use Rattle.engine_trait.specs.Laws.{is_made}
+use Rattle.engine_trait.specs.EngineLaws.{is_made}
 use Rattle.engine_trait.specs.Machine.{CoreState}
 use Rattle.engine_trait.specs.Maps.{core_by}
 use Rattle.engine_trait.specs.Mirrored.{IsMirrored}
@@ -16,8 +16,8 @@ use Rattle.engine_trait.proofs.MirrorLemmas.{step_mirrored}
 use Rattle.rounds.specs.Course.{Course, after_turn, hart_stops, next_hart, next_turn, rounds, stays, taking}
 use Rattle.rounds.specs.Same.{ShowsSame}
 use Rattle.rounds.specs.Shown.{pieces_of, shown_by}
-use Rattle.rounds.proofs.Readiness.{hart_stops_same, next_hart_same}
-use Rattle.rounds.proofs.Turning.{after-feed, after-standing, after_step, pieces_after}
+use Rattle.rounds.proofs.ReadinessLemmas.{hart_stops_same, next_hart_same}
+use Rattle.rounds.proofs.TurnLemmas.{after-feed, after-standing, after_step, pieces_after}
 
 as_many : {T U : Type 0} (f : T → U) (core : CoreState T) → length (core_by f core).harts ≡ length core.harts
 as_many f core = length-map core.harts (hart_by f)

@@ -2,9 +2,9 @@
 use Rattle.std.proofs.Common.{◌≡◌, ℕ, zero, suc, ◌+◌, ◌≤◌, Bool, true, false, List, length, map, Option, Some, None, refl, ap, sym, ◌∙◌, arith}
 use Rattle.std.proofs.lemmas.Bool.{false≢true}
 use Rattle.policy_trait.specs.Model.{PolicyModel}
-use Rattle.engine_trait.specs.Accounts.{accounted, is_over}
+use Rattle.engine_trait.specs.Accounts.{account_after_turn, is_over}
 use Rattle.engine_trait.specs.Events.{event_of}
-use Rattle.engine_trait.specs.Laws.{is_made}
+use Rattle.engine_trait.specs.EngineLaws.{is_made}
 use Rattle.engine_trait.specs.Machine.{Machine}
 use Rattle.engine_trait.specs.Runs.{run_along, turn, with_event}
 use Rattle.engine_trait.specs.Standing.{Standing, is_ready, step, step_by}
@@ -12,7 +12,7 @@ use Rattle.engine_trait.specs.Turn.{turn_of}
 use Rattle.engine_trait.proofs.StepLemmas.{ready_parts, step_follows}
 use Rattle.engine_trait.proofs.TurnLemmas.{turn_made}
 use Rattle.rounds.specs.Course.{Course, after_turn, next_turn, rounds, stays, taking, trace_of}
-use Rattle.rounds.proofs.Turning.{after_step}
+use Rattle.rounds.proofs.TurnLemmas.{after_step}
 
 -- the machine and the feed stay
 pub record StaysAt {S T : Type 0} (s : Machine S T) (feed : List ℕ) (t : Machine S T) (fed : List ℕ) : Type 0 where
@@ -31,7 +31,7 @@ module _ {S T : Type 0} (eq : T → T → Bool) (m : PolicyModel T S) where
     -- a step in which no turn was made
     pub unmade_stays : is_made (step eq m e feed h).ended ≡ false → StaysAt e.machine feed (step eq m e feed h).standing.machine (step eq m e feed h).feed
     unfolding step
-    unmade_stays unmade = unmade_by (is_ready e h) (is_over (accounted eq m e.machine h e.account)) refl unmade
+    unmade_stays unmade = unmade_by (is_ready e h) (is_over (account_after_turn eq m e.machine h e.account)) refl unmade
 
     -- the others run on from where the step ends
     abbrev RunsOn : Course S T → Type 0

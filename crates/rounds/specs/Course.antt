@@ -4,7 +4,7 @@ use Rattle.std.specs.List.{range_with_len}
 use Rattle.policy_trait.specs.Model.{PolicyModel}
 use Rattle.turn_steps.specs.declared.stop.Stop.{Stop}
 use Rattle.engine_trait.specs.Events.{Event, event_of}
-use Rattle.engine_trait.specs.Laws.{is_made}
+use Rattle.engine_trait.specs.EngineLaws.{is_made}
 use Rattle.engine_trait.specs.Machine.{CoreState, is_ready_in, stop_at}
 use Rattle.engine_trait.specs.Runs.{Trace}
 use Rattle.engine_trait.specs.declared.ends.Halt.{Halt}

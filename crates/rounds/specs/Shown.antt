@@ -17,9 +17,9 @@ shown_by h ends.Idle = []
 shown_by h ends.TagsOut = []
 shown_by h ends.Memory = []
 
-abbrev pub shown : {T : Type 0} → Event T → List Piece
-shown event = shown_by event.hart event.ended
+abbrev pub event_pieces : {T : Type 0} → Event T → List Piece
+event_pieces event = shown_by event.hart event.ended
 
 -- turns in a row
 abbrev pub pieces_of : {T : Type 0} → List (Event T) → List Piece
-pieces_of events = flat_map shown events
+pieces_of events = flat_map event_pieces events

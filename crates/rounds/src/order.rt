@@ -2,9 +2,8 @@
 ghost use Rattle.std.specs.Prelude.{◌≡◌, ◌+◌, ◌-◌, ◌<◌, false, IfSome, length};
 ghost use Rattle.rounds.specs.Course.{first_ready, is_stop, next_hart, next_turn, order_in, unless_stopped};
 
-use crate::stops::MOST_HARTS;
 use arrayvec::ArrayVec;
-use engine_trait::{Engine, TurnEnd};
+use engine_trait::{Engine, MOST_HARTS, TurnEnd};
 
 /// Of each hart, in the order of their numbers: whose turn comes after its own, while none stops.
 pub(crate) type Order = ArrayVec<Option<u32>, MOST_HARTS>;

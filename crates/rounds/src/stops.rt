@@ -3,10 +3,7 @@ ghost use Rattle.std.specs.Prelude.{◌≡◌};
 ghost use Rattle.rounds.specs.Course.{hart_stops};
 
 use arrayvec::ArrayVec;
-use engine_trait::{Engine, Stop};
-
-/// The most harts of a machine.
-pub(crate) const MOST_HARTS: usize = 8;
+use engine_trait::{Engine, MOST_HARTS, Stop};
 
 /// Why each hart stopped, in the order of their numbers; `None` for one that is ready.
 pub fn stops_of<E: Engine>(engine: &E) -> ArrayVec<Option<Stop>, MOST_HARTS>

@@ -4,7 +4,7 @@ ghost use Rattle.host_io.specs.Causes.{PutCause};
 ghost use Rattle.host_io.specs.Fronts.{TakesAll, TakesFront};
 ghost use Rattle.host_io.specs.Pieces.{Puts, PutsFirst};
 ghost use Rattle.host_io.specs.TwoSinks.{PutsCause};
-ghost use Rattle.engine_trait.specs.Laws.{is_made};
+ghost use Rattle.engine_trait.specs.EngineLaws.{is_made};
 ghost use Rattle.tag_text.specs.Texts.{stop_line};
 ghost use Rattle.rounds.specs.Shown.{shown_by};
 

@@ -7,10 +7,10 @@ use Rattle.std.proofs.lemmas.List.{take-map}
 use Rattle.std.proofs.lemmas.Map.Made.{is_some-lookup}
 use Rattle.policy_trait.specs.declared.rules.Outs.{Outs}
 use Rattle.engine_trait.specs.Accounts as accounts
-use Rattle.engine_trait.specs.Accounts.{Account, counted, group_eq, is_kept, looked_up, same_key}
+use Rattle.engine_trait.specs.Accounts.{Account, next_count, group_eq, is_kept, looked_up, same_key}
 use Rattle.rule_cache.specs.Keys.{key_eq}
 use Rattle.rule_cache.specs.Named.{IsAccountOf, IsKeyBelow, IsToldApart, TellsBelow, key_by}
-use Rattle.rule_cache.specs.Stores.{Rules, Store, counted_as, found, looked_for, stored, with_rule, without}
+use Rattle.rule_cache.specs.Stores.{Rules, Store, counted_as, lookup_of, looked_for, store_with, with_rule, without}
 use Rattle.rule_cache.specs.declared.key.Key.{Key}
 
 -- five tests, from either end
@@ -60,7 +60,7 @@ module _ {T : Type 0} (tag_of : ℕ → T) (eq : T → T → Bool) (key : Key) w
   -- ---- the account
 
   module _ (account : Account T) (store : Store) (is : IsAccountOf tag_of account store) (told : IsToldApart tag_of eq key store) where
-    pub kept_alike : is_kept eq (key_by tag_of key) account ≡ is_some (found key store)
+    pub kept_alike : is_kept eq (key_by tag_of key) account ≡ is_some (lookup_of key store)
     kept_alike =
         ap (list_any (same_key eq (key_by tag_of key))) is.kept ∙ any_told (keys_of store.kept) told
         ∙ sym (is_some-lookup (key_eq key) store.kept)
@@ -74,31 +74,31 @@ module _ {T : Type 0} (tag_of : ℕ → T) (eq : T → T → Bool) (key : Key) w
         ∙ take-map (key_by tag_of) store.capacity (key ∷ keys_of (without key store.kept))
         ∙ ap (map (key_by tag_of)) (take-map (λ (rule : Key × Outs ℕ). rule.0) store.capacity ((key, words) ∷ without key store.kept))
 
-    pub keeping_alike : (words : Outs ℕ) → IsAccountOf tag_of (accounts.keeping eq (key_by tag_of key) account) (stored key words store)
+    pub keeping_alike : (words : Outs ℕ) → IsAccountOf tag_of (accounts.keeping eq (key_by tag_of key) account) (store_with key words store)
     keeping_alike words = record { kept = keys_alike words; capacity = is.capacity; hits = is.hits; misses = is.misses }
 
     -- a look-up of a key that the account has, or has not
     counted_hit : is_kept eq (key_by tag_of key) account ≡ true
-        → looked_up eq (key_by tag_of key) account ≡ record (accounts.keeping eq (key_by tag_of key) account) { hits = counted account.hits }
-    counted_hit hit = ap (λ b. if b then record (accounts.keeping eq (key_by tag_of key) account) { hits = counted account.hits } else record account { misses = counted account.misses }) hit
+        → looked_up eq (key_by tag_of key) account ≡ record (accounts.keeping eq (key_by tag_of key) account) { hits = next_count account.hits }
+    counted_hit hit = ap (λ b. if b then record (accounts.keeping eq (key_by tag_of key) account) { hits = next_count account.hits } else record account { misses = next_count account.misses }) hit
 
     counted_miss : is_kept eq (key_by tag_of key) account ≡ false
-        → looked_up eq (key_by tag_of key) account ≡ record account { misses = counted account.misses }
-    counted_miss miss = ap (λ b. if b then record (accounts.keeping eq (key_by tag_of key) account) { hits = counted account.hits } else record account { misses = counted account.misses }) miss
+        → looked_up eq (key_by tag_of key) account ≡ record account { misses = next_count account.misses }
+    counted_miss miss = ap (λ b. if b then record (accounts.keeping eq (key_by tag_of key) account) { hits = next_count account.hits } else record account { misses = next_count account.misses }) miss
 
     hit_by : (at : Option (Outs ℕ)) → is_some at ≡ true
-        → IsAccountOf tag_of (record (accounts.keeping eq (key_by tag_of key) account) { hits = counted account.hits }) (counted_as key at store)
+        → IsAccountOf tag_of (record (accounts.keeping eq (key_by tag_of key) account) { hits = next_count account.hits }) (counted_as key at store)
     hit_by None hit = absurd cc
-    hit_by (Some words) hit = record { kept = keys_alike words; capacity = is.capacity; hits = ap counted is.hits; misses = is.misses }
+    hit_by (Some words) hit = record { kept = keys_alike words; capacity = is.capacity; hits = ap next_count is.hits; misses = is.misses }
 
-    pub hit_alike : is_some (found key store) ≡ true
+    pub hit_alike : is_some (lookup_of key store) ≡ true
         → IsAccountOf tag_of (looked_up eq (key_by tag_of key) account) (looked_for key store)
-    hit_alike hit = rw (counted_hit (kept_alike ∙ hit)) (hit_by (found key store) hit)
+    hit_alike hit = rw (counted_hit (kept_alike ∙ hit)) (hit_by (lookup_of key store) hit)
 
-    miss_by : (at : Option (Outs ℕ)) → is_some at ≡ false → IsAccountOf tag_of (record account { misses = counted account.misses }) (counted_as key at store)
-    miss_by None miss = record { kept = is.kept; capacity = is.capacity; hits = is.hits; misses = ap counted is.misses }
+    miss_by : (at : Option (Outs ℕ)) → is_some at ≡ false → IsAccountOf tag_of (record account { misses = next_count account.misses }) (counted_as key at store)
+    miss_by None miss = record { kept = is.kept; capacity = is.capacity; hits = is.hits; misses = ap next_count is.misses }
     miss_by (Some words) miss = absurd cc
 
-    pub miss_alike : is_some (found key store) ≡ false
+    pub miss_alike : is_some (lookup_of key store) ≡ false
         → IsAccountOf tag_of (looked_up eq (key_by tag_of key) account) (looked_for key store)
-    miss_alike miss = rw (counted_miss (kept_alike ∙ miss)) (miss_by (found key store) miss)
+    miss_alike miss = rw (counted_miss (kept_alike ∙ miss)) (miss_by (lookup_of key store) miss)

@@ -7,7 +7,7 @@ use Rattle.std.proofs.lemmas.Map.Keys.{IsDistinct-cons, IsDistinct-head, IsDisti
 use Rattle.std.proofs.lemmas.Map.Made.{IsDistinct-keys_filter}
 use Rattle.policy_trait.specs.declared.rules.Outs.{Outs}
 use Rattle.rule_cache.specs.Keys.{key_eq}
-use Rattle.rule_cache.specs.Stores.{IsStore, Rules, Store, counted_as, emptied, empty_store, found, looked_for, stored, with_rule, without}
+use Rattle.rule_cache.specs.Stores.{IsStore, Rules, Store, counted_as, store_without_rules, empty_store, lookup_of, looked_for, store_with, with_rule, without}
 use Rattle.rule_cache.specs.declared.key.Key.{Key}
 
 module _ {X : Type 0} where
@@ -46,7 +46,7 @@ module _ (key : Key) where
       (IsDistinct-cons key_eq key (keys_of (without key kept)) (others kept)
       (IsDistinct-keys_filter key_eq (λ rule. not (key_eq key rule.0)) kept apart)))
 
-  pub stored_stays : (words : Outs ℕ) (store : Store) → IsStore store → IsStore (stored key words store)
+  pub stored_stays : (words : Outs ℕ) (store : Store) → IsStore store → IsStore (store_with key words store)
   stored_stays words store is = record {
     room = is.room;
     apart = with_rule_apart store.capacity words store.kept is.apart;
@@ -59,12 +59,12 @@ module _ (key : Key) where
       let kept = stored_stays words store is in record { room = kept.room; apart = kept.apart; within = kept.within }
 
   pub looking_stays : (store : Store) → IsStore store → IsStore (looked_for key store)
-  looking_stays store is = counted_stays store (found key store) is
+  looking_stays store is = counted_stays store (lookup_of key store) is
 
 pub empty_is : (capacity : ℕ) → 1 ≤ capacity → IsStore (empty_store capacity)
 unfolding IsDistinct
 empty_is capacity room = record { room = room; apart = tt; within = omega arith }
 
-pub emptied_stays : (store : Store) → IsStore store → IsStore (emptied store)
+pub emptied_stays : (store : Store) → IsStore store → IsStore (store_without_rules store)
 unfolding IsDistinct
 emptied_stays store is = record { room = is.room; apart = tt; within = omega arith }

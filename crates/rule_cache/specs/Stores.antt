@@ -3,7 +3,7 @@ use Rattle.std.specs.Prelude.{ℕ, ◌≤◌, not, List, [], ◌∷◌, filter, 
 use Rattle.std.specs.List.{IsDistinct}
 use Rattle.std.specs.Map.{keys_of, lookup}
 use Rattle.policy_trait.specs.declared.rules.Outs.{Outs}
-use Rattle.engine_trait.specs.Accounts.{counted}
+use Rattle.engine_trait.specs.Accounts.{next_count}
 use Rattle.rule_cache.specs.Keys.{key_eq}
 use Rattle.rule_cache.specs.declared.key.Key.{Key}
 
@@ -36,22 +36,22 @@ abbrev pub with_rule : ℕ → Key → Outs ℕ → Rules → Rules
 with_rule capacity key words kept = take capacity ((key, words) ∷ without key kept)
 
 -- what a look-up finds
-abbrev pub found : Key → Store → Option (Outs ℕ)
-found key store = lookup (key_eq key) store.kept
+abbrev pub lookup_of : Key → Store → Option (Outs ℕ)
+lookup_of key store = lookup (key_eq key) store.kept
 
 abbrev pub counted_as : Key → Option (Outs ℕ) → Store → Store
-counted_as key None store = record store { misses = counted store.misses }
+counted_as key None store = record store { misses = next_count store.misses }
 counted_as key (Some words) store =
-    record store { kept = with_rule store.capacity key words store.kept; hits = counted store.hits }
+    record store { kept = with_rule store.capacity key words store.kept; hits = next_count store.hits }
 
 -- the store after a look-up: a hit moves its rule to the front, a miss changes no rule
 abbrev pub looked_for : Key → Store → Store
-looked_for key store = counted_as key (found key store) store
+looked_for key store = counted_as key (lookup_of key store) store
 
 -- the store after a rule is kept
-abbrev pub stored : Key → Outs ℕ → Store → Store
-stored key words store = record store { kept = with_rule store.capacity key words store.kept }
+abbrev pub store_with : Key → Outs ℕ → Store → Store
+store_with key words store = record store { kept = with_rule store.capacity key words store.kept }
 
 -- the store without its rules
-abbrev pub emptied : Store → Store
-emptied store = record store { kept = [] }
+abbrev pub store_without_rules : Store → Store
+store_without_rules store = record store { kept = [] }

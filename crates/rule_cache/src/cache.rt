@@ -4,7 +4,7 @@ ghost use Rattle.std.specs.Prelude.{◌≡◌, ◌≤◌, IfNone, IfSome, Some, 
 ghost use Rattle.std.specs.Map.{lookup};
 ghost use Rattle.lru.specs.LruCache.{lru_cache};
 ghost use Rattle.rule_cache.specs.Keys.{key_eq};
-ghost use Rattle.rule_cache.specs.Stores.{Store, emptied, empty_store, found, looked_for, stored, with_rule};
+ghost use Rattle.rule_cache.specs.Stores.{Store, store_without_rules, empty_store, lookup_of, looked_for, store_with, with_rule};
 
 use crate::key::{Key, OutWords};
 use crate::store::RuleStore;

@@ -1,7 +1,7 @@
 //! `RuleStore`: what an engine asks of the rules that it keeps.
 
 ghost use Rattle.std.specs.Prelude.{◌≡◌, ◌≤◌, IfOk, IsOk, IsSome, OnErr, OnOk};
-ghost use Rattle.rule_cache.specs.Stores.{Store, emptied, empty_store, found, looked_for, stored};
+ghost use Rattle.rule_cache.specs.Stores.{Store, store_without_rules, empty_store, lookup_of, looked_for, store_with};
 
 use crate::key::{Key, OutWords};
 use std::alloc::{AllocError, Global};
@@ -21,20 +21,20 @@ pub trait RuleStore: Drop {
     /// The outputs of the rule with this key, which becomes the most recent one, and a hit is counted. Where none is kept
     /// a miss is counted, and nothing else changes.
     fn find(&mut self, key: &Key) -> Option<OutWords>
-        ensures found { result ≡ found key.now (state self.old) }
+        ensures found { result ≡ lookup_of key.now (state self.old) }
         ensures state { state self.new ≡ looked_for key.now (state self.old) };
 
     /// Keeps a rule as the most recent one, in the place of one with its key. Where there are more rules then than the
     /// capacity, the last one goes. Nothing is counted. Want of memory changes nothing, and never comes where the key is
     /// there.
     fn keep(&mut self, key: Key, words: OutWords) -> Result<(), AllocError>
-        ensures kept { OnOk result (state self.new ≡ stored key words (state self.old)) }
-        ensures known { IsSome (found key (state self.old)) → IsOk result }
+        ensures kept { OnOk result (state self.new ≡ store_with key words (state self.old)) }
+        ensures known { IsSome (lookup_of key (state self.old)) → IsOk result }
         ensures refused { OnErr result (state self.new ≡ state self.old) };
 
     /// Drops every rule. The counts stay.
     fn clear(&mut self)
-        ensures { state self.new ≡ emptied (state self.old) };
+        ensures { state self.new ≡ store_without_rules (state self.old) };
 
     /// The look-ups that found a rule.
     fn hits(&self) -> u64

@@ -1,1 +1,1 @@
-mod Computed
+mod ComputedLemmas

@@ -2,7 +2,7 @@
 
 ghost use Rattle.std.specs.Prelude.{◌≡◌, Some, map, replicate, slice_get, true};
 ghost use Rattle.image_format.specs.Conditions.{IsImage};
-ghost use Rattle.engine_trait.specs.Events.{retired};
+ghost use Rattle.engine_trait.specs.Events.{is_retirement};
 ghost use Rattle.tag_loader.specs.Births.{birth_of};
 ghost use Rattle.seal_runs.specs.KeyBook.{key_book};
 ghost use Rattle.comp_runs.specs.OwnerBook.{owner_book};
@@ -18,7 +18,7 @@ ghost use Rattle.run_examples.specs.Example.{all_four, blocks, events, image, ju
 pub fn example_law()
     ensures image { IsImage image }
     ensures safe { IsSafe all_four image events }
-    ensures retire { map retired events ≡ replicate 31 true }
+    ensures retire { map is_retirement events ≡ replicate 31 true }
     ensures keys { key_book (events_by seal_view events) ≡ keys }
     ensures shared { owner_book (birth_of image) (events_by comp_view events) 56 ≡ shared }
     ensures walk { walk_of 1 (events_by flow_view events) ≡ second_walk }

@@ -11,13 +11,13 @@ use Rattle.flow_policy.specs.declared.tag.FlowTag.{FlowTag}
 use Rattle.heap_policy.specs.Heap.{heap}
 use Rattle.heap_policy.specs.declared.tag.HeapTag.{HeapTag}
 use Rattle.policy_choice.specs.All.{AllState, AllTag, all}
-use Rattle.engine_trait.specs.Events.{Call, Event, Work, event_of, retired}
+use Rattle.engine_trait.specs.Events.{Call, Event, Work, event_of, is_retirement}
 use Rattle.engine_trait.specs.Machine.{Machine, is_ready_in}
 use Rattle.engine_trait.specs.Turn.{turn_of}
 use Rattle.policy_parts.specs.Part.{IsPart}
 use Rattle.policy_parts.specs.View.{View}
-use Rattle.part_turns.proofs.MachineFacts.{seen_sound}
-use Rattle.part_turns.proofs.TurnFacts.{turn_shown}
+use Rattle.part_turns.proofs.MachineLemmas.{seen_sound}
+use Rattle.part_turns.proofs.TurnLemmas.{turn_shown}
 use Rattle.part_turns.specs.Keeps.{Keeps}
 use Rattle.part_turns.specs.Maps.{call_by, event_with, seen_by, work_by}
 use Rattle.part_turns.specs.Moments.{Service, service_by}
@@ -31,7 +31,7 @@ use Rattle.comp_runs.specs.CompTurn.{CompTurn}
 use Rattle.flow_runs.proofs.KeepsLemmas.{turns_keep}
 use Rattle.flow_runs.specs.FlowLine.{FlowLine}
 use Rattle.flow_runs.specs.FlowTurn.{FlowTurn}
-use Rattle.heap_runs.proofs.Turning.{keeps as heap_keeps}
+use Rattle.heap_runs.proofs.TurnLemmas.{keeps as heap_keeps}
 use Rattle.heap_runs.specs.BlockBook.{block_book}
 use Rattle.heap_runs.specs.HeapLine.{HeapLine}
 use Rattle.heap_runs.specs.HeapSafe.{HeapTurn, is_in_heap}
@@ -58,7 +58,7 @@ module _ (s : Machine AllState AllTag) (feed : List ℕ) (h : ℕ) where
         ((turn_shown all m l AllHold all_laws part s stands.on feed h).turns stands.sound stands.valid)).0
 
     -- one that cannot have retired ended in a stop
-    stopped_unless : (promise events (event_with l.tag turn) → retired turn ≡ true → ⊥) → IsStopped turn
+    stopped_unless : (promise events (event_with l.tag turn) → is_retirement turn ≡ true → ⊥) → IsStopped turn
     stopped_unless never = elim (ready_ends all s feed h ready) [
       | inl done ↦ absurd (never promised done)
       | inr stop ↦ stop
@@ -71,7 +71,7 @@ module _ (s : Machine AllState AllTag) (feed : List ℕ) (h : ℕ) where
     abbrev seen_service : Option (Call AllTag) → Option (Work AllTag) → Option (Service SealTag)
     seen_service call work = service_by (option_map (call_by seal_view.tag) call) (option_map (work_by seal_view.tag) work)
 
-    by_call : SealTurn (key_book events) (event_with seal_view.tag turn) → retired turn ≡ true
+    by_call : SealTurn (key_book events) (event_with seal_view.tag turn) → is_retirement turn ≡ true
         → (call : Option (Call AllTag)) → turn.call ≡ call → option_map (call_by seal_view.tag) call ≡ Some attack.call → ⊥
     by_call kept done None is same = absurd cc
     by_call kept done (Some call) is same =
@@ -91,7 +91,7 @@ module _ (s : Machine AllState AllTag) (feed : List ℕ) (h : ℕ) where
   module _ (birth : ℕ → Birth) (entries : List ℕ) (events : List (Event CompartmentTag))
       (stands : InLine comp_view (CompLine birth entries) events s) (ready : is_ready_in s.core h ≡ true) where
     trespass_fails : Trespasses birth entries events (event_with comp_view.tag turn) → CompTurn birth entries events (event_with comp_view.tag turn)
-        → retired turn ≡ true → ⊥
+        → is_retirement turn ≡ true → ⊥
     trespass_fails (stores touch accessed is_store foreign) kept done =
         let permitted = (kept.writes done).stores touch accessed is_store in absurd (cc (permitted, foreign))
     trespass_fails (enters without) kept done = without (kept.follows done)
@@ -106,7 +106,7 @@ module _ (s : Machine AllState AllTag) (feed : List ℕ) (h : ℕ) where
   module _ (birth : ℕ → Birth) (words : List ℕ) (edges : List (ℕ × ℕ)) (events : List (Event FlowTag))
       (stands : InLine flow_view (FlowLine birth words edges) events s) (ready : is_ready_in s.core h ≡ true) where
     stray_fails : GoesAstray birth words edges events (event_with flow_view.tag turn) → FlowTurn birth words edges events (event_with flow_view.tag turn)
-        → retired turn ≡ true → ⊥
+        → is_retirement turn ≡ true → ⊥
     stray_fails (outside no_code) kept done = let code = (kept.code done).code in absurd (cc (code, no_code))
     stray_fails (unlisted x last jumps without) kept done = without (kept.listed done x last jumps)
 
@@ -120,7 +120,7 @@ module _ (s : Machine AllState AllTag) (feed : List ℕ) (h : ℕ) where
   module _ (base top : ℕ) (events : List (Event HeapTag))
       (stands : InLine heap_view (HeapLine base top) events s) (ready : is_ready_in s.core h ≡ true) where
     miss_fails : MissesBlock base top (block_book events) (event_with heap_view.tag turn) → HeapTurn base top (block_book events) (event_with heap_view.tag turn)
-        → retired turn ≡ true → ⊥
+        → is_retirement turn ≡ true → ⊥
     miss_fails (outside touch asked number accessed asks pointer without) kept done = by_place (is_in_heap base top touch.address) refl
       where
         by_place : (inside : Bool) → is_in_heap base top touch.address ≡ inside → ⊥

@@ -9,7 +9,7 @@ use Rattle.std.proofs.Math.Nat.{le-max_left, le-max_right, max-le}
 use Rattle.image_format.specs.Conditions.{IsImage, are_rows, in_order, is_aligned, is_compartment, is_compartment_after, is_owner, is_range, is_u32, whole}
 use Rattle.image_format.specs.Picture.{Picture}
 use Rattle.image_format.specs.declared.rows.CompartmentRange.{CompartmentRange}
-use Rattle.image_format.proofs.FieldLaws.{both}
+use Rattle.image_format.proofs.FieldLemmas.{both}
 use Rattle.compartment_policy.specs.Compartments.{IsCount}
 use Rattle.heap_policy.specs.Heap.{IsHeap}
 use Rattle.policy_choice.specs.All.{compartment_count, heap_of}

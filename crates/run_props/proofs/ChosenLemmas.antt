@@ -9,7 +9,7 @@ use Rattle.compartment_policy.specs.Compartments.{IsCount, compartments}
 use Rattle.flow_policy.specs.Flow.{HoldsAlways, flow}
 use Rattle.heap_policy.specs.Heap.{IsHeap, empty_heap, heap}
 use Rattle.policy_product.specs.Maybe.{MaybeHolds}
-use Rattle.policy_choice.specs.All.{all, chosen, compartment_count, heap_of, pair_of, part_if}
+use Rattle.policy_choice.specs.All.{all, choice_state, compartment_count, heap_of, pair_of, part_if}
 use Rattle.policy_choice.specs.declared.choice.Choice.{Choice}
 use Rattle.policy_choice.proofs.AllLemmas.{room_of_chosen}
 use Rattle.engine_trait.specs.Machine.{IsMachine}
@@ -35,7 +35,7 @@ module _ {S : Type 0} (s : S) where
 -- ---- all of them
 
 module _ (choice : Choice) (g : Picture) where
-  pub start_holds : IsImage g → AllHold (chosen choice g)
+  pub start_holds : IsImage g → AllHold (choice_state choice g)
   start_holds is = (
     holds_if 0 HasFewKeys choice.seal (omega arith),
     (
@@ -44,31 +44,31 @@ module _ (choice : Choice) (g : Picture) where
     ),
   )
 
-  pub start_sound : IsImage g → IsMachine all (start_machine all (chosen choice g) g)
-  start_sound is = sound_start all (chosen choice g) g is (room_of_chosen choice g (ends_inside g is))
+  pub start_sound : IsImage g → IsMachine all (start_machine all (choice_state choice g) g)
+  start_sound is = sound_start all (choice_state choice g) g is (room_of_chosen choice g (ends_inside g is))
 
   -- ---- each of them, where it is chosen
 
-  pub seal_on : choice.seal ≡ true → seal_view.is_on (chosen choice g) ≡ true
+  pub seal_on : choice.seal ≡ true → seal_view.is_on (choice_state choice g) ≡ true
   seal_on on = on_if 0 choice.seal on
 
-  pub seal_value : choice.seal ≡ true → seal_view.value (chosen choice g) ≡ 0
+  pub seal_value : choice.seal ≡ true → seal_view.value (choice_state choice g) ≡ 0
   seal_value on = value_if 0 choice.seal 0 on
 
-  pub comp_on : choice.comp ≡ true → comp_view.is_on (chosen choice g) ≡ true
+  pub comp_on : choice.comp ≡ true → comp_view.is_on (choice_state choice g) ≡ true
   comp_on on = on_if (compartment_count g.compartments) choice.comp on
 
-  pub comp_value : choice.comp ≡ true → comp_view.value (chosen choice g) ≡ compartment_count g.compartments
+  pub comp_value : choice.comp ≡ true → comp_view.value (choice_state choice g) ≡ compartment_count g.compartments
   comp_value on = value_if (compartment_count g.compartments) choice.comp 0 on
 
-  pub flow_on : choice.flow ≡ true → flow_view.is_on (chosen choice g) ≡ true
+  pub flow_on : choice.flow ≡ true → flow_view.is_on (choice_state choice g) ≡ true
   flow_on on = on_if (map pair_of g.edges) choice.flow on
 
-  pub flow_value : choice.flow ≡ true → flow_view.value (chosen choice g) ≡ map pair_of g.edges
+  pub flow_value : choice.flow ≡ true → flow_view.value (choice_state choice g) ≡ map pair_of g.edges
   flow_value on = value_if (map pair_of g.edges) choice.flow [] on
 
-  pub heap_on : choice.heap ≡ true → heap_view.is_on (chosen choice g) ≡ true
+  pub heap_on : choice.heap ≡ true → heap_view.is_on (choice_state choice g) ≡ true
   heap_on on = on_if (heap_of g) choice.heap on
 
-  pub heap_value : choice.heap ≡ true → heap_view.value (chosen choice g) ≡ heap_of g
+  pub heap_value : choice.heap ≡ true → heap_view.value (choice_state choice g) ≡ heap_of g
   heap_value on = value_if (heap_of g) choice.heap (empty_heap 0 0) on

@@ -12,20 +12,20 @@ use Rattle.turn_steps.specs.declared.look.Look.{Look}
 use Rattle.turn_steps.specs.declared.stop.Stop.{Stop}
 use Rattle.turn_steps.specs.declared.stop.Stop.TheVariants as stop
 use Rattle.engine_trait.proofs.TurnLemmas.{job_ruled, turn_made, turn_refused, turn_ruled}
-use Rattle.engine_trait.specs.Events.{Call, Event, Work, called_in, event_by, event_of, is_retiring, retired, work_in}
-use Rattle.engine_trait.specs.Laws.{is_made}
+use Rattle.engine_trait.specs.Events.{Call, Event, Work, called_in, event_by, event_of, is_retiring, is_retirement, work_in}
+use Rattle.engine_trait.specs.EngineLaws.{is_made}
 use Rattle.engine_trait.specs.Machine.{Machine, hart_at, is_ready_in}
-use Rattle.engine_trait.specs.Turn.{Turned, allowed, effected, or_unserved, planned, prepared, service_on, settled, turn_of}
+use Rattle.engine_trait.specs.Turn.{Turned, rule_answer, turn_effect, or_unserved, turn_job, preparation, service_on, settlement, turn_of}
 use Rattle.engine_trait.specs.declared.ends.TurnEnd.{TurnEnd}
 use Rattle.engine_trait.specs.declared.ends.TurnEnd.TheVariants as ends
-use Rattle.part_turns.proofs.StopFacts.{StopsUnretired, refused_stops, unserved_stops}
+use Rattle.part_turns.proofs.StopLemmas.{StopsUnretired, refused_stops, unserved_stops}
 use Rattle.run_props.specs.Ends.{IsStopped}
 
 -- ---- the end
 
 module _ {T : Type 0} (event : Event T) where
   abbrev EndsWell : Type 0
-  EndsWell = (retired event ≡ true) ⊎ IsStopped event
+  EndsWell = (is_retirement event ≡ true) ⊎ IsStopped event
 
   ends_so : (end : TurnEnd) → event.ended ≡ end → is_made end ≡ true → EndsWell
   ends_so (ends.Ran byte) is made = inl (ap is_retiring is)
@@ -47,7 +47,7 @@ module _ {S T : Type 0} (m : PolicyModel T S) (s : Machine S T) (feed : List ℕ
   ended_is = ended_by (is_ready_in s.core h)
 
   -- a ready hart's turn retires, or ends in a stop that is no exit
-  pub ready_ends : is_ready_in s.core h ≡ true → (retired (event_of m s feed h) ≡ true) ⊎ IsStopped (event_of m s feed h)
+  pub ready_ends : is_ready_in s.core h ≡ true → (is_retirement (event_of m s feed h) ≡ true) ⊎ IsStopped (event_of m s feed h)
   ready_ends ready = ends_so (event_of m s feed h) (turn_of m s feed h).ended ended_is (turn_made m s feed h ready)
 
   -- ---- a call that retired
@@ -59,12 +59,12 @@ module _ {S T : Type 0} (m : PolicyModel T S) (s : Machine S T) (feed : List ℕ
   abbrev pub IsServed : Call T → Type 0
   IsServed call = (work : Work T) × ((event_of m s feed h).work ≡ Some work)
 
-  module _ (ready : is_ready_in s.core h ≡ true) (call : Call T) (called : (event_of m s feed h).call ≡ Some call) (done : retired (event_of m s feed h) ≡ true) where
+  module _ (ready : is_ready_in s.core h ≡ true) (call : Call T) (called : (event_of m s feed h).call ≡ Some call) (done : is_retirement (event_of m s feed h) ≡ true) where
     event_ready : event_of m s feed h ≡ event_by m s feed h true
     unfolding event_of
     event_ready = ap (event_by m s feed h) ready
 
-    call_is : called_in arguments (prepared m s h) ≡ Some call
+    call_is : called_in arguments (preparation m s h) ≡ Some call
     call_is = sym (ap (λ (e : Event T). e.call) event_ready) ∙ called
 
     retires : is_retiring (turn_of m s feed h).ended ≡ true
@@ -74,8 +74,8 @@ module _ {S T : Type 0} (m : PolicyModel T S) (s : Machine S T) (feed : List ℕ
     unretired why fails ended = absurd (let is : is_retiring (ends.Stopped why) ≡ true = sym (ap is_retiring ended) ∙ retires in cc (is, fails))
 
     -- a call that is served, or ends the turn
-    by_given : (look : Look T) (outs : Outs T) → prepared m s h ≡ Ok look → allowed m s h look ≡ Ok outs → is_call look.group ≡ true
-        → (job : Result (Option (Job T)) Stop) → planned m s h look outs ≡ job
+    by_given : (look : Look T) (outs : Outs T) → preparation m s h ≡ Ok look → rule_answer m s h look ≡ Ok outs → is_call look.group ≡ true
+        → (job : Result (Option (Job T)) Stop) → turn_job m s h look outs ≡ job
         → (given : Result (Job T) PlanEnd) → or_unserved (hart_at s.core h).pc look.service given ≡ job → IsServed call
     by_given look outs looked ruled calls (Ok (Some job)) is given e =
         (_, ap (λ (e : Event T). e.work) event_ready ∙ ap work_in (job_ruled m s h look outs looked ruled ∙ is))
@@ -84,28 +84,28 @@ module _ {S T : Type 0} (m : PolicyModel T S) (s : Machine S T) (feed : List ℕ
     by_given look outs looked ruled calls (Err why) is given e =
         unretired why (unserved_stops m s h why look outs is)
         (ap (λ (turned : Turned S T). turned.ended) (turn_ruled m s feed h look outs ready looked ruled)
-        ∙ ap (λ job. (settled m s feed h (job >>= λ j. Ok (effected m s feed h look outs j))).ended) is)
+        ∙ ap (λ job. (settlement m s feed h (job >>= λ j. Ok (turn_effect m s feed h look outs j))).ended) is)
 
     planned_call : (look : Look T) (outs : Outs T) → is_call look.group ≡ true
-        → or_unserved (hart_at s.core h).pc look.service (service_on m s h look outs) ≡ planned m s h look outs
-    unfolding planned
+        → or_unserved (hart_at s.core h).pc look.service (service_on m s h look outs) ≡ turn_job m s h look outs
+    unfolding turn_job
     planned_call look outs calls =
         ap (λ test. if test then or_unserved (hart_at s.core h).pc look.service (service_on m s h look outs) else Ok None) (sym calls)
 
-    by_outs : (look : Look T) → prepared m s h ≡ Ok look → is_call look.group ≡ true → (answer : Result (Outs T) Stop) → allowed m s h look ≡ answer → IsServed call
+    by_outs : (look : Look T) → preparation m s h ≡ Ok look → is_call look.group ≡ true → (answer : Result (Outs T) Stop) → rule_answer m s h look ≡ answer → IsServed call
     by_outs look looked calls (Ok outs) ruled =
-        by_given look outs looked ruled calls (planned m s h look outs) refl (service_on m s h look outs) (planned_call look outs calls)
+        by_given look outs looked ruled calls (turn_job m s h look outs) refl (service_on m s h look outs) (planned_call look outs calls)
     by_outs look looked calls (Err why) ruled =
         unretired why (refused_stops m s h why look ruled) (ap (λ (turned : Turned S T). turned.ended) (turn_refused m s feed h look why ready looked ruled))
 
-    by_group : (look : Look T) → prepared m s h ≡ Ok look → (test : Bool) → is_call look.group ≡ test
+    by_group : (look : Look T) → preparation m s h ≡ Ok look → (test : Bool) → is_call look.group ≡ test
         → (if test then Some (record { number = look.service; arguments = arguments }) else None) ≡ Some call → IsServed call
-    by_group look looked true calls e = by_outs look looked calls (allowed m s h look) refl
+    by_group look looked true calls e = by_outs look looked calls (rule_answer m s h look) refl
     by_group look looked false calls e = absurd cc
 
-    by_look : (found : Result (Look T) Stop) → prepared m s h ≡ found → called_in arguments found ≡ Some call → IsServed call
+    by_look : (found : Result (Look T) Stop) → preparation m s h ≡ found → called_in arguments found ≡ Some call → IsServed call
     by_look (Ok look) looked e = by_group look looked (is_call look.group) refl e
     by_look (Err why) looked e = absurd cc
 
     pub retired_call : IsServed call
-    retired_call = by_look (prepared m s h) refl call_is
+    retired_call = by_look (preparation m s h) refl call_is

@@ -3,7 +3,7 @@ mod BirthLemmas
 mod ChosenLemmas
 mod EndLemmas
 mod PartLemmas
-mod PartRuns
+mod PartRunLemmas
 pub mod RunLemmas
 mod StartLemmas
 mod StayLemmas

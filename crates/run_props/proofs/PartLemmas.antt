@@ -1,6 +1,6 @@
 -- Each of the four policies is a part of all of them together, which keep the laws.
 use Rattle.std.proofs.Common.{[], refl}
-use Rattle.policy_trait.specs.Laws.{KeepsLaws}
+use Rattle.policy_trait.specs.PolicyLaws.{KeepsLaws}
 use Rattle.policy_trait.specs.Model.{PolicyModel}
 use Rattle.sealing_policy.specs.Sealing.{HasFewKeys, sealing}
 use Rattle.sealing_policy.specs.SealingLaws.{sealing_laws}

@@ -11,7 +11,7 @@ use Rattle.flow_policy.specs.declared.tag.FlowTag.{FlowTag}
 use Rattle.heap_policy.specs.Heap.{HeapState, heap}
 use Rattle.heap_policy.specs.declared.tag.HeapTag.{HeapTag}
 use Rattle.policy_trait.specs.Model.{PolicyModel}
-use Rattle.policy_choice.specs.All.{AllState, AllTag, all, chosen, compartment_count, heap_of, pair_of}
+use Rattle.policy_choice.specs.All.{AllState, AllTag, all, choice_state, compartment_count, heap_of, pair_of}
 use Rattle.policy_parts.specs.Part.{IsPart}
 use Rattle.policy_parts.specs.View.{View}
 use Rattle.policy_choice.specs.declared.choice.Choice.{Choice}
@@ -30,24 +30,24 @@ use Rattle.comp_runs.specs.CompLine.{CompLine}
 use Rattle.comp_runs.specs.CompTurn.{CompTurn}
 use Rattle.flow_runs.specs.FlowLine.{FlowLine}
 use Rattle.flow_runs.specs.FlowTurn.{FlowTurn}
-use Rattle.comp_runs.proofs.SafeLemmas.{comp_safe}
+use Rattle.comp_runs.proofs.SafeLemmas.{comp_law}
 use Rattle.comp_runs.proofs.StartLemmas.{starts as comp_starts}
 use Rattle.comp_runs.proofs.TurnLemmas.{comp_keeps}
 use Rattle.flow_runs.proofs.KeepsLemmas.{turns_keep as flow_keeps}
-use Rattle.flow_runs.proofs.SafeLemmas.{run_is_safe as flow_safe}
+use Rattle.flow_runs.proofs.SafeLemmas.{run_is_safe as flow_law}
 use Rattle.flow_runs.proofs.StartLemmas.{holds_at_the_start as flow_starts}
 use Rattle.heap_runs.specs.BlockBook.{block_book}
 use Rattle.heap_runs.specs.HeapLine.{HeapLine}
 use Rattle.heap_runs.specs.HeapSafe.{HeapTurn}
-use Rattle.heap_runs.proofs.Starts.{starts as heap_starts}
-use Rattle.heap_runs.proofs.Turning.{keeps as heap_keeps}
+use Rattle.heap_runs.proofs.StartLemmas.{starts as heap_starts}
+use Rattle.heap_runs.proofs.TurnLemmas.{keeps as heap_keeps}
 use Rattle.run_props.specs.Line.{InLine}
 use Rattle.run_props.specs.Safe.{IsInLine, IsSafe, heap_top}
 use Rattle.run_props.specs.Views.{comp_view, events_by, flow_view, heap_view, seal_view}
 use Rattle.run_props.proofs.BirthLemmas.{heap_told, owner_below, region_is}
 use Rattle.run_props.proofs.ChosenLemmas.{comp_on, comp_value, flow_on, flow_value, heap_on, heap_value, seal_on, seal_value, start_holds, start_sound}
 use Rattle.run_props.proofs.PartLemmas.{comp_is_part, flow_is_part, heap_is_part, seal_is_part}
-use Rattle.run_props.proofs.PartRuns.{fed_run, part_keeps}
+use Rattle.run_props.proofs.PartRunLemmas.{fed_run, part_keeps}
 use Rattle.run_props.proofs.StayLemmas.{run_stays}
 
 module _ (choice : Choice) (g : Picture) (feed : List ℕ) (items : List Item) (is : IsImage g) where
@@ -110,17 +110,17 @@ module _ (choice : Choice) (g : Picture) (feed : List ℕ) (items : List Item) (
   pub run_is_safe : IsSafe choice g run.events
   run_is_safe = record {
     seal = λ on. (seal_keeps_run on).promises;
-    comp = λ on. comp_safe (birth_of g) g.entries (events_by comp_view run.events) (comp_keeps_run on).promises;
-    flow = λ on. flow_safe (birth_of g) (memory_of g) edges (events_by flow_view run.events) (flow_keeps_run on).promises;
+    comp = λ on. comp_law (birth_of g) g.entries (events_by comp_view run.events) (comp_keeps_run on).promises;
+    flow = λ on. flow_law (birth_of g) (memory_of g) edges (events_by flow_view run.events) (flow_keeps_run on).promises;
     heap = λ on. (heap_keeps_run on).promises;
   }
 
   in_line : {U V : Type 0} (m : PolicyModel U V) (l : View AllTag AllState U V) (line : List (Event U) → Machine V U → Type 0)
-      (promise : List (Event U) → Event U → Type 0) → IsPart all m l → l.is_on (chosen choice g) ≡ true → RunKeeps l line promise run
+      (promise : List (Event U) → Event U → Type 0) → IsPart all m l → l.is_on (choice_state choice g) ≡ true → RunKeeps l line promise run
       → InLine l line (events_by l run.events) run.machine
   unfolding start_machine
   in_line m l line promise part on kept =
-      let stays = run_stays m l part (start_machine all (chosen choice g) g) feed items
+      let stays = run_stays m l part (start_machine all (choice_state choice g) g) feed items
       (record { sound = start_sound choice g is; valid = start_holds choice g is; on = on }) in
       record { sound = stays.sound; valid = stays.valid; on = stays.on; held = kept.kept }
 

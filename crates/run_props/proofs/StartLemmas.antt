@@ -10,7 +10,7 @@ use Rattle.std.proofs.lemmas.List.Sums.{AllPass-from_list_all}
 use Rattle.std.proofs.lemmas.Simd.{map-map}
 use Rattle.image_format.specs.Conditions.{IsImage, is_aligned, is_place, is_ram}
 use Rattle.image_format.specs.Picture.{Picture}
-use Rattle.image_format.proofs.FieldLaws.{both}
+use Rattle.image_format.proofs.FieldLemmas.{both}
 use Rattle.policy_trait.specs.Model.{PolicyModel}
 use Rattle.tag_memory.specs.Hart.{IsHartOf, fresh_hart}
 use Rattle.tag_memory.specs.Maps.{hart_by}

@@ -8,7 +8,7 @@ use Rattle.engine_trait.specs.Runs.{Item, fed, run_along, turn}
 use Rattle.engine_trait.specs.Turn.{turn_of}
 use Rattle.policy_parts.specs.Part.{IsPart}
 use Rattle.policy_parts.specs.View.{View}
-use Rattle.part_turns.proofs.TurnFacts.{turn_shown}
+use Rattle.part_turns.proofs.TurnLemmas.{turn_shown}
 use Rattle.run_props.proofs.PartLemmas.{all_laws}
 use Rattle.run_props.specs.Holds.{AllHold}
 

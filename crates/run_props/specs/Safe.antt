@@ -4,7 +4,7 @@ use Rattle.image_format.specs.Picture.{Picture}
 use Rattle.engine_trait.specs.Events.{Event}
 use Rattle.engine_trait.specs.Machine.{Machine}
 use Rattle.engine_trait.specs.Runs.{Item, Trace, run_along}
-use Rattle.policy_choice.specs.All.{AllState, AllTag, all, chosen, pair_of}
+use Rattle.policy_choice.specs.All.{AllState, AllTag, all, choice_state, pair_of}
 use Rattle.policy_choice.specs.declared.choice.Choice.{Choice}
 use Rattle.tag_loader.specs.Births.{birth_of}
 use Rattle.tag_loader.specs.Start.{memory_of, start_machine}
@@ -21,7 +21,7 @@ use Rattle.run_props.specs.Views.{comp_view, events_by, flow_view, heap_view, se
 
 -- the run of an image under the chosen policies, along any list of turns and fed bytes
 abbrev pub run_of : Choice → Picture → List Item → Trace AllState AllTag
-run_of choice g items = run_along all (start_machine all (chosen choice g) g) [] items
+run_of choice g items = run_along all (start_machine all (choice_state choice g) g) [] items
 
 -- the address after the heap region's last word
 abbrev pub heap_top : Picture → ℕ

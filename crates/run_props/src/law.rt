@@ -8,7 +8,7 @@ ghost use Rattle.sealing_policy.specs.Sealing.{sealing};
 ghost use Rattle.compartment_policy.specs.Compartments.{compartments};
 ghost use Rattle.flow_policy.specs.Flow.{flow};
 ghost use Rattle.heap_policy.specs.Heap.{heap};
-ghost use Rattle.policy_choice.specs.All.{all, chosen, pair_of};
+ghost use Rattle.policy_choice.specs.All.{all, choice_state, pair_of};
 ghost use Rattle.policy_choice.specs.declared.choice.Choice.{Choice};
 ghost use Rattle.policy_parts.specs.Part.{IsPart};
 ghost use Rattle.tag_loader.specs.Births.{birth_of};
@@ -47,14 +47,14 @@ pub fn parts_law()
 {}
 
 /// Where sealing is chosen, along any list of turns and fed bytes, each unsealing used its key. The function does nothing.
-pub fn seal_safe()
+pub fn seal_law()
     ensures { (choice : Choice) (g : Picture) (items : List Item) → IsImage g
         → choice.seal ≡ true → SealSafe (events_by seal_view (run_of choice g items).events) }
 {}
 
 /// Where compartments are chosen, along any list of turns and fed bytes, each store lies in its compartment's permitted
 /// words, and a compartment is entered by right alone. The function does nothing.
-pub fn comp_safe()
+pub fn comp_law()
     ensures { (choice : Choice) (g : Picture) (items : List Item) → IsImage g
         → choice.comp ≡ true
         → CompSafe (birth_of g) g.entries (events_by comp_view (run_of choice g items).events) }
@@ -62,7 +62,7 @@ pub fn comp_safe()
 
 /// Where control flow is chosen, along any list of turns and fed bytes, each hart runs the image's code alone, and each
 /// indirect jump is a listed edge. The function does nothing.
-pub fn flow_safe()
+pub fn flow_law()
     ensures { (choice : Choice) (g : Picture) (items : List Item) → IsImage g
         → choice.flow ≡ true
         → FlowSafe (birth_of g) (memory_of g) (map pair_of g.edges)
@@ -71,7 +71,7 @@ pub fn flow_safe()
 
 /// Where heap safety is chosen, along any list of turns and fed bytes, each heap access lies in its pointer's live block. The
 /// function does nothing.
-pub fn heap_safe()
+pub fn heap_law()
     ensures { (choice : Choice) (g : Picture) (items : List Item) → IsImage g
         → choice.heap ≡ true
         → HeapSafe g.heap_base (heap_top g)
@@ -83,7 +83,7 @@ pub fn heap_safe()
 pub fn run_law()
     ensures { (choice : Choice) (g : Picture) (feed : List ℕ) (items : List Item) → IsImage g
         → IsSafe choice g
-        (run_along all (start_machine all (chosen choice g) g) feed items).events }
+        (run_along all (start_machine all (choice_state choice g) g) feed items).events }
 {}
 
 /// In each state that a run comes to, the tags say of the places what the books say of the events: it is one of which the
@@ -91,8 +91,8 @@ pub fn run_law()
 pub fn line_law()
     ensures { (choice : Choice) (g : Picture) (feed : List ℕ) (items : List Item) → IsImage g
         → IsInLine choice g
-        (run_along all (start_machine all (chosen choice g) g) feed items).events
-        (run_along all (start_machine all (chosen choice g) g) feed items).machine }
+        (run_along all (start_machine all (choice_state choice g) g) feed items).events
+        (run_along all (start_machine all (choice_state choice g) g) feed items).machine }
 {}
 
 /// In every state of which a policy's line speaks, a ready hart's turn ends in a stop that is no exit where it is an attack: an unsealing without its key; a word outside the code, or one to which no edge leads from the jump before; a

@@ -5,6 +5,4 @@
 
 mod law;
 
-pub use law::{
-    attack_law, comp_safe, flow_safe, heap_safe, line_law, parts_law, run_law, seal_safe,
-};
+pub use law::{attack_law, comp_law, flow_law, heap_law, line_law, parts_law, run_law, seal_law};

@@ -201,17 +201,17 @@ fence_word_is kept fits opcode_is f3_is w =
     (λ e. let P : ℕ → Type 0 = λ v. IsFenceWord v 0x0F 0 kept in subst P e (fence_here kept 0x0F 0 fits opcode_is f3_is), λ is. is.same)
 
 -- the low bits of a sign extension are those that were extended
-low12 : (n : ℕ) → n < 2 ^ 12 → sign_extended 12 n % 2 ^ 12 ≡ n
+pub low12 : (n : ℕ) → n < 2 ^ 12 → sign_extended 12 n % 2 ^ 12 ≡ n
 low12 n fits =
     cond_both (ltb (n % 2 ^ 12) (2 ^ 11)) (n % 2 ^ 12) (2 ^ 32 - 2 ^ 12 + n % 2 ^ 12) (λ m. m % 2 ^ 12 ≡ n)
     (λ _. omega arith) (λ _. omega arith)
 
-low13 : (n : ℕ) → n < 2 ^ 13 → sign_extended 13 n % 2 ^ 13 ≡ n
+pub low13 : (n : ℕ) → n < 2 ^ 13 → sign_extended 13 n % 2 ^ 13 ≡ n
 low13 n fits =
     cond_both (ltb (n % 2 ^ 13) (2 ^ 12)) (n % 2 ^ 13) (2 ^ 32 - 2 ^ 13 + n % 2 ^ 13) (λ m. m % 2 ^ 13 ≡ n)
     (λ _. omega arith) (λ _. omega arith)
 
-low21 : (n : ℕ) → n < 2 ^ 21 → sign_extended 21 n % 2 ^ 21 ≡ n
+pub low21 : (n : ℕ) → n < 2 ^ 21 → sign_extended 21 n % 2 ^ 21 ≡ n
 low21 n fits =
     cond_both (ltb (n % 2 ^ 21) (2 ^ 20)) (n % 2 ^ 21) (2 ^ 32 - 2 ^ 21 + n % 2 ^ 21) (λ m. m % 2 ^ 21 ≡ n)
     (λ _. omega arith) (λ _. omega arith)

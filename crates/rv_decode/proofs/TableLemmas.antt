@@ -2,15 +2,15 @@
 use Rattle.std.proofs.Common.{◌≡◌, ℕ, ◌<◌, ◌^◌, ◌↔◌, Option, Some, IfSome, cond, eqb, refl, sym, ◌∙◌, lit<}
 use Rattle.std.proofs.lemmas.Bool.{cond_both, eqb-true}
 use Rattle.rv_decode.proofs.FormatLemmas.{register_fields, register_here, immediate_fields, immediate_here, store_fields, store_here, branch_fields, branch_here, upper_fields, upper_here, jump_fields, jump_here, fence_fields, fence_here, register_word, immediate_word, store_word, branch_word, upper_word, jump_word}
-use Rattle.rv_decode.specs.Decoding.{decoded, jump_to_register_of, branch_of, load_of, store_of, shift_up_of, shift_down_of, with_immediate_of, with_registers_of, fence_of, system_of}
+use Rattle.rv_decode.specs.Decoding.{instr_of_word, jump_to_register_of, branch_of, load_of, store_of, shift_up_of, shift_down_of, with_immediate_of, with_registers_of, fence_of, system_of}
 use Rattle.rv_decode.specs.Fields.{opcode_of, f3_of, f7_of}
 use Rattle.rv_decode.specs.Table.{Table}
 use Rattle.rv_decode.specs.declared.instructions.Instr.{Instr}
 use Rattle.rv_decode.specs.declared.instructions.Instr.TheVariants.{Lui, Auipc, Jal, Jalr, Beq, Bne, Blt, Bge, Bltu, Bgeu, Lb, Lh, Lw, Lbu, Lhu, Sb, Sh, Sw, Addi, Slti, Sltiu, Xori, Ori, Andi, Slli, Srli, Srai, Add, Sub, Sll, Slt, Sltu, Xor, Srl, Sra, Or, And, Fence, Ecall, Ebreak}
 
 -- a word of the table is decoded to its row
-pub decoded_row : (w : ℕ) (i : Instr) → Table w i → decoded w ≡ Some i
-unfolding decoded
+pub decoded_row : (w : ℕ) (i : Instr) → Table w i → instr_of_word w ≡ Some i
+unfolding instr_of_word
 decoded_row w (Lui rd imm) row = let h = upper_fields w 0x37 rd imm (lit< tt) row in rw (h.opcode_is, h.rd_is, h.imm_is) refl
 decoded_row w (Auipc rd imm) row = let h = upper_fields w 0x17 rd imm (lit< tt) row in rw (h.opcode_is, h.rd_is, h.imm_is) refl
 decoded_row w (Jal rd imm) row = let h = jump_fields w 0x6F rd imm (lit< tt) row in rw (h.opcode_is, h.rd_is, h.imm_is) refl
@@ -130,8 +130,8 @@ system_is w =
     (tested w 0x00100073 _ _ (Table w) (λ e. e) tt)
 
 -- what is decoded is a row of the table
-decoded_is : (w : ℕ) → w < 2 ^ 32 → IfSome (decoded w) (Table w)
-unfolding decoded
+decoded_is : (w : ℕ) → w < 2 ^ 32 → IfSome (instr_of_word w) (Table w)
+unfolding instr_of_word
 decoded_is w fits =
     tested (opcode_of w) 0x37 _ _ (Table w) (λ op. upper_here w 0x37 fits op)
     (tested (opcode_of w) 0x17 _ _ (Table w) (λ op. upper_here w 0x17 fits op)
@@ -150,8 +150,8 @@ at_some : (o : Option Instr) (i : Instr) (P : Instr → Type 0) → IfSome o P �
 at_some o i P h e = rw e at h
 
 -- a word is decoded to an instruction exactly where the table has the two
-pub decoded_is_row : (w : ℕ) → w < 2 ^ 32 → (i : Instr) → (decoded w ≡ Some i) ↔ Table w i
-decoded_is_row w fits i = (λ e. at_some (decoded w) i (Table w) (decoded_is w fits) e, λ row. decoded_row w i row)
+pub decoded_is_row : (w : ℕ) → w < 2 ^ 32 → (i : Instr) → (instr_of_word w ≡ Some i) ↔ Table w i
+decoded_is_row w fits i = (λ e. at_some (instr_of_word w) i (Table w) (decoded_is w fits) e, λ row. decoded_row w i row)
 
 -- no instruction has two words
 pub one_word : (v w : ℕ) (i : Instr) → Table v i → Table w i → v ≡ w

@@ -10,19 +10,35 @@ use Rattle.rv_decode.specs.declared.places.Slot.TheVariants.{Nothing, Reg, Word}
 use Rattle.rv_decode.specs.declared.instructions.Instr.{Instr}
 use Rattle.rv_decode.specs.declared.instructions.Instr.TheVariants.{Lui, Auipc, Jal, Jalr, Beq, Bne, Blt, Bge, Bltu, Bgeu, Lb, Lh, Lw, Lbu, Lhu, Sb, Sh, Sw, Addi, Slti, Sltiu, Xori, Ori, Andi, Slli, Srli, Srai, Add, Sub, Sll, Slt, Sltu, Xor, Srl, Sra, Or, And, Fence, Ecall, Ebreak}
 
--- the registers of a service's first argument and answer, and of its number
+-- the registers of a service's first argument and answer, of its other arguments, and of its number
 abbrev pub a0 : ℕ
 a0 = 10
+
+abbrev pub a1 : ℕ
+a1 = 11
+
+abbrev pub a2 : ℕ
+a2 = 12
 
 abbrev pub a7 : ℕ
 a7 = 17
 
+-- the numbers of the machine's own services
+abbrev pub exit_service : ℕ
+exit_service = 0
+
+abbrev pub put_service : ℕ
+put_service = 1
+
+abbrev pub get_service : ℕ
+get_service = 2
+
 -- the group of an ECALL that finds this number in a7
 abbrev pub service_group : ℕ → Group
 service_group service =
-    if service == 0 then group.Exit else
-    if service == 1 then group.Put else
-    if service == 2 then group.Get else
+    if service == exit_service then group.Exit else
+    if service == put_service then group.Put else
+    if service == get_service then group.Get else
     group.Call
 
 -- ADDI with immediate 0 is a move
@@ -170,7 +186,7 @@ writes_of (Sra rd _ _) _ = Reg rd
 writes_of (Or rd _ _) _ = Reg rd
 writes_of (And rd _ _) _ = Reg rd
 writes_of (Fence _) _ = Nothing
-writes_of Ecall service = if service == 2 then Reg a0 else Nothing
+writes_of Ecall service = if service == get_service then Reg a0 else Nothing
 writes_of Ebreak _ = Nothing
 
 -- the same as plain registers: x0, which is 0 and drops what is written, for an operand or a register of the result that there is not

@@ -1,7 +1,7 @@
 //! From words to instructions.
 
 ghost use Rattle.std.specs.Prelude.{◌≡◌, ℕ, ◌↔◌, ◌%◌, Some};
-ghost use Rattle.rv_decode.specs.Decoding.{decoded, jump_to_register_of, branch_of, load_of, store_of, shift_up_of, shift_down_of, with_immediate_of, with_registers_of, system_of};
+ghost use Rattle.rv_decode.specs.Decoding.{instr_of_word, jump_to_register_of, branch_of, load_of, store_of, shift_up_of, shift_down_of, with_immediate_of, with_registers_of, system_of};
 ghost use Rattle.rv_decode.specs.Fields.{rd_of, rs1_of, rs2_of, f7_of, immediate_of, store_offset_of, branch_offset_of, upper_immediate_of, jump_offset_of};
 ghost use Rattle.rv_decode.specs.Table.{Table};
 ghost use Rattle.rv_decode.specs.declared.instructions.Instr.{Instr};
@@ -235,17 +235,17 @@ fn decode_system(word: u32) -> Option<Instr>
 /// the project's own profile.
 #[inline(always)]
 pub fn decode(word: u32) -> Option<Instr>
-    ensures value { result ≡ decoded word }
+    ensures value { result ≡ instr_of_word word }
     ensures exact { (instr : Instr) → (result ≡ Some instr) ↔ Table word instr }
 {
     decode_fields(word)
 }
 
 // By the opcode, and then by f3 and f7 where the opcode leaves a choice.
-#[tactic(auto, unfolding(crate::specs::Decoding::decoded))]
+#[tactic(auto, unfolding(crate::specs::Decoding::instr_of_word))]
 #[inline(always)]
 fn decode_fields(word: u32) -> Option<Instr>
-    ensures { result ≡ decoded word }
+    ensures { result ≡ instr_of_word word }
 {
     match opcode(word) {
         0x37 => Some(Instr::Lui {

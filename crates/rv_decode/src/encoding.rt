@@ -1,7 +1,7 @@
 //! From instructions to words: each format puts its fields at their places.
 
 ghost use Rattle.std.specs.Prelude.{◌≡◌, ℕ, ◌+◌, ◌*◌, ◌^◌, ◌<◌, ◌↔◌, Some};
-ghost use Rattle.rv_decode.specs.Decoding.{decoded};
+ghost use Rattle.rv_decode.specs.Decoding.{instr_of_word};
 ghost use Rattle.rv_decode.specs.Formats.{IsRegisterWord, IsShiftWord, IsImmediateWord, IsStoreWord, IsBranchWord, IsUpperWord, IsJumpWord};
 ghost use Rattle.rv_decode.specs.Table.{Table};
 
@@ -12,7 +12,7 @@ use crate::instructions::Instr;
 /// The word of an instruction: the one that is decoded to it.
 pub fn encode(instr: &Instr) -> u32
     ensures table { (word : ℕ) → (result ≡ word) ↔ Table word instr.now }
-    ensures decoded { (w : ℕ) → w < 2 ^ 32 → (result ≡ w) ↔ (decoded w ≡ Some instr.now) }
+    ensures decoded { (w : ℕ) → w < 2 ^ 32 → (result ≡ w) ↔ (instr_of_word w ≡ Some instr.now) }
 {
     table_word(instr)
 }

@@ -34,6 +34,10 @@ impl Register {
     pub const RA: Register = Register { number: 1 };
     /// x10, the first argument and the answer of a service.
     pub const A0: Register = Register { number: 10 };
+    /// x11, the second argument of a service.
+    pub const A1: Register = Register { number: 11 };
+    /// x12, the third argument of a service.
+    pub const A2: Register = Register { number: 12 };
     /// x17, the number of a service.
     pub const A7: Register = Register { number: 17 };
 

@@ -5,6 +5,15 @@ ghost use Rattle.rv_decode.specs.Groups.{addi_group, group_of, service_group};
 
 use crate::instructions::Instr;
 
+/// The number of the service that exits.
+const EXIT: u32 = 0;
+
+/// The number of the service that puts a byte.
+const PUT: u32 = 1;
+
+/// The number of the service that gets a byte.
+pub(crate) const GET: u32 = 2;
+
 /// An operation group: instructions that the rules of a policy treat alike.
 ///
 /// The groups are this project's profile.
@@ -121,9 +130,9 @@ fn service_group(service: u32) -> Group
     ensures { result ≡ service_group service }
 {
     match service {
-        0 => Group::Exit,
-        1 => Group::Put,
-        2 => Group::Get,
+        EXIT => Group::Exit,
+        PUT => Group::Put,
+        GET => Group::Get,
         _ => Group::Call,
     }
 }

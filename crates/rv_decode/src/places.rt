@@ -4,6 +4,7 @@ ghost use Rattle.std.specs.Prelude.{◌≡◌};
 ghost use Rattle.rv_decode.specs.Groups.{places_of, reads_of, writes_of};
 
 use crate::fields::Register;
+use crate::groups::GET;
 use crate::instructions::Instr;
 
 /// The operands of an instruction whose tags a rule is given.
@@ -65,7 +66,7 @@ impl Places {
     fn of_service(service: u32) -> Places
         ensures { result ≡ places_of Instr.Ecall service }
     {
-        let answer = if service == 2 {
+        let answer = if service == GET {
             Register::A0
         } else {
             Register::ZERO
@@ -224,7 +225,7 @@ impl Instr {
 fn answer_slot(service: u32) -> Slot
     ensures { result ≡ writes_of Instr.Ecall service }
 {
-    if service == 2 {
+    if service == GET {
         Slot::Reg(Register::A0)
     } else {
         Slot::Nothing

@@ -4,7 +4,7 @@ use Rattle.tag_memory.specs.Hart.{HartState, IsHart, fresh_hart, reg_tag, reg_va
 use Rattle.tag_memory.specs.Ram.{RamState}
 use Rattle.engine_trait.specs.Events.{Event}
 use Rattle.engine_trait.specs.Machine.{CoreState, IsMachine, Machine, hart_at, is_ready_in, with_hart}
-use Rattle.part_turns.proofs.Places.{each_hart, nth_tag, nth_word, there}
+use Rattle.part_turns.proofs.PlaceLemmas.{each_hart, nth_tag, nth_word, there}
 use Rattle.sealing_policy.specs.Sealing.{sealing}
 use Rattle.sealing_policy.specs.declared.tag.SealTag.{SealTag}
 use Rattle.seal_runs.specs.KeyBook.{KeyBook, key_book}

@@ -5,7 +5,7 @@ use Rattle.std.proofs.lemmas.Bool.Decides.{nat_tests}
 use Rattle.std.proofs.lemmas.List.Elements.{Contains-push}
 use Rattle.std.proofs.lemmas.Option.{none-some, same_Some}
 use Rattle.monitor_calls.specs.Service.{new_word}
-use Rattle.policy_parts.specs.Part.{IsOthers, Planned, committed, others, own, word_tag}
+use Rattle.policy_parts.specs.Part.{IsOthers, Planned, value_after, others, own, word_tag}
 use Rattle.policy_product.specs.Both.{rest_tag}
 use Rattle.policy_trait.specs.declared.rules.Refused.{Refused}
 use Rattle.policy_trait.specs.declared.rules.Why.TheVariants as why
@@ -21,7 +21,7 @@ use Rattle.part_turns.specs.Moments.{Service}
 use Rattle.sealing_policy.specs.Sealing.{answering, key_limit, key_plan, refused_plan, seal_plan, sealing, sealing_knows, sealing_plan, unseal_plan}
 use Rattle.sealing_policy.specs.declared.tag.SealTag.{SealTag}
 use Rattle.sealing_policy.specs.declared.tag.SealTag.TheVariants.{Data, Key, Sealed}
-use Rattle.seal_runs.specs.KeyBook.{KeyBook, answered, keys_by, with_key, with_pair, word_of}
+use Rattle.seal_runs.specs.KeyBook.{KeyBook, answer_value, keys_by, with_key, with_pair, word_of}
 use Rattle.seal_runs.specs.SealLine.{Fits}
 use Rattle.seal_runs.specs.SealSafe.{UsesKey}
 use Rattle.seal_runs.proofs.BookLemmas.{Grows, HasKeys, has_next_key, key_grows, pair_grows, same_grows}
@@ -40,11 +40,11 @@ module _ (book : KeyBook) (keys : ℕ) (a : Args SealTag) where
   -- the book grows, the keys are counted, the answer and the words fit, and the promise is kept
   pub record IsServedBy (number : ℕ) (p : Plan SealTag) : Type 0 where
     pub grows : Grows book (book_by book a number p)
-    pub has : HasKeys (book_by book a number p) (committed sealing keys p)
+    pub has : HasKeys (book_by book a number p) (value_after sealing keys p)
     pub answer : (y : Answer SealTag) → p.answer ≡ Some y → Fits (book_by book a number p) y.value y.tag
     pub words : (range : Words) (word : ℕ) (old new : SealTag) → p.range ≡ Some range → word_tag sealing keys p old ≡ Ok new
         → Fits book word old → Fits book (new_word p word) new
-    pub makes : number ≡ 16 → answered p.answer ≡ Some (length book.made)
+    pub makes : number ≡ 16 → answer_value p.answer ≡ Some (length book.made)
     pub unseals : number ≡ 18 → UsesKey book (service_by_plan number a p)
 
 -- ---- parts
@@ -181,10 +181,10 @@ module _ (book : KeyBook) (keys : ℕ) (has : HasKeys book keys) (a : Args SealT
         let book_is : book_by book a number p ≡ book =
         book_stays (number == 16) (number == 17) _ _ (grind (arith, nat_tests, unknown)) (grind (arith, nat_tests, unknown)) in
         let known : sealing_knows p.service ≡ false = ap sealing_knows is ∙ unknown in
-        let keys_are : committed sealing keys p ≡ keys = rw known refl in
+        let keys_are : value_after sealing keys p ≡ keys = rw known refl in
         record {
           grows = subst (Grows book) (sym book_is) (same_grows book);
-          has = subst (λ b. HasKeys b (committed sealing keys p)) (sym book_is) (subst (HasKeys book) (sym keys_are) has);
+          has = subst (λ b. HasKeys b (value_after sealing keys p)) (sym book_is) (subst (HasKeys book) (sym keys_are) has);
           answer = λ y e. subst (λ b. Fits b y.value y.tag) (sym book_is) (other_fits y.rest y refl (answers y e));
           words = λ range word old new ranged e fits. word_fits (sealing_knows p.service) p.zero word old new known e fits;
           makes = λ sixteen. absurd (grind (arith, nat_tests, unknown, sixteen));

@@ -12,7 +12,7 @@ use Rattle.tag_memory.specs.Hart.{HartState, IsHart, reg_tag, reg_value}
 use Rattle.tag_memory.specs.Ram.{IsRam, RamState, ram_word}
 use Rattle.turn_steps.specs.Effects.{with_store, with_tagged}
 use Rattle.turn_steps.specs.declared.look.Look.{Look}
-use Rattle.part_turns.proofs.Places.{each_register, each_stored}
+use Rattle.part_turns.proofs.PlaceLemmas.{each_register, each_stored}
 use Rattle.part_turns.specs.Turns.{Does, computes, loads, loads_part, moves, stores, stores_part}
 use Rattle.sealing_policy.specs.Sealing.{row_of, sealing_rule, tag_from}
 use Rattle.sealing_policy.specs.declared.tag.SealTag.{SealTag}

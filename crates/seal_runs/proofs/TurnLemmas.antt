@@ -5,7 +5,7 @@ use Rattle.std.proofs.lemmas.Option.{none-some, same_Some}
 use Rattle.rv_decode.specs.Groups.{a0}
 use Rattle.monitor_calls.specs.Service.{retagged_range}
 use Rattle.policy_parts.specs.Part.{beside_others}
-use Rattle.policy_trait.specs.Laws.{IsRange}
+use Rattle.policy_trait.specs.PolicyLaws.{IsRange}
 use Rattle.policy_trait.specs.declared.rules.Outs.{Outs}
 use Rattle.policy_trait.specs.declared.services.Args.{Args}
 use Rattle.policy_trait.specs.declared.services.Plan.{Plan}
@@ -18,13 +18,13 @@ use Rattle.turn_steps.specs.declared.stop.Stop.{Stop}
 use Rattle.engine_trait.specs.Events.{Event}
 use Rattle.engine_trait.specs.Machine.{IsMachine, Machine, hart_at, is_ready_in}
 use Rattle.engine_trait.specs.Turn.{core_served, stopped_at}
-use Rattle.part_turns.proofs.Places.{IsServed, each_answered, each_served, kept, nth_tag, nth_word, store_plain, words_plain, written}
+use Rattle.part_turns.proofs.PlaceLemmas.{IsServed, each_answered, each_served, kept, nth_tag, nth_word, store_plain, words_plain, written}
 use Rattle.part_turns.specs.Keeps.{Keeps}
 use Rattle.part_turns.specs.Moments.{Service, service_of}
 use Rattle.part_turns.specs.Turns.{Does, Turns, after_service, after_step, exits, goes, idles, serves, stops}
 use Rattle.sealing_policy.specs.Sealing.{sealing}
 use Rattle.sealing_policy.specs.declared.tag.SealTag.{SealTag}
-use Rattle.seal_runs.specs.KeyBook.{KeyBook, answered, key_book, keys_by}
+use Rattle.seal_runs.specs.KeyBook.{KeyBook, answer_value, key_book, keys_by}
 use Rattle.seal_runs.specs.SealLine.{Fits, SealLine}
 use Rattle.seal_runs.specs.SealSafe.{SealTurn, UsesKey}
 use Rattle.seal_runs.proofs.BookLemmas.{book_after, fits_grown, same_grows}
@@ -115,7 +115,7 @@ module _ (before : List SealEvent) (e : SealEvent) where
   served_kept t keys a number p is served holds = (
     record {
       makes = λ x told.
-          subst (λ (y : Service SealTag). y.number ≡ 16 → answered y.answer ≡ Some (length (key_book before).made)) (same x told) served.makes;
+          subst (λ (y : Service SealTag). y.number ≡ 16 → answer_value y.answer ≡ Some (length (key_book before).made)) (same x told) served.makes;
       unseals = λ x told. subst (λ (y : Service SealTag). y.number ≡ 18 → UsesKey (key_book before) y) (same x told) served.unseals;
     },
     line_from (before ++ e ∷ []) (book_by (key_book before) a number p) t (book_after before e ∙ ap (keys_by (key_book before)) is) holds,

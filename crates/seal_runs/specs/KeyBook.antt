@@ -18,8 +18,8 @@ abbrev pub word_of : ℕ → ℕ
 word_of value = value % 2 ^ 32
 
 -- the value of a service's answer
-abbrev pub answered : {T : Type 0} → Option (Answer T) → Option ℕ
-answered answer = option_map (λ a. a.value) answer
+abbrev pub answer_value : {T : Type 0} → Option (Answer T) → Option ℕ
+answer_value answer = option_map (λ a. a.value) answer
 
 abbrev pub with_key : KeyBook → Option ℕ → KeyBook
 with_key book None = book
@@ -33,7 +33,7 @@ module _ {T : Type 0} where
   abbrev pub keys_by : KeyBook → Option (Service T) → KeyBook
   keys_by book None = book
   keys_by book (Some x) =
-      if x.number == 16 then with_key book (answered x.answer) else
+      if x.number == 16 then with_key book (answer_value x.answer) else
       if x.number == 17 then with_pair book x.arguments.a1 (word_of x.arguments.a0) else
       book
 

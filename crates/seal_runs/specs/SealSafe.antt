@@ -5,7 +5,7 @@ use Rattle.engine_trait.specs.Events.{Event}
 use Rattle.part_turns.specs.Moments.{Moment, Service, service_of}
 use Rattle.sealing_policy.specs.declared.tag.SealTag.{SealTag}
 use Rattle.sealing_policy.specs.declared.tag.SealTag.TheVariants.{Key, Sealed}
-use Rattle.seal_runs.specs.KeyBook.{KeyBook, answered, key_book, word_of}
+use Rattle.seal_runs.specs.KeyBook.{KeyBook, answer_value, key_book, word_of}
 
 -- An unsealing by its key: a0 was sealed by that key, a1 is that key and has its number as its value, the key was made
 -- before, and it once sealed the value of a0.
@@ -19,7 +19,7 @@ pub record UsesKey (book : KeyBook) (x : Service SealTag) : Type 0 where
 
 -- what a turn does, in the book as it stands before it: keys are 0, 1, 2 and so on, and an unsealing uses its key
 pub record SealTurn (book : KeyBook) (event : Event SealTag) : Type 0 where
-  pub makes : (x : Service SealTag) → service_of event ≡ Some x → x.number ≡ 16 → answered x.answer ≡ Some (length book.made)
+  pub makes : (x : Service SealTag) → service_of event ≡ Some x → x.number ≡ 16 → answer_value x.answer ≡ Some (length book.made)
   pub unseals : (x : Service SealTag) → service_of event ≡ Some x → x.number ≡ 18 → UsesKey book x
 
 abbrev pub SealSafe : List (Event SealTag) → Type 0

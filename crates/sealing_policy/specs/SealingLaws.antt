@@ -3,8 +3,8 @@ use Rattle.std.proofs.Common.{◌≡◌, ℕ, ◌+◌, ◌<◌, ◌≤◌, ◌==
 use Rattle.std.proofs.lemmas.Bool.Decides.{nat_tests}
 use Rattle.rv_decode.specs.declared.groups.Group.{Group}
 use Rattle.rv_decode.specs.declared.groups.Group.TheVariants as group
-use Rattle.policy_trait.specs.Laws.{KeepsLaws}
-use Rattle.policy_trait.specs.Model.{masked}
+use Rattle.policy_trait.specs.PolicyLaws.{KeepsLaws}
+use Rattle.policy_trait.specs.Model.{masked_inputs}
 use Rattle.policy_trait.specs.declared.rules.Ins.{Ins}
 use Rattle.policy_trait.specs.declared.services.Answer.{Answer}
 use Rattle.policy_trait.specs.declared.services.Args.{Args}
@@ -20,7 +20,7 @@ use Rattle.sealing_policy.specs.Sealing.{HasFewKeys, answering, key_limit, key_p
 use Rattle.sealing_policy.specs.declared.tag.SealTag.{SealTag}
 use Rattle.sealing_policy.specs.declared.tag.SealTag.TheVariants.{Data, Key, Sealed}
 
-rule_masked : (g : Group) (x : Ins SealTag) → sealing_rule g x ≡ sealing_rule g (masked (sealing_ignores g) Data x)
+rule_masked : (g : Group) (x : Ins SealTag) → sealing_rule g x ≡ sealing_rule g (masked_inputs (sealing_ignores g) Data x)
 rule_masked = elim [
   | group.Const ↦ λ x. refl
   | group.Here ↦ λ x. refl

@@ -1,3 +1,5 @@
+//! What the services do: a value sealed, and a value unsealed.
+
 ghost use Rattle.std.specs.Prelude.{◌≡◌, Err};
 ghost use Rattle.sealing_policy.specs.Sealing.{answering, refused_plan, seal_plan, unseal_plan};
 

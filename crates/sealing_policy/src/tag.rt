@@ -1,3 +1,5 @@
+//! The tags of the sealing policy.
+
 use pump_words::Same;
 
 /// A tag of the sealing policy.

@@ -1,4 +1,4 @@
 pub mod NumberLemmas
-mod Rows
+mod RowLemmas
 pub mod StreamLemmas
 pub mod WordLemmas

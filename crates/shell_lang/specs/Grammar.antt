@@ -7,7 +7,7 @@ use Rattle.shell_lang.specs.declared.bad_command.BadCommand.{BadCommand}
 use Rattle.shell_lang.specs.declared.bad_command.BadCommand.TheVariants.{UnknownWord, TooLong}
 use Rattle.shell_lang.specs.declared.command.Command.{Command}
 use Rattle.shell_lang.specs.declared.command.Command.TheVariants.{Blank, Step, Run, Turns, Feed, Regs, Pc, Mem, Tags, Dis, Why, Blocks, Stats, Break, Clear, Reset, Quit}
-use Rattle.shell_lang.specs.Operands.{no_operand, one_operand, two_operands, number_in, address_in, digits_in, bytes_in, within, aligned}
+use Rattle.shell_lang.specs.Operands.{no_operand, one_operand, two_operands, number_in, address_in, digits_in, bytes_in, within, word_address}
 use Rattle.shell_lang.specs.Refusals.{◌>>=◌}
 use Rattle.shell_lang.specs.Words.{Text, words_of}
 
@@ -41,7 +41,7 @@ unfoldable pub place_operand : List Text → Result ℕ BadCommand
 place_operand operands = do
   text ← one_operand operands
   a ← address_in text
-  aligned a
+  word_address a
 
 -- the address of a word, and how many words from there on
 unfoldable pub range_operands : List Text → Result (ℕ × ℕ) BadCommand
@@ -49,7 +49,7 @@ range_operands operands = do
   texts ← two_operands operands
   a ← address_in texts.0
   n ← number_in texts.1
-  address ← aligned a
+  address ← word_address a
   count ← count_within n
   Ok (address, count)
 

@@ -61,5 +61,5 @@ abbrev pub within : ℕ → ℕ → ℕ → Result ℕ BadCommand
 within least most n = if nat_le least n && nat_le n most then Ok n else Err OutOfRange
 
 -- the address of a word: a multiple of 4
-abbrev pub aligned : ℕ → Result ℕ BadCommand
-aligned address = if address % 4 == 0 then Ok address else Err OutOfRange
+abbrev pub word_address : ℕ → Result ℕ BadCommand
+word_address address = if address % 4 == 0 then Ok address else Err OutOfRange

@@ -1,7 +1,7 @@
 //! What the words of operands write, and the ranges that they lie in.
 
 ghost use Rattle.std.specs.Prelude.{◌≡◌, ◌≤◌, length};
-ghost use Rattle.shell_lang.specs.Operands.{address_in, aligned, bytes_in, digits_in, number_in, within};
+ghost use Rattle.shell_lang.specs.Operands.{address_in, word_address, bytes_in, digits_in, number_in, within};
 
 use crate::bad_command::BadCommand;
 use crate::values::{Bytes, Digits};
@@ -70,7 +70,7 @@ pub(crate) fn within(number: u64, least: u32, most: u32) -> Result<u32, BadComma
 
 /// The address, where it is a multiple of 4.
 pub(crate) fn aligned(address: u32) -> Result<u32, BadCommand>
-    ensures { result ≡ aligned address }
+    ensures { result ≡ word_address address }
 {
     if address % 4 != 0 {
         return Err(BadCommand::OutOfRange);

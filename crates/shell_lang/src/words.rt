@@ -3,7 +3,7 @@
 ghost use Rattle.std.specs.Prelude.{◌≡◌, ◌+◌, ◌≤◌, [], ◌∷◌, drop, length, IfNone, IfOk, IfSome};
 ghost use Rattle.std.specs.List.{position, position_or_len};
 ghost use Rattle.shell_lang.specs.Operands.{no_operand, one_operand, two_operands};
-ghost use Rattle.shell_lang.specs.Lent.{lent, lent_pair};
+ghost use Rattle.shell_lang.specs.Lent.{text_or_bad, lent_pair};
 ghost use Rattle.shell_lang.specs.Words.{is_other, is_space, words_of};
 
 use crate::bad_command::BadCommand;
@@ -71,7 +71,7 @@ pub(crate) fn no_operand(rest: &[u8]) -> Result<(), BadCommand>
 
 /// The only operand.
 pub(crate) fn one_operand(rest: &[u8]) -> Result<&[u8], BadCommand>
-    ensures text { lent result ≡ one_operand (words_of rest.now) }
+    ensures text { text_or_bad result ≡ one_operand (words_of rest.now) }
     ensures within { IfOk result (λ text. length text.now ≤ length rest.now) }
 {
     let (text, rest) = next_word(rest).ok_or(BadCommand::OperandCount)?;

@@ -7,46 +7,46 @@ use Rattle.shell_turns.specs.Cuts.{PutsOut}
 use Rattle.shell_turns.specs.declared.ends.ObeyEnd.{ObeyEnd}
 use Rattle.shell_turns.proofs.PutLemmas.{done, fails, puts_cut_in, puts_on}
 use Rattle.shell_run.specs.Lines.{block_line}
-use Rattle.shell_run.specs.Shown.{block_then, blocks, listed}
+use Rattle.shell_run.specs.Shown.{block_then, blocks, lines_from}
 
 module _ (f : ℕ → List ℕ) where
   -- the first lines, and the others
-  listed_on : (n more from : ℕ) → listed f from (n + more) ≡ listed f from n ++ listed f (from + n) more
-  unfolding listed
+  listed_on : (n more from : ℕ) → lines_from f from (n + more) ≡ lines_from f from n ++ lines_from f (from + n) more
+  unfolding lines_from
   listed_on zero more from =
       let same : from ≡ from + 0 = omega arith in
       let all : 0 + more ≡ more = omega arith in
-      λ j. listed f (same j) (all j)
+      λ j. lines_from f (same j) (all j)
   listed_on (suc n) more from =
-      ap (listed f from) (let e : suc n + more ≡ suc (n + more) = omega arith in e)
+      ap (lines_from f from) (let e : suc n + more ≡ suc (n + more) = omega arith in e)
       ∙ ap (λ rest. out (f from) ∷ rest) (listed_on n more (from + 1))
-      ∙ ap (λ k. out (f from) ∷ (listed f (from + 1) n ++ listed f k more)) (let e : from + 1 + n ≡ from + suc n = omega arith in e)
+      ∙ ap (λ k. out (f from) ∷ (lines_from f (from + 1) n ++ lines_from f k more)) (let e : from + 1 + n ≡ from + suc n = omega arith in e)
 
-  listed_one : (k : ℕ) → listed f k 1 ≡ out (f k) ∷ []
-  unfolding listed
+  listed_one : (k : ℕ) → lines_from f k 1 ≡ out (f k) ∷ []
+  unfolding lines_from
   listed_one k = refl
 
-  pub listed_none : listed f 0 0 ≡ []
-  unfolding listed
+  pub listed_none : lines_from f 0 0 ≡ []
+  unfolding lines_from
   listed_none = refl
 
-  listed_next : (k : ℕ) → listed f 0 (k + 1) ≡ listed f 0 k ++ out (f k) ∷ []
-  listed_next k = listed_on k 1 0 ∙ ap (λ line. listed f 0 k ++ line) (ap (λ n. listed f n 1) (let e : 0 + k ≡ k = omega arith in e) ∙ listed_one k)
+  listed_next : (k : ℕ) → lines_from f 0 (k + 1) ≡ lines_from f 0 k ++ out (f k) ∷ []
+  listed_next k = listed_on k 1 0 ∙ ap (λ line. lines_from f 0 k ++ line) (ap (λ n. lines_from f n 1) (let e : 0 + k ≡ k = omega arith in e) ∙ listed_one k)
 
-  module _ (old now new : Option (List ℕ)) (k : ℕ) (puts : PutsOut old now (listed f 0 k) done) where
-    pub listed_goes_on : PutsOut now new (out (f k) ∷ []) done → PutsOut old new (listed f 0 (k + 1)) done
+  module _ (old now new : Option (List ℕ)) (k : ℕ) (puts : PutsOut old now (lines_from f 0 k) done) where
+    pub listed_goes_on : PutsOut now new (out (f k) ∷ []) done → PutsOut old new (lines_from f 0 (k + 1)) done
     listed_goes_on one =
-        subst (λ pieces. PutsOut old new pieces done) (sym (listed_next k)) (puts_on old now new (listed f 0 k) (out (f k) ∷ []) tt done puts one)
+        subst (λ pieces. PutsOut old new pieces done) (sym (listed_next k)) (puts_on old now new (lines_from f 0 k) (out (f k) ∷ []) tt done puts one)
 
     pub listed_is_cut : (count : ℕ) → k < count → (A B : Type 0) (end told : ObeyEnd) → PutsOut now new (out (f k) ∷ []) (fails A end)
-        → PutsOut old new (listed f 0 count) (fails B told)
+        → PutsOut old new (lines_from f 0 count) (fails B told)
     listed_is_cut count below A B end told one =
-        let rest = listed f (0 + (k + 1)) (count - (k + 1)) in
-        let all : listed f 0 count ≡ (listed f 0 k ++ out (f k) ∷ []) ++ rest
-        = ap (listed f 0) (let e : count ≡ k + 1 + (count - (k + 1)) = omega (arith, below) in e)
+        let rest = lines_from f (0 + (k + 1)) (count - (k + 1)) in
+        let all : lines_from f 0 count ≡ (lines_from f 0 k ++ out (f k) ∷ []) ++ rest
+        = ap (lines_from f 0) (let e : count ≡ k + 1 + (count - (k + 1)) = omega (arith, below) in e)
         ∙ listed_on (k + 1) (count - (k + 1)) 0 ∙ ap (λ front. front ++ rest) (listed_next k) in
         subst (λ pieces. PutsOut old new pieces (fails B told)) (sym all)
-        (puts_cut_in A B old new (listed f 0 k ++ out (f k) ∷ []) rest end told (puts_on old now new (listed f 0 k) (out (f k) ∷ []) tt (fails A end) puts one))
+        (puts_cut_in A B old new (lines_from f 0 k ++ out (f k) ∷ []) rest end told (puts_on old now new (lines_from f 0 k) (out (f k) ∷ []) tt (fails A end) puts one))
 
 -- ---- blocks
 

@@ -9,8 +9,8 @@ use Rattle.shell_lang.specs.declared.command.Command.{Command}
 use Rattle.shell_lang.specs.declared.command.Command.TheVariants as command
 use Rattle.shell_turns.specs.Order.{Order, listed, only, rounds_from}
 use Rattle.shell_turns.proofs.RunLemmas.{turns_run}
-use Rattle.shell_run.specs.Replies.{Reply, breaking, checked, clearing, is_kept, reply_to, running, silent}
-use Rattle.shell_run.specs.Runs.{IsAlong, items_after, turned, turned_if}
+use Rattle.shell_run.specs.Replies.{Reply, breaking, reply_if, clearing, is_kept, reply_to, running, silent}
+use Rattle.shell_run.specs.Runs.{IsAlong, items_after, counted_turns, turned_if}
 use Rattle.shell_run.specs.Session.{SessionState, is_hart, is_place, is_range}
 
 -- two runs end alike
@@ -55,7 +55,7 @@ module _ {S T : Type 0} (eq : T → T → Bool) (m : PolicyModel T S) (s : Sessi
   stays : (t : SessionState S T) → t ≡ s → Goes t items
   stays t is = subst (λ u. Goes u items) (sym is) along
 
-  checked_stays : (test : Bool) (reply : Reply S T) → reply.after ≡ s → Goes (checked s test reply).after items
+  checked_stays : (test : Bool) (reply : Reply S T) → reply.after ≡ s → Goes (reply_if s test reply).after items
   checked_stays true reply is = stays reply.after is
   checked_stays false reply is = along
 
@@ -63,24 +63,24 @@ module _ {S T : Type 0} (eq : T → T → Bool) (m : PolicyModel T S) (s : Sessi
   with_breaks : (breaks : List ℕ) → Goes (record s { breaks = breaks }) items
   with_breaks breaks = record { machine = along.machine; feed = along.feed }
 
-  break_goes : (a : ℕ) (kept room : Bool) → Goes (if kept then silent s else checked s room (record { after = record s { breaks = s.breaks ++ a ∷ [] }; pieces = [] })).after items
+  break_goes : (a : ℕ) (kept room : Bool) → Goes (if kept then silent s else reply_if s room (record { after = record s { breaks = s.breaks ++ a ∷ [] }; pieces = [] })).after items
   break_goes a true room = along
   break_goes a false true = with_breaks (s.breaks ++ a ∷ [])
   break_goes a false false = along
 
-  checked_goes : (test : Bool) (reply : Reply S T) → Goes reply.after items → Goes (checked s test reply).after items
+  checked_goes : (test : Bool) (reply : Reply S T) → Goes reply.after items → Goes (reply_if s test reply).after items
   checked_goes true reply goes = goes
   checked_goes false reply goes = along
 
   -- turns
-  ran : (budget : ℕ) (order : Order) → Goes (running eq m s budget order).after (items ++ turned eq m s budget order)
+  ran : (budget : ℕ) (order : Order) → Goes (running eq m s budget order).after (items ++ counted_turns eq m s budget order)
   unfolding running
   ran budget order =
       let ends = turns_run eq m s.breaks budget order s.standing s.feed in
-      let all = behind_end (turned eq m s budget order) in
+      let all = behind_end (counted_turns eq m s budget order) in
       record { machine = ends.machine ∙ sym all.machine; feed = ends.feed ∙ sym all.feed }
 
-  ran_if : (test : Bool) (budget : ℕ) (order : Order) → Goes (checked s test (running eq m s budget order)).after (items ++ turned_if eq m s test budget order)
+  ran_if : (test : Bool) (budget : ℕ) (order : Order) → Goes (reply_if s test (running eq m s budget order)).after (items ++ turned_if eq m s test budget order)
   ran_if true budget order = ran budget order
   ran_if false budget order = subst (Goes s) (sym (append-nil items)) along
 

@@ -9,7 +9,7 @@ use Rattle.shell_turns.specs.Cuts.{StandsIn}
 use Rattle.shell_turns.specs.Order.{Order, listed, only, rounds_from}
 use Rattle.shell_turns.specs.Turns.{Leaves, Turns, turns}
 use Rattle.shell_turns.proofs.TurnLemmas.{turns-zero}
-use Rattle.shell_run.specs.Replies.{Reply, breaking, checked, clearing, is_kept, reply_to, running, silent, with_break}
+use Rattle.shell_run.specs.Replies.{Reply, breaking, reply_if, clearing, is_kept, reply_to, running, silent, with_break}
 use Rattle.shell_run.specs.Session.{SessionState, is_hart, is_place, is_range}
 
 module _ {S T : Type 0} (eq : T → T → Bool) (m : PolicyModel T S) (breaks : List ℕ) (budget : ℕ) (order : Order) (e : Standing S T) (feed : List ℕ) where
@@ -35,11 +35,11 @@ module _ {S T : Type 0} (eq : T → T → Bool) (m : PolicyModel T S) (breaks : 
 -- ---- a command that is obeyed ends no session
 
 module _ {S T : Type 0} (s : SessionState S T) where
-  checked_lives : (test : Bool) (reply : Reply S T) → reply.after.ended ≡ s.ended → (checked s test reply).after.ended ≡ s.ended
+  checked_lives : (test : Bool) (reply : Reply S T) → reply.after.ended ≡ s.ended → (reply_if s test reply).after.ended ≡ s.ended
   checked_lives true reply is = is
   checked_lives false reply is = refl
 
-  break_lives : (a : ℕ) (kept : Bool) → (if kept then silent s else checked s (nat_lt (length s.breaks) 64) (record { after = with_break s a; pieces = [] })).after.ended ≡ s.ended
+  break_lives : (a : ℕ) (kept : Bool) → (if kept then silent s else reply_if s (nat_lt (length s.breaks) 64) (record { after = with_break s a; pieces = [] })).after.ended ≡ s.ended
   break_lives a true = refl
   break_lives a false = checked_lives (nat_lt (length s.breaks) 64) (record { after = with_break s a; pieces = [] }) refl
 

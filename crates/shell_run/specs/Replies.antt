@@ -12,7 +12,7 @@ use Rattle.shell_turns.specs.Order.{Order, listed as listed_harts, only, rounds_
 use Rattle.shell_turns.specs.Turns.{Turns, turns}
 use Rattle.shell_run.specs.Lines.{refusal_line, stats_line, turns_line}
 use Rattle.shell_run.specs.Session.{SessionState, bytes_in, is_hart, is_place, is_range}
-use Rattle.shell_run.specs.Shown.{blocks, listed, pc_of, register_of, statement_of, tag_of, why_line, word_of}
+use Rattle.shell_run.specs.Shown.{blocks, lines_from, pc_of, register_of, statement_of, tag_of, why_line, word_of}
 
 -- the session after a command, and the lines of the reply
 pub record Reply (S T : Type 0) : Type 0 where
@@ -28,8 +28,8 @@ module _ {S T : Type 0} (s : SessionState S T) where
   telling pieces = record { after = s; pieces = pieces }
 
   -- an operand that is out of the machine's range is refused before anything is done
-  abbrev pub checked : Bool → Reply S T → Reply S T
-  checked test reply = if test then reply else telling (out (refusal_line 4) ∷ [])
+  abbrev pub reply_if : Bool → Reply S T → Reply S T
+  reply_if test reply = if test then reply else telling (out (refusal_line 4) ∷ [])
 
   -- one more breakpoint: one that is kept already stays, and a 65th is refused
   abbrev pub is_kept : ℕ → Bool
@@ -39,7 +39,7 @@ module _ {S T : Type 0} (s : SessionState S T) where
   with_break a = record s { breaks = s.breaks ++ a ∷ [] }
 
   abbrev pub breaking : ℕ → Reply S T
-  breaking a = if is_kept a then silent else checked (nat_lt (length s.breaks) 64) (record { after = with_break a; pieces = [] })
+  breaking a = if is_kept a then silent else reply_if (nat_lt (length s.breaks) 64) (record { after = with_break a; pieces = [] })
 
   abbrev pub clearing : ℕ → Reply S T
   clearing a = record { after = record s { breaks = filter (λ place. not (place == a)) s.breaks }; pieces = [] }
@@ -75,16 +75,16 @@ module _ {S T : Type 0} (eq : T → T → Bool) (m : PolicyModel T S) (s : Sessi
 
   -- what is shown of the machine
   unfoldable pub registers_shown : ℕ → List Piece
-  registers_shown h = listed (register_of m s.standing.machine h) 0 32
+  registers_shown h = lines_from (register_of m s.standing.machine h) 0 32
 
   unfoldable pub words_shown : ℕ → ℕ → List Piece
-  words_shown a n = listed (word_of m s.standing.machine a) 0 n
+  words_shown a n = lines_from (word_of m s.standing.machine a) 0 n
 
   unfoldable pub tags_shown : ℕ → ℕ → List Piece
-  tags_shown a n = listed (tag_of m s.standing.machine a) 0 n
+  tags_shown a n = lines_from (tag_of m s.standing.machine a) 0 n
 
   unfoldable pub statements_shown : ℕ → ℕ → List Piece
-  statements_shown a n = listed (statement_of m s.standing.machine a) 0 n
+  statements_shown a n = lines_from (statement_of m s.standing.machine a) 0 n
 
   -- memory has at most one block for each of its words
   unfoldable pub blocks_shown : List Piece
@@ -102,20 +102,20 @@ module _ {S T : Type 0} (eq : T → T → Bool) (m : PolicyModel T S) (s : Sessi
   -- a line for each command
   unfoldable pub reply_to : Command → Reply S T
   reply_to command.Blank = silent s
-  reply_to (command.Step h n) = checked s (is_hart s h) (running n (only h))
+  reply_to (command.Step h n) = reply_if s (is_hart s h) (running n (only h))
   reply_to (command.Run n) = running n (rounds_from 0)
-  reply_to (command.Turns harts) = checked s (list_all (is_hart s) harts) (running (length harts) (listed_harts harts))
+  reply_to (command.Turns harts) = reply_if s (list_all (is_hart s) harts) (running (length harts) (listed_harts harts))
   reply_to (command.Feed bytes) = feeding s bytes
-  reply_to (command.Regs h) = checked s (is_hart s h) (telling s (registers_shown h))
-  reply_to (command.Pc h) = checked s (is_hart s h) (telling s (pc_shown h))
-  reply_to (command.Mem a n) = checked s (is_range s a n) (telling s (words_shown a n))
-  reply_to (command.Tags a n) = checked s (is_range s a n) (telling s (tags_shown a n))
-  reply_to (command.Dis a n) = checked s (is_range s a n) (telling s (statements_shown a n))
-  reply_to (command.Why h) = checked s (is_hart s h) (telling s (why_shown h))
+  reply_to (command.Regs h) = reply_if s (is_hart s h) (telling s (registers_shown h))
+  reply_to (command.Pc h) = reply_if s (is_hart s h) (telling s (pc_shown h))
+  reply_to (command.Mem a n) = reply_if s (is_range s a n) (telling s (words_shown a n))
+  reply_to (command.Tags a n) = reply_if s (is_range s a n) (telling s (tags_shown a n))
+  reply_to (command.Dis a n) = reply_if s (is_range s a n) (telling s (statements_shown a n))
+  reply_to (command.Why h) = reply_if s (is_hart s h) (telling s (why_shown h))
   reply_to command.Blocks = telling s blocks_shown
   reply_to command.Stats = telling s stats_shown
-  reply_to (command.Break a) = checked s (is_place s a) (breaking s a)
-  reply_to (command.Clear a) = checked s (is_place s a) (clearing s a)
+  reply_to (command.Break a) = reply_if s (is_place s a) (breaking s a)
+  reply_to (command.Clear a) = reply_if s (is_place s a) (clearing s a)
   reply_to command.Reset = restarting s
   reply_to command.Quit = silent s
 

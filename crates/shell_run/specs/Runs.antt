@@ -12,16 +12,16 @@ use Rattle.shell_run.specs.Session.{SessionState, is_hart}
 module _ {S T : Type 0} (eq : T → T → Bool) (m : PolicyModel T S) where
   module _ (s : SessionState S T) where
     -- the turns of a command that are counted
-    abbrev pub turned : ℕ → Order → List Item
-    turned budget order = map turn (turns eq m s.breaks budget order s.standing s.feed).harts
+    abbrev pub counted_turns : ℕ → Order → List Item
+    counted_turns budget order = map turn (turns eq m s.breaks budget order s.standing s.feed).harts
 
     abbrev pub turned_if : Bool → ℕ → Order → List Item
-    turned_if test budget order = if test then turned budget order else []
+    turned_if test budget order = if test then counted_turns budget order else []
 
     -- The turns and the fed bytes since the start, in their order, where these came before the command. A reset begins anew.
     abbrev pub items_after : List Item → Command → List Item
     items_after items (command.Step h n) = items ++ turned_if (is_hart s h) n (only h)
-    items_after items (command.Run n) = items ++ turned n (rounds_from 0)
+    items_after items (command.Run n) = items ++ counted_turns n (rounds_from 0)
     items_after items (command.Turns harts) = items ++ turned_if (list_all (is_hart s) harts) (length harts) (listed harts)
     items_after items (command.Feed bytes) = items ++ map fed bytes
     items_after items command.Reset = []

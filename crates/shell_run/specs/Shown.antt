@@ -7,13 +7,13 @@ use Rattle.tag_memory.specs.Ram.{ram_tag, ram_word}
 use Rattle.tag_text.specs.Texts.{stop_line}
 use Rattle.turn_steps.specs.declared.stop.Stop.{Stop}
 use Rattle.engine_trait.specs.Machine.{Machine, hart_at}
-use Rattle.asm_show.specs.Listing.{listed as listed_word}
+use Rattle.asm_show.specs.Listing.{listing_line as listed_word}
 use Rattle.shell_run.specs.Lines.{block_line, pc_line, ready_line, register_line, tag_line, word_line}
 
 -- so many lines, one for each number from one on
-unfoldable pub listed : (ℕ → List ℕ) → ℕ → ℕ → List Piece
-listed line_of from zero = []
-listed line_of from (suc count) = out (line_of from) ∷ listed line_of (from + 1) count
+unfoldable pub lines_from : (ℕ → List ℕ) → ℕ → ℕ → List Piece
+lines_from line_of from zero = []
+lines_from line_of from (suc count) = out (line_of from) ∷ lines_from line_of (from + 1) count
 
 -- why a hart stopped, or that it is ready
 abbrev pub why_line : ℕ → Option Stop → List ℕ

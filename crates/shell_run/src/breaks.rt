@@ -2,7 +2,7 @@
 
 ghost use Rattle.std.specs.Prelude.{◌≡◌, IfErr, OnOk};
 ghost use Rattle.shell_turns.specs.Cuts.{ObeyCause, PutsOut};
-ghost use Rattle.shell_run.specs.Replies.{breaking, checked, clearing};
+ghost use Rattle.shell_run.specs.Replies.{breaking, reply_if, clearing};
 ghost use Rattle.shell_run.specs.Session.{is_place};
 
 use crate::session::Session;
@@ -32,9 +32,9 @@ impl<L: Loader> Session<L> {
     /// `break A`: a breakpoint at the address of a word.
     pub(crate) fn set_break<K: Sink>(&mut self, address: u32, out: &mut K) -> Result<(), ObeyEnd>
         ensures after { OnOk result (self.new
-            ≡ (checked self.old (is_place self.old address) (breaking self.old address)).after) }
+            ≡ (reply_if self.old (is_place self.old address) (breaking self.old address)).after) }
         ensures puts { PutsOut (K.taken out.old) (K.taken out.new)
-            (checked self.old (is_place self.old address) (breaking self.old address)).pieces
+            (reply_if self.old (is_place self.old address) (breaking self.old address)).pieces
             result }
         ensures cause { ObeyCause (K.faults out.old) (K.faults out.new) result }
         ensures cut { IfErr result (λ end. self.new ≡ self.old) }
@@ -49,9 +49,9 @@ impl<L: Loader> Session<L> {
     #[tactic(auto, using(shell_turns::proofs::PutLemmas::puts_nothing))]
     pub(crate) fn clear_break<K: Sink>(&mut self, address: u32, out: &mut K) -> Result<(), ObeyEnd>
         ensures after { OnOk result (self.new
-            ≡ (checked self.old (is_place self.old address) (clearing self.old address)).after) }
+            ≡ (reply_if self.old (is_place self.old address) (clearing self.old address)).after) }
         ensures puts { PutsOut (K.taken out.old) (K.taken out.new)
-            (checked self.old (is_place self.old address) (clearing self.old address)).pieces
+            (reply_if self.old (is_place self.old address) (clearing self.old address)).pieces
             result }
         ensures cause { ObeyCause (K.faults out.old) (K.faults out.new) result }
         ensures cut { IfErr result (λ end. self.new ≡ self.old) }

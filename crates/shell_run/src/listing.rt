@@ -5,7 +5,7 @@ ghost use Rattle.host_io.specs.Pieces.{out as piece};
 ghost use Rattle.tag_memory.specs.Ram.{ram_bytes};
 ghost use Rattle.shell_turns.specs.Cuts.{ObeyCause, PutsOut};
 ghost use Rattle.shell_run.specs.Listings.{AreThere, line_of};
-ghost use Rattle.shell_run.specs.Shown.{blocks, listed};
+ghost use Rattle.shell_run.specs.Shown.{blocks, lines_from};
 
 use crate::texts::{put_block, put_register, put_statement, put_tag, put_word};
 use engine_trait::Engine;
@@ -70,7 +70,7 @@ pub(crate) fn put_listing<E: Engine, K: Sink>(
     requires there { AreThere (E.standing engine.now).machine.core listing count }
     requires longest { E.P.longest ≤ 460 }
     ensures puts { PutsOut (K.taken out.old) (K.taken out.new)
-        (listed (line_of E.P.model (E.standing engine.now).machine listing) 0 count) result }
+        (lines_from (line_of E.P.model (E.standing engine.now).machine listing) 0 count) result }
     ensures cause { ObeyCause (K.faults out.old) (K.faults out.new) result }
 {
     for k in 0..count {

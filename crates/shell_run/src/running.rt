@@ -4,7 +4,7 @@ ghost use Rattle.std.specs.Prelude.{◌≡◌, ◌≤◌, IfErr, OnOk, Some, len
 ghost use Rattle.std.specs.List.{list_all};
 ghost use Rattle.shell_turns.specs.Cuts.{ObeyCause, PutsOut};
 ghost use Rattle.shell_turns.specs.Order.{AreHarts, listed, only, order_of};
-ghost use Rattle.shell_run.specs.Replies.{IsCut, checked, feeding, restarting, running};
+ghost use Rattle.shell_run.specs.Replies.{IsCut, reply_if, feeding, restarting, running};
 ghost use Rattle.shell_run.specs.Session.{is_hart};
 
 use crate::session::Session;
@@ -40,10 +40,10 @@ impl<L: Loader> Session<L> {
     /// `step H N`: at most `N` turns of hart `H`.
     #[tactic(auto, using(crate::proofs::SessionLemmas::stands_still))]
     pub(crate) fn step<K: Sink>(&mut self, h: u32, budget: u32, out: &mut K) -> Result<(), ObeyEnd>
-        ensures after { OnOk result (self.new ≡ (checked self.old (is_hart self.old h)
+        ensures after { OnOk result (self.new ≡ (reply_if self.old (is_hart self.old h)
             (running L.E.P.Tag.eq L.E.P.model self.old budget (only h))).after) }
         ensures puts { PutsOut (K.taken out.old) (K.taken out.new)
-            (checked self.old (is_hart self.old h)
+            (reply_if self.old (is_hart self.old h)
             (running L.E.P.Tag.eq L.E.P.model self.old budget (only h))).pieces result }
         ensures cause { ObeyCause (K.faults out.old) (K.faults out.new) result }
         ensures cut { IfErr result (λ end. IsCut L.E.P.Tag.eq L.E.P.model self.old
@@ -59,12 +59,12 @@ impl<L: Loader> Session<L> {
     #[tactic(auto, using(crate::proofs::SessionLemmas::stands_still))]
     pub(crate) fn turns<K: Sink>(&mut self, harts: &[u8], out: &mut K) -> Result<(), ObeyEnd>
         requires { length harts.now ≤ 256 }
-        ensures after { OnOk result (self.new ≡ (checked self.old (list_all
+        ensures after { OnOk result (self.new ≡ (reply_if self.old (list_all
             (is_hart self.old) harts.now)
             (running L.E.P.Tag.eq L.E.P.model self.old (length harts.now)
             (listed harts.now))).after) }
         ensures puts { PutsOut (K.taken out.old) (K.taken out.new)
-            (checked self.old (list_all (is_hart self.old) harts.now)
+            (reply_if self.old (list_all (is_hart self.old) harts.now)
             (running L.E.P.Tag.eq L.E.P.model self.old (length harts.now)
             (listed harts.now))).pieces
             result }

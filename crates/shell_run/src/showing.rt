@@ -4,7 +4,7 @@ ghost use Rattle.std.specs.Prelude.{◌≡◌, ◌∷◌, []};
 ghost use Rattle.host_io.specs.Pieces.{out as piece};
 ghost use Rattle.shell_turns.specs.Cuts.{ObeyCause, PutsOut};
 ghost use Rattle.shell_run.specs.Lines.{refusal_line};
-ghost use Rattle.shell_run.specs.Replies.{blocks_shown, checked, pc_shown, registers_shown, statements_shown, stats_shown, tags_shown, telling, why_shown, words_shown};
+ghost use Rattle.shell_run.specs.Replies.{blocks_shown, reply_if, pc_shown, registers_shown, statements_shown, stats_shown, tags_shown, telling, why_shown, words_shown};
 ghost use Rattle.shell_run.specs.Session.{is_hart, is_range};
 
 use crate::listing::{Listing, put_blocks, put_listing};
@@ -31,7 +31,7 @@ impl<L: Loader> Session<L> {
     #[tactic(auto, unfolding(crate::specs::Replies::registers_shown))]
     pub(crate) fn registers<K: Sink>(&self, h: u32, out: &mut K) -> Result<(), ObeyEnd>
         ensures puts { PutsOut (K.taken out.old) (K.taken out.new)
-            (checked self.now (is_hart self.now h)
+            (reply_if self.now (is_hart self.now h)
             (telling self.now (registers_shown L.E.P.Tag.eq L.E.P.model self.now h))).pieces
             result }
         ensures cause { ObeyCause (K.faults out.old) (K.faults out.new) result }
@@ -45,7 +45,7 @@ impl<L: Loader> Session<L> {
     /// `pc H`: the pc of hart `H`.
     pub(crate) fn pc<K: Sink>(&self, h: u32, out: &mut K) -> Result<(), ObeyEnd>
         ensures puts { PutsOut (K.taken out.old) (K.taken out.new)
-            (checked self.now (is_hart self.now h)
+            (reply_if self.now (is_hart self.now h)
             (telling self.now (pc_shown L.E.P.Tag.eq L.E.P.model self.now h))).pieces result }
         ensures cause { ObeyCause (K.faults out.old) (K.faults out.new) result }
     {
@@ -69,7 +69,7 @@ impl<L: Loader> Session<L> {
         out: &mut K,
     ) -> Result<(), ObeyEnd>
         ensures puts { PutsOut (K.taken out.old) (K.taken out.new)
-            (checked self.now (is_range self.now address count)
+            (reply_if self.now (is_range self.now address count)
             (telling self.now (words_shown L.E.P.Tag.eq L.E.P.model self.now address count))).pieces
             result }
         ensures cause { ObeyCause (K.faults out.old) (K.faults out.new) result }
@@ -84,7 +84,7 @@ impl<L: Loader> Session<L> {
     #[tactic(auto, unfolding(crate::specs::Replies::tags_shown))]
     pub(crate) fn tags<K: Sink>(&self, address: u32, count: u32, out: &mut K) -> Result<(), ObeyEnd>
         ensures puts { PutsOut (K.taken out.old) (K.taken out.new)
-            (checked self.now (is_range self.now address count)
+            (reply_if self.now (is_range self.now address count)
             (telling self.now (tags_shown L.E.P.Tag.eq L.E.P.model self.now address count))).pieces
             result }
         ensures cause { ObeyCause (K.faults out.old) (K.faults out.new) result }
@@ -104,7 +104,7 @@ impl<L: Loader> Session<L> {
         out: &mut K,
     ) -> Result<(), ObeyEnd>
         ensures puts { PutsOut (K.taken out.old) (K.taken out.new)
-            (checked self.now (is_range self.now address count)
+            (reply_if self.now (is_range self.now address count)
             (telling self.now
             (statements_shown L.E.P.Tag.eq L.E.P.model self.now address count))).pieces result }
         ensures cause { ObeyCause (K.faults out.old) (K.faults out.new) result }
@@ -118,7 +118,7 @@ impl<L: Loader> Session<L> {
     /// `why H`: that hart `H` is ready, or why it stopped.
     pub(crate) fn why<K: Sink>(&self, h: u32, out: &mut K) -> Result<(), ObeyEnd>
         ensures puts { PutsOut (K.taken out.old) (K.taken out.new)
-            (checked self.now (is_hart self.now h)
+            (reply_if self.now (is_hart self.now h)
             (telling self.now (why_shown L.E.P.Tag.eq L.E.P.model self.now h))).pieces result }
         ensures cause { ObeyCause (K.faults out.old) (K.faults out.new) result }
     {

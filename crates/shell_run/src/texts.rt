@@ -3,7 +3,7 @@
 ghost use Rattle.std.specs.Prelude.{◌≡◌, ◌+◌, ◌≤◌, ◌++◌, ◌∷◌, []};
 ghost use Rattle.arrayvec.specs.ArrayVec.{array_vec_len};
 ghost use Rattle.host_io.specs.Pieces.{out as piece};
-ghost use Rattle.asm_show.specs.Listing.{listed};
+ghost use Rattle.asm_show.specs.Listing.{listing_line};
 ghost use Rattle.shell_turns.specs.Cuts.{ObeyCause, PutsOut};
 ghost use Rattle.shell_run.specs.Lines.{block_line, or_dash, pc_line, ready_line, refusal_line, register_line, stats_line, tag_line, turns_line, word_line};
 
@@ -114,7 +114,7 @@ pub(crate) fn put_tag<P: Policy, K: Sink>(
 /// Puts an address, the word there, and the statement of assembler source that stands for it.
 pub(crate) fn put_statement<K: Sink>(address: u32, word: u32, out: &mut K) -> Result<(), ObeyEnd>
     ensures puts { PutsOut (K.taken out.old) (K.taken out.new)
-        (piece (listed address word) ∷ []) result }
+        (piece (listing_line address word) ∷ []) result }
     ensures cause { ObeyCause (K.faults out.old) (K.faults out.new) result }
 {
     let mut line = Line::new();

@@ -6,10 +6,10 @@ use Rattle.shell_lang.specs.Grammar.{Answer}
 use Rattle.shell_run.specs.Runs.{IsAlong}
 use Rattle.shell_run.specs.Session.{SessionState}
 use Rattle.shell_run.proofs.RunLemmas.{goes_on}
-use Rattle.shell_script.specs.Scripts.{Script, answered, behind, items_along, items_of, script}
+use Rattle.shell_script.specs.Scripts.{Script, script_of_answer, behind, items_along, items_of, script}
 
 module _ {S T : Type 0} (eq : T → T → Bool) (m : PolicyModel T S) where
-  line_goes : (s : SessionState S T) (items : List Item) (line : Answer) → IsAlong eq m s items → IsAlong eq m (answered eq m s line).after (items_of eq m s items line)
+  line_goes : (s : SessionState S T) (items : List Item) (line : Answer) → IsAlong eq m s items → IsAlong eq m (script_of_answer eq m s line).after (items_of eq m s items line)
   line_goes s items (Ok command) along = goes_on eq m s items along command
   line_goes s items (Err refusal) along = along
 
@@ -25,6 +25,6 @@ module _ {S T : Type 0} (eq : T → T → Bool) (m : PolicyModel T S) where
   script_goes s items [] along = along
   script_goes s items (line ∷ lines) along =
       let here = line_goes s items line along in
-      first_goes (answered eq m s line).quits (answered eq m s line) (script eq m (answered eq m s line).after lines) (items_of eq m s items line)
-      (items_along eq m (answered eq m s line).after (items_of eq m s items line) lines) here
-      (script_goes (answered eq m s line).after (items_of eq m s items line) lines here)
+      first_goes (script_of_answer eq m s line).quits (script_of_answer eq m s line) (script eq m (script_of_answer eq m s line).after lines) (items_of eq m s items line)
+      (items_along eq m (script_of_answer eq m s line).after (items_of eq m s items line) lines) here
+      (script_goes (script_of_answer eq m s line).after (items_of eq m s items line) lines here)

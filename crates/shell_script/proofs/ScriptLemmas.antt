@@ -7,7 +7,7 @@ use Rattle.shell_turns.specs.Cuts.{PutsOut}
 use Rattle.shell_turns.specs.declared.ends.ObeyEnd.{ObeyEnd}
 use Rattle.shell_turns.proofs.PutLemmas.{Ends as Putting, fails, gives, puts_cut_as, puts_cut_in, puts_on}
 use Rattle.shell_run.specs.Session.{SessionState}
-use Rattle.shell_script.specs.Scripts.{Ends, Script, answered, behind, followed_by, no_lines, script}
+use Rattle.shell_script.specs.Scripts.{Ends, Script, script_of_answer, behind, followed_by, no_lines, script}
 
 module _ {S T : Type 0} where
   behind_twice : (pieces more : List Piece) (t : Script S T) → behind pieces (behind more t) ≡ behind (pieces ++ more) t
@@ -50,17 +50,17 @@ module _ {S T : Type 0} (eq : T → T → Bool) (m : PolicyModel T S) where
   unfolding script
   script_none s = refl
 
-  pub script_one : (s : SessionState S T) (answer : Answer) → script eq m s (answer ∷ []) ≡ answered eq m s answer
+  pub script_one : (s : SessionState S T) (answer : Answer) → script eq m s (answer ∷ []) ≡ script_of_answer eq m s answer
   unfolding script
-  script_one s answer = alone (answered eq m s answer) (answered eq m s answer).quits refl
+  script_one s answer = alone (script_of_answer eq m s answer) (script_of_answer eq m s answer).quits refl
 
   -- some lines, and then others
   pub script_more : (s : SessionState S T) (xs ys : List Answer) → script eq m s (xs ++ ys) ≡ followed_by (script eq m s xs) (λ t. script eq m t ys)
   unfolding script
   script_more s [] ys = refl
   script_more s (x ∷ xs) ys =
-      ap (λ (others : SessionState S T → Script S T). followed_by (answered eq m s x) others) (λ j t. script_more t xs ys j)
-      ∙ follows_on (answered eq m s x) (λ t. script eq m t xs) (λ t. script eq m t ys) (answered eq m s x).quits refl
+      ap (λ (others : SessionState S T → Script S T). followed_by (script_of_answer eq m s x) others) (λ j t. script_more t xs ys j)
+      ∙ follows_on (script_of_answer eq m s x) (λ t. script eq m t xs) (λ t. script eq m t ys) (script_of_answer eq m s x).quits refl
 
   module _ (s : SessionState S T) (xs : List Answer) where
     -- a script that goes on, and the lines that come next

@@ -4,7 +4,7 @@ use Rattle.std.specs.Io.KnownBytes.{IsAtEnd, prepend_known}
 use Rattle.std.proofs.Math.Seq.{take-append-add, take-append_seam}
 use Rattle.std.proofs.lemmas.Bool.Decides.{nat_tests}
 use Rattle.std.proofs.lemmas.List.{length-append, take-append-drop, take-take, take_all}
-use Rattle.host_io.proofs.Reading.{prepend_known-append}
+use Rattle.host_io.proofs.ReadingLemmas.{prepend_known-append}
 use Rattle.policy_trait.specs.Model.{PolicyModel}
 use Rattle.shell_lang.specs.Grammar.{Answer}
 use Rattle.shell_lang.specs.Stream.{answers_along, end_answer, line_along, onto_answers}

@@ -35,13 +35,13 @@ module _ {S T : Type 0} where
 
 module _ {S T : Type 0} (eq : T → T → Bool) (m : PolicyModel T S) where
   -- a line that is refused is told by its number
-  abbrev pub answered : SessionState S T → Answer → Script S T
-  answered s (Ok command) = record { after = (reply_to eq m s command).after; pieces = (reply_to eq m s command).pieces; quits = is_quit command }
-  answered s (Err refusal) = record { after = s; pieces = out (refusal_line (number_of refusal)) ∷ []; quits = false }
+  abbrev pub script_of_answer : SessionState S T → Answer → Script S T
+  script_of_answer s (Ok command) = record { after = (reply_to eq m s command).after; pieces = (reply_to eq m s command).pieces; quits = is_quit command }
+  script_of_answer s (Err refusal) = record { after = s; pieces = out (refusal_line (number_of refusal)) ∷ []; quits = false }
 
   unfoldable pub script : SessionState S T → List Answer → Script S T
   script s [] = no_lines s
-  script s (answer ∷ answers) = followed_by (answered s answer) (λ t. script t answers)
+  script s (answer ∷ answers) = followed_by (script_of_answer s answer) (λ t. script t answers)
 
   -- the turns and fed bytes since the start or the last reset, after some lines, where these came before
   abbrev pub items_of : SessionState S T → List Item → Answer → List Item
@@ -51,4 +51,4 @@ module _ {S T : Type 0} (eq : T → T → Bool) (m : PolicyModel T S) where
   abbrev pub items_along : SessionState S T → List Item → List Answer → List Item
   items_along s items [] = items
   items_along s items (answer ∷ answers) =
-      if (answered s answer).quits then items_of s items answer else items_along (answered s answer).after (items_of s items answer) answers
+      if (script_of_answer s answer).quits then items_of s items answer else items_along (script_of_answer s answer).after (items_of s items answer) answers

@@ -3,7 +3,7 @@
 ghost use Rattle.std.specs.Prelude.{◌≡◌, [], IfOk, None, OnOk, false};
 ghost use Rattle.shell_lang.specs.Stream.{answers_along, end_answer, line_along, onto_answers};
 ghost use Rattle.shell_turns.specs.Cuts.{ObeyCause, PutsOut};
-ghost use Rattle.shell_script.specs.Scripts.{Ends, answered, script};
+ghost use Rattle.shell_script.specs.Scripts.{Ends, script_of_answer, script};
 
 use engine_trait::Loader;
 use host_io::Sink;
@@ -18,9 +18,9 @@ fn obey_line<L: Loader, K: Sink>(
 ) -> Result<bool, ObeyEnd>
     requires { session.old.ended ≡ None }
     ensures done { IfOk result (λ quits.
-        Ends (answered L.E.P.Tag.eq L.E.P.model session.old line.now) session.new quits) }
+        Ends (script_of_answer L.E.P.Tag.eq L.E.P.model session.old line.now) session.new quits) }
     ensures puts { PutsOut (K.taken out.old) (K.taken out.new)
-        (answered L.E.P.Tag.eq L.E.P.model session.old line.now).pieces result }
+        (script_of_answer L.E.P.Tag.eq L.E.P.model session.old line.now).pieces result }
     ensures cause { ObeyCause (K.faults out.old) (K.faults out.new) result }
     ensures goes_on { OnOk result (session.new.ended ≡ None) }
 {

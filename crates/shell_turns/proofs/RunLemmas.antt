@@ -2,14 +2,14 @@
 use Rattle.std.proofs.Common.{◌≡◌, ℕ, zero, suc, ◌≤◌, Bool, true, false, List, [], ◌∷◌, ◌++◌, length, map, Some, None, if◌then◌else◌, refl, ◌∙◌, arith}
 use Rattle.std.proofs.lemmas.List.{length-append}
 use Rattle.policy_trait.specs.Model.{PolicyModel}
-use Rattle.engine_trait.specs.Laws.{is_made}
+use Rattle.engine_trait.specs.EngineLaws.{is_made}
 use Rattle.engine_trait.specs.Runs.{run_along, turn}
 use Rattle.engine_trait.specs.Standing.{Standing, Stepped, step}
 use Rattle.engine_trait.proofs.StepLemmas.{step_follows}
 use Rattle.rounds.proofs.RunLemmas.{unmade_stays}
 use Rattle.shell_turns.specs.Order.{Next, Order, next_of}
 use Rattle.shell_turns.specs.Runs.{EndsAs}
-use Rattle.shell_turns.specs.Told.{counted, is_last}
+use Rattle.shell_turns.specs.Told.{counted_harts, is_last}
 use Rattle.shell_turns.specs.Turns.{Turns, going_on, no_turns, pc_after, then_others, turns}
 
 module _ {S T : Type 0} (eq : T → T → Bool) (m : PolicyModel T S) (breaks : List ℕ) where
@@ -83,7 +83,7 @@ module _ {S T : Type 0} (eq : T → T → Bool) (m : PolicyModel T S) (breaks : 
   one_few n h s others few =
       let last = is_last breaks (pc_after h s) s.ended in
       let rest = (if last then no_turns s.standing s.feed else others).harts in
-      let all = length-append (counted h s.ended) rest in
+      let all = length-append (counted_harts h s.ended) rest in
       let one = few_counted h (is_made s.ended) in
       let more = rest_few n last s.standing s.feed others few in
       omega (arith, all, one, more)

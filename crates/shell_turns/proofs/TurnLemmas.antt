@@ -5,7 +5,7 @@ use Rattle.policy_trait.specs.Model.{PolicyModel}
 use Rattle.engine_trait.specs.Standing.{Standing, Stepped, step}
 use Rattle.shell_turns.specs.Cuts.{PutsOut, StandsAt, StandsIn, StandsOn}
 use Rattle.shell_turns.specs.Order.{Order, next_of}
-use Rattle.shell_turns.specs.Told.{counted, is_last}
+use Rattle.shell_turns.specs.Told.{counted_harts, is_last}
 use Rattle.shell_turns.specs.Turns.{Leaves, Turns, behind, going_on, no_turns, pc_after, step_pieces, then_others, turns}
 use Rattle.shell_turns.specs.declared.ends.ObeyEnd.{ObeyEnd}
 use Rattle.shell_turns.proofs.PutLemmas.{done, fails, gives, puts_as, puts_cut_in, puts_on}
@@ -100,7 +100,7 @@ module _ {S T : Type 0} (eq : T → T → Bool) (m : PolicyModel T S) (breaks : 
       told = pieces ++ step_pieces breaks h stepped
 
       abbrev made : List ℕ
-      made = harts ++ counted h stepped.ended
+      made = harts ++ counted_harts h stepped.ended
 
       abbrev others : ℕ → Turns S T
       others more = turns eq m breaks more rest stepped.standing stepped.feed
@@ -111,7 +111,7 @@ module _ {S T : Type 0} (eq : T → T → Bool) (m : PolicyModel T S) (breaks : 
       one_more : (more : ℕ) → turns eq m breaks (begun + suc more) first start fed ≡ behind told made (after (is_last breaks (pc_after h stepped) stepped.ended) more)
       one_more more =
           way (suc more) ∙ ap (behind pieces harts) (turns-some eq m breaks more order e feed h rest some)
-          ∙ behind_twice pieces (step_pieces breaks h stepped) harts (counted h stepped.ended) (after (is_last breaks (pc_after h stepped) stepped.ended) more)
+          ∙ behind_twice pieces (step_pieces breaks h stepped) harts (counted_harts h stepped.ended) (after (is_last breaks (pc_after h stepped) stepped.ended) more)
 
       all_of : (all : ℕ) → begun < all → turns eq m breaks all first start fed ≡ behind told made (after (is_last breaks (pc_after h stepped) stepped.ended) (all - (begun + 1)))
       all_of all below =

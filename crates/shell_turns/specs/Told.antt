@@ -5,7 +5,7 @@ use Rattle.std.specs.List.{list_any}
 use Rattle.pump_words.specs.Texts.{hex2_text, hex8_text}
 use Rattle.host_io.specs.Pieces.{Piece, out}
 use Rattle.tag_text.specs.Texts.{line, stop_line}
-use Rattle.engine_trait.specs.Laws.{is_made}
+use Rattle.engine_trait.specs.EngineLaws.{is_made}
 use Rattle.engine_trait.specs.declared.ends.TurnEnd.{TurnEnd}
 use Rattle.engine_trait.specs.declared.ends.TurnEnd.TheVariants as ends
 
@@ -56,5 +56,5 @@ abbrev pub is_last : List ℕ → ℕ → TurnEnd → Bool
 is_last breaks pc ended = is_break breaks pc ended || is_out ended
 
 -- the harts of the turns that are counted: an idle one is not, nor one that ran out of tag words
-abbrev pub counted : ℕ → TurnEnd → List ℕ
-counted h ended = if is_made ended then h ∷ [] else []
+abbrev pub counted_harts : ℕ → TurnEnd → List ℕ
+counted_harts h ended = if is_made ended then h ∷ [] else []

@@ -5,7 +5,7 @@ use Rattle.policy_trait.specs.Model.{PolicyModel}
 use Rattle.engine_trait.specs.Machine.{hart_at}
 use Rattle.engine_trait.specs.Standing.{Standing, Stepped, step}
 use Rattle.shell_turns.specs.Order.{Next, Order, next_of}
-use Rattle.shell_turns.specs.Told.{break_pieces, counted, end_pieces, is_break, is_last}
+use Rattle.shell_turns.specs.Told.{break_pieces, counted_harts, end_pieces, is_break, is_last}
 
 -- after some turns: the standing and the feed; what the turns tell; and the harts of those that were counted, in their order
 pub record Turns (S T : Type 0) : Type 0 where
@@ -33,7 +33,7 @@ module _ {S T : Type 0} where
   -- a turn of hart h, and then the others, unless the command ends with it
   abbrev pub then_others : List ℕ → ℕ → Stepped S T → Turns S T → Turns S T
   then_others breaks h stepped others =
-      behind (step_pieces breaks h stepped) (counted h stepped.ended)
+      behind (step_pieces breaks h stepped) (counted_harts h stepped.ended)
       (if is_last breaks (pc_after h stepped) stepped.ended then no_turns stepped.standing stepped.feed else others)
 
   abbrev pub going_on : Next → Turns S T → (ℕ → Order → Turns S T) → Turns S T
@@ -44,7 +44,7 @@ module _ {S T : Type 0} where
 pub record Leaves {S T : Type 0} (turns : Turns S T) (e : Standing S T) (fed : List ℕ) (counted : ℕ) : Type 0 where
   pub standing : e ≡ turns.standing
   pub feed : fed ≡ turns.feed
-  pub count : counted ≡ length turns.harts
+  pub count : counted_harts ≡ length turns.harts
 
 module _ {S T : Type 0} (eq : T → T → Bool) (m : PolicyModel T S) (breaks : List ℕ) where
   -- At most so many turns, in this order. They end early at a break, where no turn is next, and where the engine runs out of

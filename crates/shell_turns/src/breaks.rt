@@ -1,7 +1,7 @@
 //! Which turns are counted, which are breaks, and where a command ends.
 
 ghost use Rattle.std.specs.Prelude.{◌≡◌, ℕ, ◌≤◌, length};
-ghost use Rattle.shell_turns.specs.Told.{counted, is_break, is_last};
+ghost use Rattle.shell_turns.specs.Told.{counted_harts, is_break, is_last};
 
 use engine_trait::TurnEnd;
 
@@ -25,7 +25,7 @@ pub(crate) fn is_last(breaks: &[u32], pc: u32, end: TurnEnd) -> bool
 
 /// What a turn that ended so adds to the count of turns.
 pub(crate) fn count_of(end: TurnEnd) -> u32
-    ensures count { (h : ℕ) → result ≡ length (counted h end) }
+    ensures count { (h : ℕ) → result ≡ length (counted_harts h end) }
     ensures few { result ≤ 1 }
 {
     match end {

@@ -27,8 +27,8 @@ module _ {T : Type 0} where
   empty_table limit = record { tags = []; limit = limit }
 
   -- the table with a tag, which goes to the end where it is new
-  abbrev pub interned : (T → T → Bool) → TableState T → T → TableState T
-  interned eq table tag = record table { tags = with_tag eq table.tags tag }
+  abbrev pub table_after : (T → T → Bool) → TableState T → T → TableState T
+  table_after eq table tag = record table { tags = with_tag eq table.tags tag }
 
   -- the table with its first tags alone
   abbrev pub cut_to : TableState T → ℕ → TableState T

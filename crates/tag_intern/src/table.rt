@@ -2,7 +2,7 @@
 
 ghost use Rattle.std.specs.Prelude.{◌≡◌, ℕ, ◌<◌, ◌≤◌, ◌↔◌, Contains, Err, IfOk, IsNone, IsOk, OnErr, OnOk, Some, length, slice_get};
 ghost use Rattle.engine_trait.specs.Accounts.{with_tag};
-ghost use Rattle.tag_intern.specs.Table.{Extends, IsTable, cut_to, empty_table, interned};
+ghost use Rattle.tag_intern.specs.Table.{Extends, IsTable, cut_to, empty_table, table_after};
 
 use pump_words::Same;
 use std::alloc::Global;
@@ -51,7 +51,7 @@ pub trait TagTable: Drop {
     fn intern(&mut self, tag: Self::Tag) -> Result<u32, InternEnd>
         ensures word { IfOk result (λ word. slice_get (state self.new).tags word ≡ Some tag) }
         ensures grown { OnOk result (state self.new
-            ≡ interned Self.Tag.eq (state self.old) tag) }
+            ≡ table_after Self.Tag.eq (state self.old) tag) }
         ensures known { Contains (state self.old).tags tag → IsOk result }
         ensures full { (result ≡ Err InternEnd.Full)
             ↔ ((length (state self.old).tags ≡ (state self.old).limit)

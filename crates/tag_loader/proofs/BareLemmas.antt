@@ -4,9 +4,9 @@ use Rattle.std.specs.List.{range_with_len}
 use Rattle.image_format.specs.Picture.{Picture}
 use Rattle.policy_trait.specs.Mirrors.{Mirrors}
 use Rattle.policy_trait.specs.Model.{PolicyModel}
-use Rattle.policy_choice.specs.All.{all, chosen}
+use Rattle.policy_choice.specs.All.{all, choice_state}
 use Rattle.policy_choice.specs.Choice.{is_none}
-use Rattle.policy_product.specs.Nothing.{nothing, untagged}
+use Rattle.policy_product.specs.Nothing.{nothing, no_tag}
 use Rattle.policy_choice.proofs.NothingLemmas.{nothing_mirrors}
 use Rattle.policy_choice.specs.declared.choice.Choice.{Choice}
 use Rattle.tag_memory.specs.Hart.{fresh_hart}
@@ -41,11 +41,11 @@ module _ {S T U V : Type 0} (f : T → U) (m : PolicyModel T S) (s : S) (n : Pol
     ram = record { words = (start_machine n t g).core.ram.words; tags = start_tags_by j; plain = mirrors.plain j };
   }
 
-pub bare_start_mirrors : (choice : Choice) (g : Picture) → is_none choice ≡ true → IsMirrored untagged all nothing (start_of choice g) (bare_start_of g)
+pub bare_start_mirrors : (choice : Choice) (g : Picture) → is_none choice ≡ true → IsMirrored no_tag all nothing (start_of choice g) (bare_start_of g)
 unfolding start_machine
 bare_start_mirrors choice g none = record {
   policy = nothing_mirrors choice g (record {}) none;
-  core = start_core_by untagged all (chosen choice g) nothing (record {}) (nothing_mirrors choice g (record {}) none) g;
+  core = start_core_by no_tag all (choice_state choice g) nothing (record {}) (nothing_mirrors choice g (record {}) none) g;
   halt = refl;
   uncached = record { capacity = refl; seen = refl; kept = refl };
   mirror_uncached = record { capacity = refl; seen = refl; kept = refl };

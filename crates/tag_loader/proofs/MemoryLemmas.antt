@@ -9,16 +9,16 @@ use Rattle.std.proofs.lemmas.Option.{slice_get-get_or}
 use Rattle.image_format.specs.Picture.{Picture, Segment}
 use Rattle.image_format.specs.declared.rows.WordRange.{WordRange}
 use Rattle.image_format.specs.Conditions.{IsImage, are_rows, extent_of, in_order, is_clear_of, is_segment, is_range, is_aligned, is_word_count, is_u32}
-use Rattle.tag_loader.specs.Start.{memory_of, overwritten, with_segments}
+use Rattle.tag_loader.specs.Start.{memory_of, words_over, with_segments}
 use Rattle.tag_loader.specs.Memory.{HoldsWords, LiesOutside, WordAt}
 
 -- ---- words put over others
 
-length-overwritten : (memory : List ℕ) (place : ℕ) (words : List ℕ) → place + length words ≤ length memory → length (overwritten memory place words) ≡ length memory
+length-overwritten : (memory : List ℕ) (place : ℕ) (words : List ℕ) → place + length words ≤ length memory → length (words_over memory place words) ≡ length memory
 length-overwritten memory place words fits = simp (length-append, length-take, length-drop) (omega arith)
 
 -- a word that was put there
-get_or-overwritten_inside : (memory : List ℕ) (place : ℕ) (words : List ℕ) (k : ℕ) → place + length words ≤ length memory → k < length words → get_or (overwritten memory place words) (place + k) 0 ≡ get_or words k 0
+get_or-overwritten_inside : (memory : List ℕ) (place : ℕ) (words : List ℕ) (k : ℕ) → place + length words ≤ length memory → k < length words → get_or (words_over memory place words) (place + k) 0 ≡ get_or words k 0
 get_or-overwritten_inside memory place words k fits lt =
     let rest : List ℕ = drop (place + length words) memory in
     let k_is : place + k - place ≡ k = omega arith in
@@ -27,7 +27,7 @@ get_or-overwritten_inside memory place words k fits lt =
     ∙ get_or_append_left words rest 0 k lt
 
 -- a word that stays
-get_or-overwritten_outside : (memory : List ℕ) (place : ℕ) (words : List ℕ) (n : ℕ) → place + length words ≤ length memory → (n < place) ⊎ (place + length words ≤ n) → get_or (overwritten memory place words) n 0 ≡ get_or memory n 0
+get_or-overwritten_outside : (memory : List ℕ) (place : ℕ) (words : List ℕ) (n : ℕ) → place + length words ≤ length memory → (n < place) ⊎ (place + length words ≤ n) → get_or (words_over memory place words) n 0 ≡ get_or memory n 0
 get_or-overwritten_outside memory place words n fits (inl before) =
     let front_len : length (take place memory) ≡ place = length-take-le place memory (omega arith) in
     get_or_append_left (take place memory) (words ++ drop (place + length words) memory) 0 n (omega arith)
@@ -98,14 +98,14 @@ ReadsWords memory segment = (k : ℕ) → k < length segment.words → get_or me
 length-with_segments : (size low : ℕ) (memory : List ℕ) (segments : List Segment) → length memory ≡ size → IsAscending size low segments → length (with_segments memory segments) ≡ size
 length-with_segments size low memory [] len up = len
 length-with_segments size low memory (segment ∷ segments) len up =
-    length-with_segments size (segment.address / 4 + length segment.words) (overwritten memory (segment.address / 4) segment.words) segments
+    length-with_segments size (segment.address / 4 + length segment.words) (words_over memory (segment.address / 4) segment.words) segments
     (length-overwritten memory (segment.address / 4) segment.words (omega arith) ∙ len) up.2
 
 -- a word outside all segments stays
 get_or-with_segments : (size low : ℕ) (memory : List ℕ) (segments : List Segment) (n : ℕ) → length memory ≡ size → IsAscending size low segments → All (LiesOutside n) segments → get_or (with_segments memory segments) n 0 ≡ get_or memory n 0
 get_or-with_segments size low memory [] n len up outside = refl
 get_or-with_segments size low memory (segment ∷ segments) n len up outside =
-    get_or-with_segments size (segment.address / 4 + length segment.words) (overwritten memory (segment.address / 4) segment.words) segments n
+    get_or-with_segments size (segment.address / 4 + length segment.words) (words_over memory (segment.address / 4) segment.words) segments n
     (length-overwritten memory (segment.address / 4) segment.words (omega arith) ∙ len) up.2 (All-tail (LiesOutside n) segment segments outside)
     ∙ get_or-overwritten_outside memory (segment.address / 4) segment.words n (omega arith) (All-head (LiesOutside n) segment segments outside)
 
@@ -115,7 +115,7 @@ all_read size low memory [] len up = All-nil (ReadsWords memory)
 all_read size low memory (segment ∷ segments) len up =
     let place : ℕ = segment.address / 4 in
     let words : List ℕ = segment.words in
-    let over : List ℕ = overwritten memory place words in
+    let over : List ℕ = words_over memory place words in
     let over_len : length over ≡ size = length-overwritten memory place words (omega arith) ∙ len in
     let first : ReadsWords (with_segments over segments) segment =
     λ k lt.

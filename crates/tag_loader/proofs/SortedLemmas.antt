@@ -6,12 +6,12 @@ use Rattle.std.proofs.lemmas.Bool.{cases_lt, leb-false, leb-true, ltb-true}
 use Rattle.std.proofs.Math.Bool.{and-false}
 use Rattle.std.proofs.lemmas.Bool.Decides.{nat_tests}
 use Rattle.image_format.specs.Conditions.{IsList, are_rows, in_order, is_clear_of, is_compartment, is_compartment_after, is_label, is_label_after, is_range, whole}
-use Rattle.image_format.proofs.FieldLaws.{both}
+use Rattle.image_format.proofs.FieldLemmas.{both}
 use Rattle.image_format.specs.declared.rows.CompartmentRange.{CompartmentRange}
 use Rattle.image_format.specs.declared.rows.Label.{Label}
 use Rattle.image_format.specs.declared.rows.WordRange.{WordRange}
 use Rattle.tag_loader.specs.Births.{is_labelled_by}
-use Rattle.tag_loader.specs.Sorted.{Ascends, BeginsUnended, holds, unended}
+use Rattle.tag_loader.specs.Sorted.{Ascends, BeginsUnended, holds, rows_past}
 
 -- ---- the first of a list that passes
 
@@ -85,35 +85,35 @@ module _ {R : Type 0} (first past : R → ℕ) where
 
     -- ---- the rows without those that have ended
 
-    ascends_if : (row : R) (rows : List R) (has_ended : Bool) → Ascends first past (unended past address rows) → Ascends first past (row ∷ rows)
-        → Ascends first past (if has_ended then unended past address rows else row ∷ rows)
+    ascends_if : (row : R) (rows : List R) (has_ended : Bool) → Ascends first past (rows_past past address rows) → Ascends first past (row ∷ rows)
+        → Ascends first past (if has_ended then rows_past past address rows else row ∷ rows)
     ascends_if row rows true others all = others
     ascends_if row rows false others all = all
 
-    pub unended-ascends : (rows : List R) → Ascends first past rows → Ascends first past (unended past address rows)
+    pub unended-ascends : (rows : List R) → Ascends first past rows → Ascends first past (rows_past past address rows)
     unended-ascends [] ascends = ascends
     unended-ascends (row ∷ rows) ascends =
         ascends_if row rows (nat_le (past row) address) (unended-ascends rows (ascends_rest row rows ascends)) ascends
 
-    begins_if : (row : R) (rows : List R) (has_ended : Bool) → nat_le (past row) address ≡ has_ended → BeginsUnended past address (unended past address rows)
-        → BeginsUnended past address (if has_ended then unended past address rows else row ∷ rows)
+    begins_if : (row : R) (rows : List R) (has_ended : Bool) → nat_le (past row) address ≡ has_ended → BeginsUnended past address (rows_past past address rows)
+        → BeginsUnended past address (if has_ended then rows_past past address rows else row ∷ rows)
     begins_if row rows true is others = others
     begins_if row rows false is others = λ d lt. leb-false _ _ is
 
-    pub unended-begins : (rows : List R) → BeginsUnended past address (unended past address rows)
+    pub unended-begins : (rows : List R) → BeginsUnended past address (rows_past past address rows)
     unended-begins [] = λ d lt. absurd (omega (arith, lt))
     unended-begins (row ∷ rows) = begins_if row rows (nat_le (past row) address) refl (unended-begins rows)
 
     module _ (at : ℕ) (from : address ≤ at) where
       finds_if : (row : R) (rows : List R) (has_ended : Bool) → nat_le (past row) address ≡ has_ended
-          → find (holds first past at) (unended past address rows) ≡ find (holds first past at) rows
-          → find (holds first past at) (if has_ended then unended past address rows else row ∷ rows) ≡ find (holds first past at) (row ∷ rows)
+          → find (holds first past at) (rows_past past address rows) ≡ find (holds first past at) rows
+          → find (holds first past at) (if has_ended then rows_past past address rows else row ∷ rows) ≡ find (holds first past at) (row ∷ rows)
       finds_if row rows true is others =
           let before : past row ≤ address = leb-true _ _ is in
           others ∙ sym (find_if (holds first past at) false row rows (ended at row (omega (arith, before, from))))
       finds_if row rows false is others = refl
 
-      pub unended-finds : (rows : List R) → find (holds first past at) (unended past address rows) ≡ find (holds first past at) rows
+      pub unended-finds : (rows : List R) → find (holds first past at) (rows_past past address rows) ≡ find (holds first past at) rows
       unended-finds [] = refl
       unended-finds (row ∷ rows) = finds_if row rows (nat_le (past row) address) refl (unended-finds rows)
 

@@ -1,6 +1,6 @@
 -- A start that can be made again and again.
 use Rattle.image_format.specs.Picture.{Picture}
-use Rattle.policy_choice.specs.All.{AllState, AllTag, all, chosen}
+use Rattle.policy_choice.specs.All.{AllState, AllTag, all, choice_state}
 use Rattle.policy_product.specs.Nothing.{nothing}
 use Rattle.policy_choice.specs.declared.choice.Choice.{Choice}
 use Rattle.policy_product.specs.declared.nothing.Nothing.{Nothing}
@@ -13,7 +13,7 @@ pub record Load : Type 0 where
 
 -- the image's start under the chosen policies
 abbrev pub start_of : Choice → Picture → Standing AllState AllTag
-start_of choice g = start_standing all (chosen choice g) g
+start_of choice g = start_standing all (choice_state choice g) g
 
 abbrev pub start_of_load : Load → Standing AllState AllTag
 start_of_load load = start_of load.choice load.image

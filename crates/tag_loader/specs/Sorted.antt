@@ -34,9 +34,9 @@ pub record Ascends {R : Type 0} (first past : R → ℕ) (rows : List R) : Type 
   pub rising : (k later : ℕ) (d : R) → k < later → later < length rows → past (slice_index_or rows k d) ≤ first (slice_index_or rows later d)
 
 -- the rows from the first on that ends behind the address
-abbrev pub unended : {R : Type 0} → (R → ℕ) → ℕ → List R → List R
-unended past address [] = []
-unended past address (row ∷ rows) = if nat_le (past row) address then unended past address rows else row ∷ rows
+abbrev pub rows_past : {R : Type 0} → (R → ℕ) → ℕ → List R → List R
+rows_past past address [] = []
+rows_past past address (row ∷ rows) = if nat_le (past row) address then rows_past past address rows else row ∷ rows
 
 -- the first row, if there is one, ends behind the address
 abbrev pub BeginsUnended : {R : Type 0} → (R → ℕ) → ℕ → List R → Type 0

@@ -11,13 +11,13 @@ use Rattle.engine_trait.specs.Standing.{Standing}
 use Rattle.tag_loader.specs.Births.{birth_of}
 
 -- words put over those from a place on
-abbrev pub overwritten : List ℕ → ℕ → List ℕ → List ℕ
-overwritten memory place words = take place memory ++ (words ++ drop (place + length words) memory)
+abbrev pub words_over : List ℕ → ℕ → List ℕ → List ℕ
+words_over memory place words = take place memory ++ (words ++ drop (place + length words) memory)
 
 -- each segment's words at its address
 abbrev pub with_segments : List ℕ → List Segment → List ℕ
 with_segments memory [] = memory
-with_segments memory (segment ∷ segments) = with_segments (overwritten memory (segment.address / 4) segment.words) segments
+with_segments memory (segment ∷ segments) = with_segments (words_over memory (segment.address / 4) segment.words) segments
 
 -- the words of the image; those outside its segments are 0
 unfoldable pub memory_of : Picture → List ℕ

@@ -1,14 +1,14 @@
 -- A walk through the lists of an image: what it leaves behind, and how far it sees.
 use Rattle.std.specs.Prelude.{ℕ, ◌+◌, ◌^◌, nat_lt, min, if◌then◌else◌}
 use Rattle.image_format.specs.Picture.{Picture}
-use Rattle.tag_loader.specs.Sorted.{first_end, label_first, label_past, owned_first, owned_past, range_first, range_past, unended}
+use Rattle.tag_loader.specs.Sorted.{first_end, label_first, label_past, owned_first, owned_past, range_first, range_past, rows_past}
 
 -- the image without the rows that end before the address or at it
 unfoldable pub from_on : Picture → ℕ → Picture
 from_on g address = record g {
-  compartments = unended owned_past address g.compartments;
-  code = unended range_past address g.code;
-  labels = unended label_past address g.labels;
+  compartments = rows_past owned_past address g.compartments;
+  code = rows_past range_past address g.code;
+  labels = rows_past label_past address g.labels;
 }
 
 -- where the heap region next begins or ends

@@ -5,7 +5,7 @@ ghost use Rattle.image_format.specs.Picture.{Picture};
 ghost use Rattle.image_format.specs.Conditions.{IsImage};
 ghost use Rattle.policy_choice.specs.All.{all};
 ghost use Rattle.policy_choice.specs.Choice.{is_none};
-ghost use Rattle.policy_product.specs.Nothing.{nothing, untagged};
+ghost use Rattle.policy_product.specs.Nothing.{nothing, no_tag};
 ghost use Rattle.policy_choice.specs.declared.choice.Choice.{Choice};
 ghost use Rattle.engine_trait.specs.Mirrored.{IsMirrored};
 ghost use Rattle.tag_loader.specs.Loads.{bare_start_of, start_of};
@@ -25,5 +25,5 @@ pub fn memory_law()
 /// but that its tags have no content. The function does nothing.
 pub fn bare_law()
     ensures { (choice : Choice) (g : Picture) → is_none choice ≡ true
-        → IsMirrored untagged all nothing (start_of choice g) (bare_start_of g) }
+        → IsMirrored no_tag all nothing (start_of choice g) (bare_start_of g) }
 {}

@@ -1,3 +1,5 @@
+//! Small programs from their images to their turns, and the words and tags of a start.
+
 use crate::births::BirthWalk;
 use crate::{BareLoad, birth};
 use engine_trait::{Engine, Feed, Loader, Stop, TurnEnd};

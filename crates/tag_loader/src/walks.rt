@@ -2,14 +2,14 @@
 
 ghost use Rattle.std.specs.Prelude.{◌≡◌, ℕ, ◌<◌, ◌≤◌};
 ghost use Rattle.std.specs.List.{find};
-ghost use Rattle.tag_loader.specs.Sorted.{Ascends, first_end, holds, unended};
+ghost use Rattle.tag_loader.specs.Sorted.{Ascends, first_end, holds, rows_past};
 
 use crate::sorted::{Placed, Run, first_run};
 use std::marker::Model;
 
 /// The rows from the first on that ends behind the address. Those before it are passed one by one.
 fn without_ended<R: Placed>(rows: &[R], address: u32) -> &[R]
-    ensures { result.now ≡ unended R.past address rows.now }
+    ensures { result.now ≡ rows_past R.past address rows.now }
 {
     let mut left = rows;
     while let [row, rest @ ..] = left {
@@ -54,8 +54,9 @@ impl<'a, R: Placed> Walk<'a, R> {
         ensures told { (at : ℕ) → address ≤ at → at < result.end →
             find (holds R.first R.past at) self.old ≡ result.value }
         ensures some { address < result.end }
-        ensures end { result.end ≡ first_end R.first R.past address (unended R.past address self.old) }
-        ensures left { self.new ≡ unended R.past address self.old }
+        ensures end { result.end
+            ≡ first_end R.first R.past address (rows_past R.past address self.old) }
+        ensures left { self.new ≡ rows_past R.past address self.old }
         ensures later { (at : ℕ) → address ≤ at →
             find (holds R.first R.past at) self.new ≡ find (holds R.first R.past at) self.old }
     {

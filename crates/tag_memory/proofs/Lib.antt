@@ -1,3 +1,4 @@
 pub mod HartLemmas
 pub mod MapLemmas
 pub mod RamLemmas
+pub mod RowLemmas

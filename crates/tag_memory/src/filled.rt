@@ -1,3 +1,5 @@
+//! Lists of one item over and over.
+
 ghost use Rattle.std.specs.Prelude.{◌≡◌, IfOk, replicate};
 
 use std::alloc::{AllocError, Global};

@@ -1,3 +1,5 @@
+//! The registers and the pc of a hart, with their tags.
+
 ghost use Rattle.std.specs.Prelude.{◌≡◌, ◌≢◌, ℕ, ◌%◌, ◌<◌, IfOk};
 ghost use Rattle.tag_memory.specs.Hart.{fresh_hart, moved_to, reg_tag, reg_value, with_reg, with_reg_tag};
 

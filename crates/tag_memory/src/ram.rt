@@ -1,3 +1,5 @@
+//! Memory, with a tag for each word.
+
 ghost use Rattle.std.specs.Prelude.{◌≡◌, ◌≢◌, ℕ, ◌+◌, ◌*◌, ◌/◌, ◌%◌, ◌≤◌, IfOk};
 ghost use Rattle.tag_memory.specs.Ram.{IsRam, fresh_ram, ram_bytes, ram_tag, ram_word, with_ram_tag, with_ram_word};
 

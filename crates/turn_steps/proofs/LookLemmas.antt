@@ -1,7 +1,8 @@
 -- What a look gives where no check fails.
 use Rattle.std.proofs.Common.{◌≡◌, ℕ, Option, Some, None, Result, Ok, Err, refl, ap, subst, ◌∙◌}
 use Rattle.policy_trait.specs.Steps.{◌>>=◌}
-use Rattle.rv_decode.specs.Decoding.{decoded}
+use Rattle.policy_trait.proofs.StepLemmas.{on_ok}
+use Rattle.rv_decode.specs.Decoding.{instr_of_word}
 use Rattle.rv_decode.specs.Groups.{a7, reads_of, result_register, writes_of}
 use Rattle.rv_decode.specs.declared.instructions.Instr.{Instr}
 use Rattle.rv_step.specs.Checks.{first_fault}
@@ -12,16 +13,11 @@ use Rattle.rv_step.specs.declared.faults.Fault.TheVariants.{Illegal}
 use Rattle.tag_memory.specs.Hart.{HartState, IsHart, reg_value}
 use Rattle.tag_memory.specs.Ram.{RamState, ram_bytes}
 use Rattle.turn_steps.specs.Effects.{IsSound, with_result, with_tagged}
-use Rattle.turn_steps.specs.Looks.{effect_at, fetched, found_or, look_at, looked, operand, passed, read_instr}
+use Rattle.turn_steps.specs.Looks.{effect_at, fetch_result, found_or, look_at, look_result, operand, effect_or_fault, read_instr}
 use Rattle.turn_steps.specs.declared.look.Look.{Look}
 use Rattle.turn_steps.proofs.PlaceLemmas.{result_is}
 
--- a step that did not fail
-on_ok : {A B E P : Type 0} (r : Result A E) (f : A → Result B E) (y : B) → (r >>= f) ≡ Ok y → ((x : A) → r ≡ Ok x → f x ≡ Ok y → P) → P
-on_ok (Ok x) f y e next = next x refl e
-on_ok (Err error) f y e next = absurd cc
-
-on_passed : {P : Type 0} (effect given : Effect) (fault : Option Fault) → passed effect fault ≡ Ok given → (fault ≡ None → effect ≡ given → P) → P
+on_passed : {P : Type 0} (effect given : Effect) (fault : Option Fault) → effect_or_fault effect fault ≡ Ok given → (fault ≡ None → effect ≡ given → P) → P
 on_passed effect given None e next = next refl cc
 on_passed effect given (Some fault) e next = absurd cc
 
@@ -40,12 +36,12 @@ effect_is : {T : Type 0} (look given : Look T) → done look ≡ done given → 
 effect_is look given e = cc
 
 -- what is looked at can be carried out: its access is in memory, and the next pc is that of a word
-pub looked_is_sound : {T : Type 0} (hart : HartState T) (ram : RamState T) (look : Look T) → IsHart hart → looked hart ram ≡ Ok look → IsSound (ram_bytes ram) look.effect
-unfolding looked
+pub looked_is_sound : {T : Type 0} (hart : HartState T) (ram : RamState T) (look : Look T) → IsHart hart → look_result hart ram ≡ Ok look → IsSound (ram_bytes ram) look.effect
+unfolding look_result
 looked_is_sound hart ram look is e =
-    on_ok (fetched hart ram) _ look e λ word word-is e1.
+    on_ok (fetch_result hart ram) _ look e λ word word-is e1.
     on_ok (read_instr word) _ look e1 λ instr instr-is e2.
-    on_ok (passed (effect_at hart instr) (first_fault (effect_at hart instr) (ram_bytes ram))) _ look e2 λ effect effect-is e3.
+    on_ok (effect_or_fault (effect_at hart instr) (first_fault (effect_at hart instr) (ram_bytes ram))) _ look e2 λ effect effect-is e3.
     on_passed (effect_at hart instr) effect (first_fault (effect_at hart instr) (ram_bytes ram)) effect-is λ none same.
     subst (IsSound (ram_bytes ram)) (same ∙ effect_is (look_at hart ram word instr effect) look e3) (sound_if_none hart ram instr is none)
 
@@ -57,18 +53,18 @@ found_is fault None given instr e is = absurd cc
 found_is fault (Some x) given instr e is = cc
 
 -- its result's register is that of its instruction's result
-register_is : {T : Type 0} (hart : HartState T) (ram : RamState T) (look : Look T) (instr : Instr) → looked hart ram ≡ Ok look → decoded look.word ≡ Some instr
+register_is : {T : Type 0} (hart : HartState T) (ram : RamState T) (look : Look T) (instr : Instr) → look_result hart ram ≡ Ok look → instr_of_word look.word ≡ Some instr
     → look.result ≡ result_register (writes_of instr look.service)
-unfolding looked
+unfolding look_result
 register_is {T} hart ram look instr e =
-    on_ok (fetched hart ram) _ look e λ word word-is e1.
+    on_ok (fetch_result hart ram) _ look e λ word word-is e1.
     on_ok (read_instr word) _ look e1 λ given given-is e2.
-    on_ok (passed (effect_at hart given) (first_fault (effect_at hart given) (ram_bytes ram))) _ look e2 λ effect effect-is e3.
-    subst (λ (l : Look T). decoded l.word ≡ Some instr → l.result ≡ result_register (writes_of instr l.service)) (look_is (look_at hart ram word given effect) look e3)
-    (λ decoded-is. ap (λ (i : Instr). result_register (writes_of i (reg_value hart a7))) (found_is (Illegal word) (decoded word) given instr given-is decoded-is))
+    on_ok (effect_or_fault (effect_at hart given) (first_fault (effect_at hart given) (ram_bytes ram))) _ look e2 λ effect effect-is e3.
+    subst (λ (l : Look T). instr_of_word l.word ≡ Some instr → l.result ≡ result_register (writes_of instr l.service)) (look_is (look_at hart ram word given effect) look e3)
+    (λ decoded-is. ap (λ (i : Instr). result_register (writes_of i (reg_value hart a7))) (found_is (Illegal word) (instr_of_word word) given instr given-is decoded-is))
 
 -- and takes what the place of that result takes
-pub looked_is_placed : {T : Type 0} (hart : HartState T) (ram : RamState T) (look : Look T) (instr : Instr) → looked hart ram ≡ Ok look → decoded look.word ≡ Some instr
+pub looked_is_placed : {T : Type 0} (hart : HartState T) (ram : RamState T) (look : Look T) (instr : Instr) → look_result hart ram ≡ Ok look → instr_of_word look.word ≡ Some instr
     → (written : HartState T) (value : ℕ) (tag : T) → with_tagged written look.result value tag ≡ with_result written (writes_of instr look.service) value tag
 looked_is_placed hart ram look instr e is written value tag =
     ap (λ (r : ℕ). with_tagged written r value tag) (register_is hart ram look instr e is) ∙ result_is written (writes_of instr look.service) value tag

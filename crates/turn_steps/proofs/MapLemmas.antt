@@ -19,9 +19,9 @@ use Rattle.tag_memory.specs.Hart.{HartState, moved_to, reg_value, with_reg, with
 use Rattle.tag_memory.specs.Maps.{hart_by, ram_by}
 use Rattle.tag_memory.specs.Ram.{RamState, ram_bytes, ram_word, with_ram_word}
 use Rattle.tag_memory.proofs.MapLemmas.{ram_tag_by, reg_tag_by, with_ram_tag_by, with_reg_by, with_reg_tag_by}
-use Rattle.turn_steps.specs.Effects.{carried_by, carried_out, fed_hart, result_value, stepped, with_store, with_tagged}
-use Rattle.turn_steps.specs.Feeds.{got}
-use Rattle.turn_steps.specs.Looks.{access_tag, effect_at, fetched, inputs_at, look_at, looked, operand, operand_tag, passed, read_instr}
+use Rattle.turn_steps.specs.Effects.{carried_by, effect_result, fed_hart, result_value, hart_after, with_store, with_tagged}
+use Rattle.turn_steps.specs.Feeds.{fed_value}
+use Rattle.turn_steps.specs.Looks.{access_tag, effect_at, fetch_result, inputs_at, look_at, look_result, operand, operand_tag, effect_or_fault, read_instr}
 use Rattle.turn_steps.specs.Maps.{carry_by, look_by}
 use Rattle.turn_steps.specs.declared.look.Look.{Look}
 
@@ -76,12 +76,12 @@ module _ {T U : Type 0} (f : T → U) where
       (inputs_at_by hart ram instr effect)
 
   abbrev checked : HartState T → RamState T → Effect → Result Effect Fault
-  checked hart ram effect = passed effect (first_fault effect (ram_bytes ram))
+  checked hart ram effect = effect_or_fault effect (first_fault effect (ram_bytes ram))
 
-  pub looked_by : (hart : HartState T) (ram : RamState T) → looked (hart_by f hart) (ram_by f ram) ≡ ok_by (look_by f) (looked hart ram)
-  unfolding looked
+  pub looked_by : (hart : HartState T) (ram : RamState T) → look_result (hart_by f hart) (ram_by f ram) ≡ ok_by (look_by f) (look_result hart ram)
+  unfolding look_result
   looked_by hart ram =
-      then_by (look_by f) (fetched hart ram) _ _ λ word word-is.
+      then_by (look_by f) (fetch_result hart ram) _ _ λ word word-is.
       then_by (look_by f) (read_instr word) _ _ λ instr instr-is.
       ap (λ effect. checked hart ram effect >>= λ passing. Ok (look_at (hart_by f hart) (ram_by f ram) word instr passing)) (effect_at_by hart instr)
       ∙ then_by (look_by f) (checked hart ram (effect_at hart instr)) _ _
@@ -105,7 +105,7 @@ module _ {T U : Type 0} (f : T → U) where
       with_ram_tag_by f (with_ram_word ram addr (stored_in (ram_word ram addr) addr width value)) addr tag
 
   module _ (hart : HartState T) (ram : RamState T) (feed : List ℕ) (look : Look T) (outs : Outs T) where
-    stepped_by : stepped (hart_by f hart) (ram_by f ram) (look_by f look) (outs_by f outs) ≡ hart_by f (stepped hart ram look outs)
+    stepped_by : hart_after (hart_by f hart) (ram_by f ram) (look_by f look) (outs_by f outs) ≡ hart_by f (hart_after hart ram look outs)
     stepped_by =
         ap (λ (value : ℕ). moved_to (with_tagged (hart_by f hart) look.result value (f outs.result)) look.effect.next (f outs.pc))
         (result_value_by ram look.effect.value look.effect.access)
@@ -113,7 +113,7 @@ module _ {T U : Type 0} (f : T → U) where
         (with_tagged_by hart look.result (result_value ram look.effect.value look.effect.access) outs.result)
 
     fed_by : moved_to (fed_hart (hart_by f hart) feed (f outs.result)) look.effect.next (f outs.pc) ≡ hart_by f (moved_to (fed_hart hart feed outs.result) look.effect.next outs.pc)
-    fed_by = ap (λ h. moved_to h look.effect.next (f outs.pc)) (with_tagged_by hart a0 (got feed) outs.result)
+    fed_by = ap (λ h. moved_to h look.effect.next (f outs.pc)) (with_tagged_by hart a0 (fed_value feed) outs.result)
 
     by_group : (called : Group)
         → carried_by called (hart_by f hart) (ram_by f ram) feed (look_by f look) (outs_by f outs) ≡ carry_by f (carried_by called hart ram feed look outs)
@@ -123,6 +123,6 @@ module _ {T U : Type 0} (f : T → U) where
     by_group group.Break = λ j. record (carry_by f (carried_by group.Break hart ram feed look outs)) { hart = stepped_by j }
     by_group _ = λ j. record (carry_by f (carried_by group.Const hart ram feed look outs)) { hart = stepped_by j; ram = with_store_by ram look.effect.access outs.result j }
 
-    pub carried_out_by : carried_out (hart_by f hart) (ram_by f ram) feed (look_by f look) (outs_by f outs) ≡ carry_by f (carried_out hart ram feed look outs)
-    unfolding carried_out
+    pub carried_out_by : effect_result (hart_by f hart) (ram_by f ram) feed (look_by f look) (outs_by f outs) ≡ carry_by f (effect_result hart ram feed look outs)
+    unfolding effect_result
     carried_out_by = by_group look.group

@@ -6,6 +6,7 @@ use Rattle.std.proofs.lemmas.List.Elements.{All-head, All-tail}
 use Rattle.tag_memory.specs.Ram.{IsPlace, IsRam, RamState, ram_bytes, ram_tag, ram_word, with_ram_tag, with_ram_word}
 use Rattle.tag_memory.specs.Rows.{LiesOutsideRow, StandFrom}
 use Rattle.tag_memory.proofs.RamLemmas.{word_bytes, word_keeps, word_tag_keeps, writes_word, writes_word_tag}
+use Rattle.tag_memory.proofs.RowLemmas.{next_place}
 use Rattle.turn_steps.specs.Services.{WritesRow, with_words}
 
 -- the list's words are places of memory
@@ -13,9 +14,6 @@ abbrev pub ArePlaces : {T : Type 0} → ℕ → List (ℕ × ℕ × T) → Type 
 ArePlaces {T} bytes words = All (λ (word : ℕ × ℕ × T). IsPlace bytes word.0) words
 
 -- ---- addresses of a row
-
-next_place : (base k : ℕ) → base + 4 * suc k ≡ base + 4 + 4 * k
-next_place base k = omega arith
 
 apart : (base count other : ℕ) → base % 4 ≡ 0 → LiesOutsideRow base (suc count) other → other / 4 ≢ base / 4
 apart base count other aligned (inl before) same = omega arith

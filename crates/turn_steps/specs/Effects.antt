@@ -13,7 +13,7 @@ use Rattle.rv_step.specs.declared.effects.Effect.{Effect}
 use Rattle.policy_trait.specs.declared.rules.Outs.{Outs}
 use Rattle.tag_memory.specs.Hart.{HartState, IsHartOf, moved_to, reg_value, with_reg, with_reg_tag}
 use Rattle.tag_memory.specs.Ram.{IsRamOf, RamState, ram_bytes, ram_word, with_ram_tag, with_ram_word}
-use Rattle.turn_steps.specs.Feeds.{fed_after, got}
+use Rattle.turn_steps.specs.Feeds.{fed_after, fed_value}
 use Rattle.turn_steps.specs.declared.effects.Done.{Done}
 use Rattle.turn_steps.specs.declared.effects.Done.TheVariants.{Broke, Exited, Stepped}
 use Rattle.turn_steps.specs.declared.look.Look.{Look}
@@ -60,13 +60,13 @@ with_store ram (access.Store addr width value) tag =
     with_ram_tag (with_ram_word ram addr (stored_in (ram_word ram addr) addr width value)) addr tag
 
 -- the instruction's own result, and the next pc
-abbrev pub stepped : {T : Type 0} → HartState T → RamState T → Look T → Outs T → HartState T
-stepped hart ram look outs =
+abbrev pub hart_after : {T : Type 0} → HartState T → RamState T → Look T → Outs T → HartState T
+hart_after hart ram look outs =
     moved_to (with_tagged hart look.result (result_value ram look.effect.value look.effect.access) outs.result) look.effect.next outs.pc
 
 -- a0 takes the next byte of the feed, with the result's tag
 abbrev pub fed_hart : {T : Type 0} → HartState T → List ℕ → T → HartState T
-fed_hart hart feed tag = with_reg_tag (with_reg hart a0 (got feed)) a0 tag
+fed_hart hart feed tag = with_reg_tag (with_reg hart a0 (fed_value feed)) a0 tag
 
 -- exit stops the hart where it stands, put gives the low byte of a0, get takes the next byte of the feed into a0, a break
 -- is told, and any other instruction steps and stores
@@ -78,9 +78,10 @@ carried_by group.Put hart ram feed look outs =
 carried_by group.Get hart ram feed look outs =
     record { hart = moved_to (fed_hart hart feed outs.result) look.effect.next outs.pc; ram = ram; feed = fed_after feed; done = Stepped None }
 carried_by group.Break hart ram feed look outs =
-    record { hart = stepped hart ram look outs; ram = ram; feed = feed; done = Broke }
+    record { hart = hart_after hart ram look outs; ram = ram; feed = feed; done = Broke }
 carried_by _ hart ram feed look outs =
-    record { hart = stepped hart ram look outs; ram = with_store ram look.effect.access outs.result; feed = feed; done = Stepped None }
+    record { hart = hart_after hart ram look outs; ram = with_store ram look.effect.access outs.result; feed = feed; done = Stepped None }
 
-unfoldable pub carried_out : {T : Type 0} → HartState T → RamState T → List ℕ → Look T → Outs T → Carried T
-carried_out hart ram feed look outs = carried_by look.group hart ram feed look outs
+-- what stands after the effect of a look
+unfoldable pub effect_result : {T : Type 0} → HartState T → RamState T → List ℕ → Look T → Outs T → Carried T
+effect_result hart ram feed look outs = carried_by look.group hart ram feed look outs

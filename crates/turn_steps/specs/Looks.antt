@@ -1,7 +1,7 @@
 -- What a hart is about to do: the checks of a turn that no policy decides, in their order, and what a rule is asked with.
 use Rattle.std.specs.Prelude.{ℕ, ◌/◌, Bool, true, false, Option, Some, None, Result, Ok, Err, slice_get}
 use Rattle.policy_trait.specs.Steps.{◌>>=◌}
-use Rattle.rv_decode.specs.Decoding.{decoded}
+use Rattle.rv_decode.specs.Decoding.{instr_of_word}
 use Rattle.rv_decode.specs.Groups.{a7, group_of, places_of, reads_of}
 use Rattle.rv_decode.specs.declared.groups.Group.{Group}
 use Rattle.rv_decode.specs.declared.groups.Group.TheVariants as group
@@ -25,29 +25,31 @@ found_or fault None = Err fault
 found_or fault (Some found) = Ok found
 
 -- the word at the pc; a pc at or past the end of memory is a fault
-abbrev pub fetched : {T : Type 0} → HartState T → RamState T → Result ℕ Fault
-fetched hart ram = found_or (Fetch hart.pc) (slice_get ram.words (hart.pc / 4))
+abbrev pub fetch_result : {T : Type 0} → HartState T → RamState T → Result ℕ Fault
+fetch_result hart ram = found_or (Fetch hart.pc) (slice_get ram.words (hart.pc / 4))
 
 -- the instruction of a word; a word that has none is a fault
 abbrev pub read_instr : ℕ → Result Instr Fault
-read_instr word = found_or (Illegal word) (decoded word)
+read_instr word = found_or (Illegal word) (instr_of_word word)
 
--- the value and the tag of an operand: an absent one is 0 and plain
+-- the value of an operand: an absent one is 0
 abbrev pub operand : {T : Type 0} → HartState T → Option ℕ → ℕ
 operand hart None = 0
 operand hart (Some r) = reg_value hart r
 
+-- the tag of an operand: an absent one is plain
 abbrev pub operand_tag : {T : Type 0} → HartState T → Option ℕ → T
 operand_tag hart None = hart.plain
 operand_tag hart (Some r) = reg_tag hart r
 
+-- what the instruction computes of its operands
 abbrev pub effect_at : {T : Type 0} → HartState T → Instr → Effect
 effect_at hart instr = effect_of instr hart.pc (operand hart (reads_of instr).t1) (operand hart (reads_of instr).t2)
 
 -- an effect whose access and jump have no fault
-abbrev pub passed : Effect → Option Fault → Result Effect Fault
-passed effect None = Ok effect
-passed effect (Some fault) = Err fault
+abbrev pub effect_or_fault : Effect → Option Fault → Result Effect Fault
+effect_or_fault effect None = Ok effect
+effect_or_fault effect (Some fault) = Err fault
 
 -- the tag of the memory word that holds the access, plain without one
 abbrev pub access_tag : {T : Type 0} → RamState T → T → Access → T
@@ -55,6 +57,7 @@ access_tag ram plain access.None = plain
 access_tag ram plain (access.Load addr width signed) = ram_tag ram addr
 access_tag ram plain (access.Store addr width value) = ram_tag ram addr
 
+-- the five tags that the rule is asked with
 abbrev pub inputs_at : {T : Type 0} → HartState T → RamState T → Instr → Effect → Ins T
 inputs_at hart ram instr effect = record {
   pc = hart.pc_tag;
@@ -66,9 +69,11 @@ inputs_at hart ram instr effect = record {
 
 -- the same by plain registers, where x0 stands for an operand that there is not
 
+-- what the instruction computes
 abbrev pub effect_on : {T : Type 0} → HartState T → Instr → Places → Effect
 effect_on hart instr places = effect_of instr hart.pc (reg_value hart places.first) (reg_value hart places.second)
 
+-- the five tags
 abbrev pub inputs_on : {T : Type 0} → HartState T → RamState T → Places → Access → Ins T
 inputs_on hart ram places access = record {
   pc = hart.pc_tag;
@@ -78,6 +83,7 @@ inputs_on hart ram places access = record {
   tm = access_tag ram hart.plain access;
 }
 
+-- what the hart is about to do by an instruction that has no fault
 abbrev pub look_at : {T : Type 0} → HartState T → RamState T → ℕ → Instr → Effect → Look T
 look_at hart ram word instr effect = record {
   word = word;
@@ -89,11 +95,11 @@ look_at hart ram word instr effect = record {
 }
 
 -- Fetch, decode, alignment and range of the access, alignment of the jump: the first that fails decides.
-unfoldable pub looked : {T : Type 0} → HartState T → RamState T → Result (Look T) Fault
-looked hart ram = do
-  word ← fetched hart ram
+unfoldable pub look_result : {T : Type 0} → HartState T → RamState T → Result (Look T) Fault
+look_result hart ram = do
+  word ← fetch_result hart ram
   instr ← read_instr word
-  effect ← passed (effect_at hart instr) (first_fault (effect_at hart instr) (ram_bytes ram))
+  effect ← effect_or_fault (effect_at hart instr) (first_fault (effect_at hart instr) (ram_bytes ram))
   Ok (look_at hart ram word instr effect)
 
 -- the group of a call of a policy's service

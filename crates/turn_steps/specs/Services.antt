@@ -1,6 +1,6 @@
 -- What a policy's service is asked with, and what it writes when nothing refuses it.
 use Rattle.std.specs.Prelude.{◌≡◌, ℕ, ◌+◌, ◌*◌, List, [], ◌∷◌, length, Option, Some, None, slice_get}
-use Rattle.rv_decode.specs.Groups.{a0}
+use Rattle.rv_decode.specs.Groups.{a0, a1, a2}
 use Rattle.policy_trait.specs.declared.services.Answer.{Answer}
 use Rattle.policy_trait.specs.declared.services.Args.{Args}
 use Rattle.tag_memory.specs.Hart.{HartState, reg_tag, reg_value, with_reg, with_reg_tag}
@@ -11,11 +11,11 @@ use Rattle.tag_memory.specs.Rows.{LiesOutsideRow}
 abbrev pub args_on : {T : Type 0} → HartState T → RamState T → Args T
 args_on hart ram = record {
   a0 = reg_value hart a0;
-  a1 = reg_value hart 11;
-  a2 = reg_value hart 12;
+  a1 = reg_value hart a1;
+  a2 = reg_value hart a2;
   t0 = reg_tag hart a0;
-  t1 = reg_tag hart 11;
-  t2 = reg_tag hart 12;
+  t1 = reg_tag hart a1;
+  t2 = reg_tag hart a2;
   ram = ram_bytes ram;
 }
 

@@ -1,16 +1,19 @@
+//! What an allowed instruction does.
+
 ghost use Rattle.std.specs.Prelude.{◌≡◌, ◌%◌, Option, false};
 ghost use Rattle.rv_step.specs.Accesses.{EndsWithin};
 ghost use Rattle.turn_steps.specs.Effects.{IsSound};
 ghost use Rattle.tag_memory.specs.Ram.{ram_bytes};
 ghost use Rattle.tag_memory.specs.Hart.{moved_to};
-ghost use Rattle.turn_steps.specs.Effects.{carried_out, fed_hart, result_value, stepped, with_store};
+ghost use Rattle.turn_steps.specs.Effects.{effect_result, fed_hart, result_value, hart_after, with_store};
 ghost use Rattle.turn_steps.specs.Feeds.{fed_after};
 ghost use Rattle.turn_steps.specs.Looks.{is_call};
 
 use crate::feed::Feed;
 use crate::look::Look;
+use crate::registers::{reg, set_reg};
 use policy_trait::Outs;
-use rv_decode::Group;
+use rv_decode::{Group, Register};
 use rv_step::{Access, loaded, stored};
 use tag_memory::{Hart, Ram};
 
@@ -25,12 +28,9 @@ pub enum Done {
     Exited(u32),
 }
 
-/// a0, the first argument and the answer of a service.
-const A0: u32 = 10;
-
 /// Carries out an instruction that the checks and the rule allowed, and that is no call of a policy's service: the
 /// effect of such a call is the policy's, and stands in the job that it gives.
-#[tactic(auto, unfolding(crate::specs::Effects::carried_out))]
+#[tactic(auto, unfolding(crate::specs::Effects::effect_result))]
 pub fn carry_out<T: Copy>(
     hart: &mut Hart<T>,
     ram: &mut Ram<T>,
@@ -40,16 +40,16 @@ pub fn carry_out<T: Copy>(
 ) -> Done
     requires safe { IsSound (ram_bytes ram.old) look.now.effect }
     requires own { is_call look.now.group ≡ false }
-    ensures hart { hart.new ≡ (carried_out hart.old ram.old feed.old look.now outs).hart }
-    ensures ram { ram.new ≡ (carried_out hart.old ram.old feed.old look.now outs).ram }
-    ensures feed { feed.new ≡ (carried_out hart.old ram.old feed.old look.now outs).feed }
-    ensures done { result ≡ (carried_out hart.old ram.old feed.old look.now outs).done }
+    ensures hart { hart.new ≡ (effect_result hart.old ram.old feed.old look.now outs).hart }
+    ensures ram { ram.new ≡ (effect_result hart.old ram.old feed.old look.now outs).ram }
+    ensures feed { feed.new ≡ (effect_result hart.old ram.old feed.old look.now outs).feed }
+    ensures done { result ≡ (effect_result hart.old ram.old feed.old look.now outs).done }
     ensures bytes { ram_bytes ram.new ≡ ram_bytes ram.old }
 {
     match look.group {
-        Group::Exit => Done::Exited(hart.reg(A0)),
+        Group::Exit => Done::Exited(reg(hart, Register::A0)),
         Group::Put => {
-            let byte = (hart.reg(A0) % 256) as u8;
+            let byte = (reg(hart, Register::A0) % 256) as u8;
             go_on(hart, look, outs);
             Done::Stepped(Some(byte))
         }
@@ -74,12 +74,10 @@ pub fn carry_out<T: Copy>(
 #[inline(always)]
 fn step<T: Copy>(hart: &mut Hart<T>, ram: &Ram<T>, look: &Look<T>, outs: Outs<T>)
     requires { IsSound (ram_bytes ram.now) look.now.effect }
-    ensures { hart.new ≡ stepped hart.old ram.now look.now outs }
+    ensures { hart.new ≡ hart_after hart.old ram.now look.now outs }
 {
     let value = value_of(ram, look.effect.value, look.effect.access);
-    let register = u32::from(look.result.number());
-    hart.set_reg(register, value);
-    hart.set_reg_tag(register, outs.result);
+    set_reg(hart, look.result, value, outs.result);
     go_on(hart, look, outs);
 }
 
@@ -118,8 +116,8 @@ fn take_byte<T: Copy>(hart: &mut Hart<T>, feed: &mut Feed, tag: T)
     ensures hart { hart.new ≡ fed_hart hart.old feed.old tag }
     ensures feed { feed.new ≡ fed_after feed.old }
 {
-    hart.set_reg(A0, feed.next().map_or(u32::MAX, u32::from));
-    hart.set_reg_tag(A0, tag);
+    let value = feed.next().map_or(u32::MAX, u32::from);
+    set_reg(hart, Register::A0, value, tag);
 }
 
 /// The next pc and its tag.

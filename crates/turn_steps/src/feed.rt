@@ -1,3 +1,5 @@
+//! The bytes that programs get.
+
 ghost use Rattle.std.specs.Prelude.{◌≡◌, ◌++◌, [], OnErr, OnOk};
 ghost use Rattle.turn_steps.specs.Feeds.{fed_after, first_fed};
 

@@ -4,7 +4,7 @@ ghost use Rattle.std.specs.Prelude.{◌≡◌, ℕ, ◌%◌, List, Ok, Option, S
 ghost use Rattle.std.specs.List.{All};
 ghost use Rattle.policy_trait.specs.Maps.{ok_by, outs_by};
 ghost use Rattle.policy_trait.specs.declared.rules.Outs.{Outs};
-ghost use Rattle.rv_decode.specs.Decoding.{decoded};
+ghost use Rattle.rv_decode.specs.Decoding.{instr_of_word};
 ghost use Rattle.rv_decode.specs.Groups.{writes_of};
 ghost use Rattle.rv_decode.specs.declared.instructions.Instr.{Instr};
 ghost use Rattle.policy_trait.specs.declared.services.Answer.{Answer};
@@ -12,8 +12,8 @@ ghost use Rattle.tag_memory.specs.Hart.{HartState, IsHart, IsHartOf, moved_to};
 ghost use Rattle.tag_memory.specs.Maps.{hart_by, ram_by};
 ghost use Rattle.tag_memory.specs.Ram.{IsPlace, IsRam, IsRamOf, RamState, ram_bytes};
 ghost use Rattle.tag_memory.specs.Rows.{StandFrom};
-ghost use Rattle.turn_steps.specs.Effects.{IsCarriedOf, IsSound, carried_out, with_result, with_tagged};
-ghost use Rattle.turn_steps.specs.Looks.{looked};
+ghost use Rattle.turn_steps.specs.Effects.{IsCarriedOf, IsSound, effect_result, with_result, with_tagged};
+ghost use Rattle.turn_steps.specs.Looks.{look_result};
 ghost use Rattle.turn_steps.specs.Maps.{carry_by, look_by};
 ghost use Rattle.turn_steps.specs.Services.{WritesRow, with_answer, with_words};
 ghost use Rattle.turn_steps.specs.declared.look.Look.{Look};
@@ -23,16 +23,16 @@ ghost use Rattle.turn_steps.specs.declared.look.Look.{Look};
 /// and memory as large as it was. The function does nothing.
 pub fn steps_law<T: Copy>()
     ensures looked { (hart : HartState T) (ram : RamState T) (look : Look T) → IsHart hart
-        → looked hart ram ≡ Ok look → IsSound (ram_bytes ram) look.effect }
+        → look_result hart ram ≡ Ok look → IsSound (ram_bytes ram) look.effect }
     ensures placed { (hart : HartState T) (ram : RamState T) (look : Look T) (instr : Instr)
-        → looked hart ram ≡ Ok look → decoded look.word ≡ Some instr
+        → look_result hart ram ≡ Ok look → instr_of_word look.word ≡ Some instr
         → (written : HartState T) (value : ℕ) (tag : T)
         → with_tagged written look.result value tag
         ≡ with_result written (writes_of instr look.service) value tag }
     ensures carried { (plain : T) (hart : HartState T) (ram : RamState T) (feed : List ℕ)
         (look : Look T) (outs : Outs T)
         → IsSound (ram_bytes ram) look.effect → IsHartOf plain hart → IsRamOf plain ram
-        → IsCarriedOf plain (ram_bytes ram) (carried_out hart ram feed look outs) }
+        → IsCarriedOf plain (ram_bytes ram) (effect_result hart ram feed look outs) }
     ensures answered { (plain : T) (hart : HartState T) (answer : Option (Answer T)) (next : ℕ)
         (tag : T) → next % 4 ≡ 0 → IsHartOf plain hart
         → IsHartOf plain (moved_to (with_answer hart answer) next tag) }
@@ -52,9 +52,9 @@ pub fn words_law<T: Copy>()
 /// A change of each tag goes through the look and the effect. The function does nothing.
 pub fn map_law<T: Copy, U: Copy>()
     ensures looked { (f : T → U) (hart : HartState T) (ram : RamState T)
-        → looked (hart_by f hart) (ram_by f ram) ≡ ok_by (look_by f) (looked hart ram) }
+        → look_result (hart_by f hart) (ram_by f ram) ≡ ok_by (look_by f) (look_result hart ram) }
     ensures carried { (f : T → U) (hart : HartState T) (ram : RamState T) (feed : List ℕ)
         (look : Look T) (outs : Outs T)
-        → carried_out (hart_by f hart) (ram_by f ram) feed (look_by f look) (outs_by f outs)
-        ≡ carry_by f (carried_out hart ram feed look outs) }
+        → effect_result (hart_by f hart) (ram_by f ram) feed (look_by f look) (outs_by f outs)
+        ≡ carry_by f (effect_result hart ram feed look outs) }
 {}

@@ -7,6 +7,7 @@ mod feed;
 mod law;
 mod look;
 mod looking;
+mod registers;
 mod services;
 mod stop;
 

@@ -1,3 +1,5 @@
+//! What a hart is about to do.
+
 ghost use Rattle.std.specs.Prelude.{◌≡◌};
 ghost use Rattle.turn_steps.specs.Looks.{is_call};
 

@@ -1,29 +1,26 @@
+//! What a policy's service is asked with, and the writes of one that nothing refused.
+
 ghost use Rattle.std.specs.Prelude.{◌≡◌};
 ghost use Rattle.std.specs.List.{All};
 ghost use Rattle.tag_memory.specs.Ram.{IsPlace, ram_bytes};
 ghost use Rattle.turn_steps.specs.Services.{args_on, with_answer, with_words};
 
+use crate::registers::{reg, reg_tag, set_reg};
 use policy_trait::{Answer, Args};
+use rv_decode::Register;
 use tag_memory::{Hart, Ram};
-
-/// The registers of a service's arguments; the first is that of its answer too.
-const A0: u32 = 10;
-
-const A1: u32 = 11;
-
-const A2: u32 = 12;
 
 /// What a policy's service is asked with.
 pub fn arguments_of<T: Copy>(hart: &Hart<T>, ram: &Ram<T>) -> Args<T>
     ensures { result ≡ args_on hart.now ram.now }
 {
     Args {
-        a0: hart.reg(A0),
-        a1: hart.reg(A1),
-        a2: hart.reg(A2),
-        t0: hart.reg_tag(A0),
-        t1: hart.reg_tag(A1),
-        t2: hart.reg_tag(A2),
+        a0: reg(hart, Register::A0),
+        a1: reg(hart, Register::A1),
+        a2: reg(hart, Register::A2),
+        t0: reg_tag(hart, Register::A0),
+        t1: reg_tag(hart, Register::A1),
+        t2: reg_tag(hart, Register::A2),
         ram: ram.bytes(),
     }
 }
@@ -46,7 +43,6 @@ pub fn answer_to<T: Copy>(hart: &mut Hart<T>, answer: Option<Answer<T>>)
     ensures { hart.new ≡ with_answer hart.old answer }
 {
     if let Some(answer) = answer {
-        hart.set_reg(A0, answer.value);
-        hart.set_reg_tag(A0, answer.tag);
+        set_reg(hart, Register::A0, answer.value, answer.tag);
     }
 }

@@ -1,3 +1,5 @@
+//! Why harts stop.
+
 use policy_trait::{Part, Why};
 use rv_step::Fault;
 

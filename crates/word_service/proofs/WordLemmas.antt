@@ -10,7 +10,7 @@ use Rattle.policy_trait.specs.Maps.{answer_by}
 use Rattle.policy_trait.specs.declared.services.Answer.{Answer}
 use Rattle.engine_trait.specs.Accounts.{with_tag, with_tags}
 use Rattle.engine_trait.specs.Maps.{words_by}
-use Rattle.tag_intern.specs.Table.{Extends, TableState, interned}
+use Rattle.tag_intern.specs.Table.{Extends, TableState, table_after}
 use Rattle.tag_intern.specs.Words.{tag_at}
 use Rattle.tag_intern.specs.declared.table.InternEnd.{InternEnd}
 use Rattle.tag_intern.specs.declared.table.InternEnd.TheVariants as intern_end
@@ -46,7 +46,7 @@ module _ {T : Type 0} (eq : T → T → Bool) (laws : IsEquivalence eq) (limit :
 
 -- a tag that has a word comes
 module _ {T : Type 0} (eq : T → T → Bool) (laws : IsEquivalence eq) (table : TableState T) (word : ℕ) (tag : T) (known : slice_get table.tags word ≡ Some tag) where
-  pub known_stays : table ≡ interned eq table tag
+  pub known_stays : table ≡ table_after eq table tag
   known_stays = λ j. record table { tags = sym (with_word eq laws table.tags tag word known) j }
 
   pub known_fits : length table.tags ≤ table.limit → table.limit < length (with_tag eq table.tags tag) → ⊥

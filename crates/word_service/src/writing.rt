@@ -7,7 +7,7 @@ ghost use Rattle.tag_memory.specs.Ram.{IsPlace};
 ghost use Rattle.monitor_calls.specs.Ends.{job_by};
 ghost use Rattle.engine_trait.specs.Accounts.{answer_tags, with_tag, with_tags, written_tags};
 ghost use Rattle.engine_trait.specs.Maps.{words_by};
-ghost use Rattle.tag_intern.specs.Table.{Extends, interned};
+ghost use Rattle.tag_intern.specs.Table.{Extends, table_after};
 ghost use Rattle.tag_intern.specs.Words.{tag_at};
 ghost use Rattle.word_service.specs.Written.{AnswerStandsFor, IsAnswerBelow, IsWordBelow, StandFor, tags_of};
 
@@ -144,7 +144,7 @@ fn next_word<T: TagTable>(
 ) -> Result<u32, InternEnd>
     requires last { IfSome last (λ known. slice_get (T.state tags.old).tags known.1 ≡ Some known.0) }
     ensures word { IfOk result (λ word. slice_get (T.state tags.new).tags word ≡ Some tag) }
-    ensures grown { OnOk result (T.state tags.new ≡ interned T.Tag.eq (T.state tags.old) tag) }
+    ensures grown { OnOk result (T.state tags.new ≡ table_after T.Tag.eq (T.state tags.old) tag) }
     ensures over { (result ≡ Err InternEnd.Full)
         ↔ ((T.state tags.old).limit < length (with_tag T.Tag.eq (T.state tags.old).tags tag)) }
     ensures refused { OnErr result (T.state tags.new ≡ T.state tags.old) }

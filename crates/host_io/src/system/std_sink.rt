@@ -47,7 +47,7 @@ impl<W: Write + Drop> Sink for StdSink<W> {
 
     ghost faults = { λ sink. sink.faults };
 
-    #[tactic(auto, using(crate::proofs::Fronts::takes_none))]
+    #[tactic(auto, using(crate::proofs::FrontLemmas::takes_none))]
     fn put(&mut self, piece: &[u8]) -> Result<(), PutEnd>
         ensures failed { result ≡ Err PutEnd.Failed → TakesFront None None piece.now }
         ensures empty { length piece.now ≡ 0 → IsOk result }

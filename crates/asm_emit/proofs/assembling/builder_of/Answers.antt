@@ -2,7 +2,7 @@ use Rattle.std.proofs.Common.{◌≡◌, ℕ, ◌+◌, List, length, drop, sym, 
 use Rattle.std.specs.FinMap as map
 use Rattle.std.proofs.lemmas.List.{length-drop, length-replicate}
 use Rattle.std.proofs.lemmas.Result.{err_from_is_err_and}
-use Rattle.asm_emit.specs.Assembled.{additions_of, drafted}
+use Rattle.asm_emit.specs.Assembled.{additions_of, draft_with}
 use Rattle.asm_emit.specs.Draft.{Draft, empty_draft}
 use Rattle.asm_places.specs.Counts.{count_in}
 use Rattle.asm_emit.specs.Kept.{IsDraft, place_or}
@@ -16,7 +16,7 @@ loop-i-init c =
     let lines = c.args.lines.now in
     let made = c.in_ok-builder.ensures in
     record {
-      so_far = ap (λ (d : Draft). drafted d (additions_of layout.harts layout.ram (map.get c.args.names.now) lines layout.places.items)) made;
+      so_far = ap (λ (d : Draft). draft_with d (additions_of layout.harts layout.ram (map.get c.args.names.now) lines layout.places.items)) made;
       entered = ap (λ (d : Draft). length d.entries) made ∙ length-replicate layout.harts 0;
       kept = subst (λ (d : Draft). IsDraft layout.ram (place_or layout.ram layout.places.items) d) (sym made) (empty_kept layout.harts layout.ram (place_or layout.ram layout.places.items) c.requires.ram);
       placed = c.requires.placed;
@@ -31,7 +31,7 @@ returns-in_err-addition-clause-value c =
     let names = map.get c.args.names.now in
     let t = turn layout.ram lines places i c.index-lines-i.result c.index-place.result.now c.loop-i-test.true c.index-lines-i.is c.index-place.ensures c.requires.count c.loop-i.invariant.placed in
     let p = err_from_is_err_and c.from_residual-in_err-addition.result c.from_residual-in_err-addition.ensures.1 in
-    let total = drafted (empty_draft layout.harts) (additions_of layout.harts layout.ram names lines places) in
+    let total = draft_with (empty_draft layout.harts) (additions_of layout.harts layout.ram names lines places) in
     rw (p.1, p.2)
     (stops layout.harts layout.ram names c.in_err-addition.field-0.0 (draft_of c.loop-i.builder) (drop i lines) (drop i places) c.index-lines-i.result c.index-place.result.now (drop (i + 1) lines) (drop (i + 1) places) total t.line_first t.place_first (sym c.in_err-addition.ensures.value) c.loop-i.invariant.so_far)
 
@@ -57,12 +57,12 @@ loop-i-preserved c =
     let draft = draft_of c.loop-i.builder in
     let next = place_or layout.ram (drop (i + 1) places) in
     let t = turn layout.ram lines places i line place c.loop-i-test.true c.index-lines-i.is c.index-place.ensures c.requires.count c.loop-i.invariant.placed in
-    let total = drafted (empty_draft layout.harts) (additions_of layout.harts layout.ram names lines places) in
+    let total = draft_with (empty_draft layout.harts) (additions_of layout.harts layout.ram names lines places) in
     let on = goes_on layout.harts layout.ram names draft (drop i lines) (drop i places) line place (drop (i + 1) lines) (drop (i + 1) places) addition total t.line_first t.place_first (sym c.in_ok-addition.ensures.value) c.loop-i.invariant.so_far in
     let here : IsDraft layout.ram place draft = subst (λ (ps : List ℕ). IsDraft layout.ram (place_or layout.ram ps) draft) t.place_first c.loop-i.invariant.kept in
     let kept = addition_kept layout.harts layout.ram place next (count_in line.statement) draft addition t.aligned t.ends t.inside c.in_ok-addition.ensures.fits here in
     record {
-      so_far = subst (λ (d : Draft). drafted d (additions_of layout.harts layout.ram names (drop (i + 1) lines) (drop (i + 1) places)) ≡ total) (sym c.in_ok-add.ensures) on;
+      so_far = subst (λ (d : Draft). draft_with d (additions_of layout.harts layout.ram names (drop (i + 1) lines) (drop (i + 1) places)) ≡ total) (sym c.in_ok-add.ensures) on;
       entered = ap (λ (d : Draft). length d.entries) c.in_ok-add.ensures ∙ entries_kept draft place addition ∙ c.loop-i.invariant.entered;
       kept = subst (λ (d : Draft). IsDraft layout.ram next d) (sym c.in_ok-add.ensures) kept;
       placed = t.placed;
@@ -76,4 +76,4 @@ returns-clause-value c =
     let i = c.loop-i.i in
     let names = map.get c.args.names.now in
     let none : length (drop i lines) ≡ 0 = omega (arith, length-drop i lines, c.loop-i-test.false) in
-    is_done layout.harts layout.ram names (draft_of c.loop-i.builder) (drop i lines) (drop i places) (drafted (empty_draft layout.harts) (additions_of layout.harts layout.ram names lines places)) none c.loop-i.invariant.so_far
+    is_done layout.harts layout.ram names (draft_of c.loop-i.builder) (drop i lines) (drop i places) (draft_with (empty_draft layout.harts) (additions_of layout.harts layout.ram names lines places)) none c.loop-i.invariant.so_far

@@ -1,7 +1,7 @@
 use Rattle.std.proofs.Common.{◌∙◌}
 use Rattle.asm_emit.specs.Seen.{draft_of}
 use Rattle.asm_emit.proofs.DraftLemmas.{pictured}
-use Rattle.asm_emit.proofs.EdgeOrder.{edges_are}
+use Rattle.asm_emit.proofs.EdgeOrderLemmas.{edges_are}
 use Rattle.asm_emit.proofs.assembling.image_of.Goals as goal
 
 pub returns : goal.returns

@@ -1,6 +1,6 @@
 use Rattle.std.proofs.Common.{sym}
-use Rattle.asm_places.proofs.PlaceLaws.{all_placed}
-use Rattle.asm_places.proofs.SizeLaws.{harts_fit, ram_fits}
+use Rattle.asm_places.proofs.PlaceLemmas.{all_placed}
+use Rattle.asm_places.proofs.SizeLemmas.{harts_fit, ram_fits}
 use Rattle.asm_places.proofs.layout.layout_of.Goals as goal
 
 pub returns-clause-harts : goal.returns-clause-harts

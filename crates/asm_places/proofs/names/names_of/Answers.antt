@@ -1,6 +1,6 @@
 use Rattle.std.proofs.Common.{◌≡◌, ◌+◌, ◌-◌, ◌<◌, ap, length, ◌∙◌, arith}
 use Rattle.std.specs.FinMap.{get}
-use Rattle.asm_places.proofs.NameLaws.{names_more, next_more, no_name, no_word}
+use Rattle.asm_places.proofs.NameLemmas.{names_more, next_more, no_name, no_word}
 use Rattle.asm_places.proofs.names.names_of.Goals as goal
 
 pub loop-left-init : goal.loop-left-init

@@ -2,7 +2,7 @@ use Rattle.std.proofs.Common.{[], subst, sym, take}
 use Rattle.std.proofs.lemmas.Result.{err_from_is_err_and}
 use Rattle.asm_places.specs.Places.{places_from}
 use Rattle.asm_places.specs.Seen.{IsSeen}
-use Rattle.asm_places.proofs.PlaceLaws.{goes_on, is_done, next-reached, stops, take_line}
+use Rattle.asm_places.proofs.PlaceLemmas.{goes_on, is_done, next-reached, stops, take_line}
 use Rattle.asm_places.proofs.places.places_of.Goals as goal
 
 pub returns-in_err-behind : goal.returns-in_err-behind

@@ -1,7 +1,7 @@
 use Rattle.std.proofs.Common.{◌≡◌, [], drop, take}
 use Rattle.asm_places.specs.Places.{IsReached, places_from}
 use Rattle.asm_places.specs.Seen.{IsSeen}
-use Rattle.asm_places.proofs.PlaceLaws.{with_front}
+use Rattle.asm_places.proofs.PlaceLemmas.{with_front}
 use Rattle.asm_places.proofs.places.places_of.Given as goal
 
 -- what was placed and what is still placed are the whole, and what the lines so far have was noted

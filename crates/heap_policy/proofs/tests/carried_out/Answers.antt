@@ -1,6 +1,6 @@
 -- The plan that comes is a given one.
 use Rattle.std.proofs.Common.{rules, ℕ, sym, ◌∙◌}
-use Rattle.policy_trait.specs.LawsLemmas.{given_plan}
+use Rattle.policy_trait.specs.UseLaws.{given_plan}
 use Rattle.policy_trait.specs.declared.services.Args.{Args}
 use Rattle.heap_policy.specs.Heap.{IsHeap, heap}
 use Rattle.heap_policy.specs.HeapLaws.{heap_laws}

@@ -1,4 +1,4 @@
-use Rattle.heap_runs.proofs.Turning.{keeps}
+use Rattle.heap_runs.proofs.TurnLemmas.{keeps}
 use Rattle.heap_runs.proofs.law.block_law.Goals as goal
 
 pub returns : goal.returns

@@ -1,4 +1,4 @@
-use Rattle.heap_runs.proofs.Starts.{starts}
+use Rattle.heap_runs.proofs.StartLemmas.{starts}
 use Rattle.heap_runs.proofs.law.start_law.Goals as goal
 
 pub returns : goal.returns

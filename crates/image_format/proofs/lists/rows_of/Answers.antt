@@ -1,6 +1,6 @@
 use Rattle.std.proofs.lemmas.Result.{err_from_is_err_and}
 use Rattle.image_format.specs.Reading.{row_at, times}
-use Rattle.image_format.proofs.LoopLaws.{placed, start, goes_on, refuses, is_done, rows_refused, rows_done}
+use Rattle.image_format.proofs.LoopLemmas.{placed, start, goes_on, refuses, is_done, rows_refused, rows_done}
 use Rattle.image_format.proofs.lists.rows_of.Goals as goal
 
 pub returns-in_err-next : goal.returns-in_err-next

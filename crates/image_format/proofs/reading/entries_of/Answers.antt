@@ -1,7 +1,7 @@
 use Rattle.std.proofs.lemmas.Result.{err_from_is_err_and}
 use Rattle.image_format.specs.Conditions.{is_place}
 use Rattle.image_format.specs.Reading.{field_at, entries_at}
-use Rattle.image_format.proofs.LoopLaws.{goes_on, refuses, is_done}
+use Rattle.image_format.proofs.LoopLemmas.{goes_on, refuses, is_done}
 use Rattle.image_format.proofs.reading.entries_of.Goals as goal
 
 pub returns-in_err-entry : goal.returns-in_err-entry

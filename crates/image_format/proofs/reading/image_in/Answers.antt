@@ -1,6 +1,6 @@
 use Rattle.std.proofs.Common.{arith, rules}
 use Rattle.image_format.specs.Reading.{image_of, picture_at, lists_at}
-use Rattle.image_format.proofs.FileLaws.{file_is_of}
+use Rattle.image_format.proofs.FileLemmas.{file_is_of}
 use Rattle.image_format.proofs.reading.image_in.Goals as goal
 
 pub invariant_of-result : goal.invariant_of-result

@@ -1,6 +1,6 @@
 use Rattle.std.proofs.Common.{subst, arith}
 use Rattle.image_format.specs.Reading.{GivesImage}
-use Rattle.image_format.proofs.FileLaws.{file_again, is_found, not_refused}
+use Rattle.image_format.proofs.FileLemmas.{file_again, is_found, not_refused}
 use Rattle.image_format.proofs.reading.read_image.Goals as goal
 
 pub returns-clause-found : goal.returns-clause-found

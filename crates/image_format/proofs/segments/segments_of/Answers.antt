@@ -2,8 +2,8 @@ use Rattle.std.proofs.Common.{map, arith}
 use Rattle.std.proofs.lemmas.Result.{err_from_is_err_and}
 use Rattle.image_format.specs.Parts.{part_of}
 use Rattle.image_format.specs.Reading.{segment_at, times}
-use Rattle.image_format.proofs.LoopLaws.{placed, start, refuses, is_done, rows_refused, rows_done}
-use Rattle.image_format.proofs.PartLaws.{range_refused, words_refused, reads_on}
+use Rattle.image_format.proofs.LoopLemmas.{placed, start, refuses, is_done, rows_refused, rows_done}
+use Rattle.image_format.proofs.PartLemmas.{range_refused, words_refused, reads_on}
 use Rattle.image_format.proofs.segments.segments_of.Goals as goal
 
 pub returns-in_err-range : goal.returns-in_err-range

@@ -1,4 +1,4 @@
-use Rattle.image_format.proofs.PartLaws.{HasRead}
+use Rattle.image_format.proofs.PartLemmas.{HasRead}
 use Rattle.image_format.proofs.segments.segments_of.Given as goal
 
 abbrev pub invariant-loop-row : goal.invariant-loop-row

@@ -1,7 +1,7 @@
 use Rattle.std.specs.Int.{w32}
 use Rattle.std.proofs.lemmas.Result.{err_from_is_err_and}
 use Rattle.image_format.specs.Reading.{number_at, times, with_front}
-use Rattle.image_format.proofs.LoopLaws.{goes_on, refuses, is_done}
+use Rattle.image_format.proofs.LoopLemmas.{goes_on, refuses, is_done}
 use Rattle.image_format.proofs.segments.words_of.Goals as goal
 
 pub returns-in_err-word : goal.returns-in_err-word

@@ -1,7 +1,7 @@
 use Rattle.std.proofs.Common.{ap, arith}
 use Rattle.image_format.specs.Picture.{Picture}
-use Rattle.image_format.proofs.FileLaws.{ram_small}
-use Rattle.image_format.proofs.ImageFacts.{words_lie}
+use Rattle.image_format.proofs.FileLemmas.{ram_small}
+use Rattle.image_format.proofs.ImageLemmas.{words_lie}
 use Rattle.image_format.proofs.writing.put_segment.Goals as goal
 
 pub overflow_cast-words : goal.overflow_cast-words

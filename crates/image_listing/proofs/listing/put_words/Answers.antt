@@ -2,7 +2,7 @@ use Rattle.std.proofs.Common.{◌≡◌, ◌+◌, ◌∷◌, [], List, ℕ, drop
 use Rattle.std.proofs.lemmas.Result.{err_from_is_err_and}
 use Rattle.host_io.specs.Pieces.{Piece, PutsSoFar, out}
 use Rattle.host_io.proofs.PieceLemmas.{puts_are_cut, puts_are_whole, puts_go_on}
-use Rattle.asm_show.specs.Listing.{listed}
+use Rattle.asm_show.specs.Listing.{listing_line}
 use Rattle.image_listing.specs.Listing.{words_listed}
 use Rattle.image_listing.proofs.ListingLemmas.{next_word, no_word}
 use Rattle.image_listing.proofs.listing.put_words.Goals as goal
@@ -15,7 +15,7 @@ returns-in_err-put_word-clause-puts g c =
     let p = err_from_is_err_and c.from_residual.result c.from_residual.ensures.1 in
     rw p.1
     (λ other. puts_are_cut (record { out = g.K.Sink.taken c.args.out.now; err = other }) (record { out = g.K.Sink.taken c.loop-word.out; err = other }) (record { out = g.K.Sink.taken c.put_word.new.out; err = other })
-    (out (listed address (slice_index_or words i 0)) ∷ []) (words_listed (address + 4) (drop (i + 1) words)) (words_listed c.args.first words)
+    (out (listing_line address (slice_index_or words i 0)) ∷ []) (words_listed (address + 4) (drop (i + 1) words)) (words_listed c.args.first words)
     (subst (λ (left : List Piece). PutsSoFar (record { out = g.K.Sink.taken c.args.out.now; err = other }) (record { out = g.K.Sink.taken c.loop-word.out; err = other }) left (words_listed c.args.first words))
     (next_word address words i c.loop-word-test.true) (c.loop-word.invariant.puts other))
     (c.in_err-put_word.ensures.puts other))
@@ -29,7 +29,7 @@ loop-word-preserved g c =
       address = omega (arith, c.loop-word.invariant.address);
       puts = λ other.
           puts_go_on (record { out = g.K.Sink.taken c.args.out.now; err = other }) (record { out = g.K.Sink.taken c.loop-word.out; err = other }) (record { out = g.K.Sink.taken c.put_word.new.out; err = other })
-          (out (listed address (slice_index_or words i 0)) ∷ []) (words_listed (address + 4) (drop (i + 1) words)) (words_listed c.args.first words)
+          (out (listing_line address (slice_index_or words i 0)) ∷ []) (words_listed (address + 4) (drop (i + 1) words)) (words_listed c.args.first words)
           (subst (λ (left : List Piece). PutsSoFar (record { out = g.K.Sink.taken c.args.out.now; err = other }) (record { out = g.K.Sink.taken c.loop-word.out; err = other }) left (words_listed c.args.first words))
           (next_word address words i c.loop-word-test.true) (c.loop-word.invariant.puts other))
           (c.in_ok-put_word.ensures.puts other);

@@ -3,7 +3,7 @@ use Rattle.std.proofs.Common.{nat_lt, rules}
 use Rattle.std.proofs.lemmas.Bool.{ltb-false, ltb-true}
 use Rattle.std.proofs.lemmas.List.Sorted.{IsPartitionPoint-from_clause, IsPartitionedBy-ltb}
 use Rattle.live_blocks.specs.declared.block.Block.{Block}
-use Rattle.live_blocks.proofs.Rising.{begins_rise}
+use Rattle.live_blocks.proofs.RisingLemmas.{begins_rise}
 use Rattle.live_blocks.proofs.walk.begun_below.Goals as goal
 
 pub returns : goal.returns

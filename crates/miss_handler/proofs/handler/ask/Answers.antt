@@ -1,6 +1,6 @@
 use Rattle.std.proofs.Common.{ap, sym, ◌∙◌}
 use Rattle.std.proofs.lemmas.Result.{IfOk-weaker}
-use Rattle.policy_trait.specs.Model.{masked}
+use Rattle.policy_trait.specs.Model.{masked_inputs}
 use Rattle.miss_handler.proofs.AskLemmas.{IsAsked, answer_is, extends_by, hit_answer, hit_kept, hit_still, hit_words, kept_by, miss_answer, still_by, told, unkept_by}
 use Rattle.miss_handler.proofs.RuleLemmas.{outs_below}
 use Rattle.miss_handler.proofs.handler.ask.Given.{Over}
@@ -15,7 +15,7 @@ asked_hit g c = record {
   laws = g.met.T.Tag.Eq.laws;
   exact = g.met.T.Tag.Same.same;
   law = c.ignores.ensures.law;
-  key_is = ap (λ words. record { group = c.args.group; words = words }) (c.masked.ensures ∙ ap (λ mask. masked mask 0 c.args.words) c.ignores.ensures.mask);
+  key_is = ap (λ words. record { group = c.args.group; words = words }) (c.masked.ensures ∙ ap (λ mask. masked_inputs mask 0 c.args.words) c.ignores.ensures.mask);
   distinct = c.len-len.ensures.sound.distinct;
   plain_word = c.requires.plain_word;
   in_words = c.requires.in_words;
@@ -53,7 +53,7 @@ asked_miss g c = record {
   laws = g.met.T.Tag.Eq.laws;
   exact = g.met.T.Tag.Same.same;
   law = c.ignores.ensures.law;
-  key_is = ap (λ words. record { group = c.args.group; words = words }) (c.masked.ensures ∙ ap (λ mask. masked mask 0 c.args.words) c.ignores.ensures.mask);
+  key_is = ap (λ words. record { group = c.args.group; words = words }) (c.masked.ensures ∙ ap (λ mask. masked_inputs mask 0 c.args.words) c.ignores.ensures.mask);
   distinct = c.len-len.ensures.sound.distinct;
   plain_word = c.requires.plain_word;
   in_words = c.requires.in_words;

@@ -1,6 +1,6 @@
 use Rattle.std.proofs.Common.{◌≡◌, ap, sym, ◌∙◌, arith}
 use Rattle.monitor_calls.specs.declared.serving.ServeEnd.TheVariants as serve_end
-use Rattle.monitor_calls.proofs.Steps.{ends_on, none_left, refused_here}
+use Rattle.monitor_calls.proofs.StepLemmas.{ends_on, none_left, refused_here}
 use Rattle.monitor_calls.proofs.serving.end_without_memory.Goals as goal
 
 pub returns-in-Err : goal.returns-in-Err

@@ -1,5 +1,5 @@
 use Rattle.std.proofs.Common.{rules, ap, sym, ◌∙◌, ◌+◌, ◌*◌}
-use Rattle.monitor_calls.proofs.Steps.{begins, ends_whole, goes_on, is_refused, placed}
+use Rattle.monitor_calls.proofs.StepLemmas.{begins, ends_whole, goes_on, is_refused, placed}
 use Rattle.monitor_calls.proofs.serving.retag_words.Goals as goal
 
 pub loop-place-init : goal.loop-place-init

@@ -1,8 +1,8 @@
 use Rattle.std.proofs.Common.{◌≡◌, ℕ, sym, subst, ◌∙◌}
-use Rattle.policy_trait.specs.Laws.{IsRange}
-use Rattle.policy_trait.specs.LawsLemmas.{given_plan}
+use Rattle.policy_trait.specs.PolicyLaws.{IsRange}
+use Rattle.policy_trait.specs.UseLaws.{given_plan}
 use Rattle.monitor_calls.specs.Ends.{EndsAs}
-use Rattle.monitor_calls.specs.Service.{retagged}
+use Rattle.monitor_calls.specs.Service.{new_tags}
 use Rattle.monitor_calls.specs.declared.serving.ServeEnd.{ServeEnd}
 use Rattle.monitor_calls.specs.declared.serving.ServeEnd.TheVariants as serve_end
 use Rattle.monitor_calls.proofs.JobLemmas.{has_room}
@@ -27,4 +27,4 @@ returns-in-Err-clause-memory g c = λ told.
     has_room g.P.Policy.model c.args.policy.now (g.W.View.word_at c.args.view.now) (g.W.View.tag_at c.args.view.now) c.args.number c.args.arguments.now c.args.pc c.in-Ok.plan c.in-Some.range
     (sym c.plan.ensures ∙ c.in-Ok.is) c.in-Some.is
     (g.met.P.Policy.lawful.ranges c.args.policy.now c.args.number c.args.arguments.now c.args.pc c.in-Ok.plan c.requires.can c.plain-plain.ensures.valid (sym c.plan.ensures ∙ c.in-Ok.is) c.in-Some.range c.in-Some.is).nonempty
-    (subst (λ (e : ServeEnd). EndsAs e (retagged g.P.Policy.model c.args.policy.now (g.W.View.word_at c.args.view.now) (g.W.View.tag_at c.args.view.now) c.in-Ok.plan c.in-Some.range.base c.in-Some.range.count)) same c.in-Err.ensures.err)
+    (subst (λ (e : ServeEnd). EndsAs e (new_tags g.P.Policy.model c.args.policy.now (g.W.View.word_at c.args.view.now) (g.W.View.tag_at c.args.view.now) c.in-Ok.plan c.in-Some.range.base c.in-Some.range.count)) same c.in-Err.ensures.err)

@@ -1,5 +1,5 @@
-use Rattle.part_turns.proofs.MachineFacts.{seen_sound}
-use Rattle.part_turns.proofs.TurnFacts.{turn_shown}
+use Rattle.part_turns.proofs.MachineLemmas.{seen_sound}
+use Rattle.part_turns.proofs.TurnLemmas.{turn_shown}
 use Rattle.part_turns.proofs.law.turn_law.Goals as goal
 
 pub returns-clause-turn : goal.returns-clause-turn

@@ -1,5 +1,5 @@
 use Rattle.std.proofs.lemmas.Result.{err_from_is_err_and}
-use Rattle.pump_cli.proofs.Ends.{start_cut, start_told}
+use Rattle.pump_cli.proofs.EndLemmas.{start_cut, start_told}
 use Rattle.pump_cli.proofs.ending.end_at_start.Goals as goal
 
 pub returns-in_err-tell_last-clause-does : goal.returns-in_err-tell_last-clause-does

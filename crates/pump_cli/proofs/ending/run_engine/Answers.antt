@@ -5,7 +5,7 @@ use Rattle.turn_steps.specs.declared.stop.Stop.{Stop}
 use Rattle.engine_trait.specs.Standing.{Standing}
 use Rattle.rounds.specs.Course.{hart_stops, rounds}
 use Rattle.pump_cli.specs.Endings.{last_pieces, status_of}
-use Rattle.pump_cli.proofs.Ends.{last_cut, run_ended, turns_cut}
+use Rattle.pump_cli.proofs.EndLemmas.{last_cut, run_ended, turns_cut}
 use Rattle.pump_cli.proofs.ending.run_engine.Goals as goal
 
 pub returns-in_err-make_rounds-clause-does : goal.returns-in_err-make_rounds-clause-does

@@ -2,7 +2,7 @@ use Rattle.std.proofs.Common.{List, codes, subst, sym, ◌∙◌}
 use Rattle.host_io.specs.Pieces.{Piece, Puts}
 use Rattle.host_io.proofs.PieceLemmas.{put_on_err}
 use Rattle.tag_text.specs.Texts.{line}
-use Rattle.pump_cli.proofs.Ends.{last_is_out, last_is_spent}
+use Rattle.pump_cli.proofs.EndLemmas.{last_is_out, last_is_spent}
 use Rattle.pump_cli.proofs.ending.tell_last.Goals as goal
 
 pub returns-then-is_out-clause-told : goal.returns-then-is_out-clause-told

@@ -1,5 +1,5 @@
 use Rattle.pump_line.specs.Told.{texts_of}
-use Rattle.pump_cli.proofs.SafeRuns.{safe_runs}
+use Rattle.pump_cli.proofs.SafeRunLemmas.{safe_runs}
 use Rattle.pump_cli.proofs.program.pump.Goals as goal
 
 pub returns-in-Ok-clause-safe : goal.returns-in-Ok-clause-safe

@@ -2,7 +2,7 @@ use Rattle.std.proofs.Common.{◌≡◌, List, ℕ, rules, Err, IfSome, ap, subs
 use Rattle.pump_cli.specs.Reading.{file_limit, within_limit}
 use Rattle.pump_cli.specs.declared.refusal.Refusal.{Refusal}
 use Rattle.pump_cli.specs.declared.refusal.Refusal.TheVariants.{TooLong}
-use Rattle.pump_cli.proofs.Gathering.{file_taken, file_too_long}
+use Rattle.pump_cli.proofs.GatheringLemmas.{file_taken, file_too_long}
 use Rattle.pump_cli.proofs.reading.load_file.Goals as goal
 
 pub returns-in-Ok-clause-taken : goal.returns-in-Ok-clause-taken

@@ -1,6 +1,6 @@
 use Rattle.std.proofs.Common.{◌≡◌, Err, ap}
 use Rattle.pump_cli.specs.declared.reading.EarlyEnd.TheVariants.{Refused}
-use Rattle.pump_cli.proofs.Gathering.{image_refused, image_taken, lent_taken, no_image_taken}
+use Rattle.pump_cli.proofs.GatheringLemmas.{image_refused, image_taken, lent_taken, no_image_taken}
 use Rattle.pump_cli.proofs.reading.load_image.Goals as goal
 
 pub returns-in-Ok-clause-taken : goal.returns-in-Ok-clause-taken

@@ -1,6 +1,6 @@
 use Rattle.std.proofs.Common.{◌≡◌, Err, ap}
 use Rattle.pump_cli.specs.declared.reading.EarlyEnd.TheVariants.{Refused}
-use Rattle.pump_cli.proofs.Gathering.{source_refused, source_taken, lent_taken, no_source_taken}
+use Rattle.pump_cli.proofs.GatheringLemmas.{source_refused, source_taken, lent_taken, no_source_taken}
 use Rattle.pump_cli.proofs.reading.load_source.Goals as goal
 
 pub returns-in-Ok-clause-taken : goal.returns-in-Ok-clause-taken

@@ -2,7 +2,7 @@ use Rattle.std.proofs.Common.{◌≡◌, List, ℕ, rules, Err, IfSome, ap, subs
 use Rattle.pump_cli.specs.Reading.{input_read}
 use Rattle.pump_cli.specs.declared.refusal.Refusal.{Refusal}
 use Rattle.pump_cli.specs.declared.refusal.Refusal.TheVariants.{TooLong}
-use Rattle.pump_cli.proofs.Gathering.{input_taken, input_too_long}
+use Rattle.pump_cli.proofs.GatheringLemmas.{input_taken, input_too_long}
 use Rattle.pump_cli.proofs.reading.read_input.Goals as goal
 
 pub returns-in-Ok-clause-taken : goal.returns-in-Ok-clause-taken

@@ -1,7 +1,7 @@
 use Rattle.std.proofs.Common.{◌≡◌, rules}
 use Rattle.tag_text.specs.Texts.{line}
 use Rattle.pump_cli.specs.Texts.{refusal_text}
-use Rattle.pump_cli.proofs.Ends.{refusal_cut, refusal_told}
+use Rattle.pump_cli.proofs.EndLemmas.{refusal_cut, refusal_told}
 use Rattle.pump_cli.proofs.refusal.refuse.Goals as goal
 
 pub returns-in-Ok : goal.returns-in-Ok

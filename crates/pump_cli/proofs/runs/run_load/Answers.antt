@@ -3,8 +3,8 @@ use Rattle.engine_trait.specs.Standing.{Standing}
 use Rattle.rounds.specs.Course.{rounds}
 use Rattle.pump_cli.specs.Endings.{Outcome, outcome_of_course}
 use Rattle.pump_cli.specs.Facts.{Does}
-use Rattle.pump_cli.proofs.Answering.{does_nothing}
-use Rattle.pump_cli.proofs.Starts.{over_outcome, started_within}
+use Rattle.pump_cli.proofs.AnswerLemmas.{does_nothing}
+use Rattle.pump_cli.proofs.StartLemmas.{over_outcome, started_within}
 use Rattle.pump_cli.proofs.runs.run_load.Goals as goal
 
 pub returns-in-Err-TagsOut-clause-does : goal.returns-in-Err-TagsOut-clause-does

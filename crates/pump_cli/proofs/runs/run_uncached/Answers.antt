@@ -2,18 +2,18 @@ use Rattle.std.proofs.Common.{ap, subst}
 use Rattle.policy_choice.specs.All.{AllState, AllTag, all, all_eq}
 use Rattle.engine_trait.specs.Standing.{Standing}
 use Rattle.rounds.specs.Course.{rounds}
-use Rattle.pump_line.specs.Told.{run_told}
+use Rattle.pump_line.specs.Told.{run_value}
 use Rattle.tag_loader.specs.Loads.{start_of_load}
 use Rattle.pump_cli.specs.Endings.{Outcome, outcome_of_course}
 use Rattle.pump_cli.specs.Facts.{Does}
-use Rattle.pump_cli.specs.Program.{started}
-use Rattle.pump_cli.proofs.Starts.{uncached_outcome}
+use Rattle.pump_cli.specs.Program.{standing_at_start}
+use Rattle.pump_cli.proofs.StartLemmas.{uncached_outcome}
 use Rattle.pump_cli.proofs.runs.run_uncached.Goals as goal
 
 pub returns-clause-does : goal.returns-clause-does
 returns-clause-does g c =
-    subst (λ (due : Outcome). DoesAs due) (uncached_outcome (run_told c.args.task) c.args.image.now c.args.fed.items c.requires)
-    (subst (λ (start : Standing AllState AllTag). DoesAs (outcome_of_course (rounds all_eq all c.args.task.turns 0 (started start) c.args.fed.items)))
+    subst (λ (due : Outcome). DoesAs due) (uncached_outcome (run_value c.args.task) c.args.image.now c.args.fed.items c.requires)
+    (subst (λ (start : Standing AllState AllTag). DoesAs (outcome_of_course (rounds all_eq all c.args.task.turns 0 (standing_at_start start) c.args.fed.items)))
     (ap start_of_load c.new-loader.ensures) c.run_load.ensures.does)
   where
     DoesAs : Outcome → Type 0

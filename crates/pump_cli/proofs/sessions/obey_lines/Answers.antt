@@ -1,11 +1,11 @@
-use Rattle.pump_line.specs.Told.{shell_told}
+use Rattle.pump_line.specs.Told.{shell_value}
 use Rattle.pump_cli.proofs.SessionLemmas.{broken_faults, ended_faults, past_limit, session_broken, session_ended, session_ok}
 use Rattle.std.proofs.Common.{ap}
 use Rattle.pump_cli.proofs.sessions.obey_lines.Goals as goal
 
 pub returns-in-Ok-clause-does : goal.returns-in-Ok-clause-does
 returns-in-Ok-clause-does g c =
-    session_ended (shell_told c.args.task) c.args.image.now (g.S.Source.left c.args.input.now) (g.K.Sink.taken c.args.out.now) (g.K.Sink.taken c.run_session.new.out)
+    session_ended (shell_value c.args.task) c.args.image.now (g.S.Source.left c.args.input.now) (g.K.Sink.taken c.args.out.now) (g.K.Sink.taken c.run_session.new.out)
     (g.L.Sink.taken c.args.err.now) (g.L.Sink.taken c.end_session.new.err) c.in-Ok.end c.end_session.result c.in-Ok.ensures.done c.in-Ok.ensures.puts c.end_session.ensures.does
 
 pub returns-in-Ok-clause-faults : goal.returns-in-Ok-clause-faults
@@ -22,7 +22,7 @@ returns-in-Ok-clause-unread g c out = c.in-Ok.ensures.unread (ap session_ok (c.e
 
 pub returns-in-Err-clause-does : goal.returns-in-Err-clause-does
 returns-in-Err-clause-does g c =
-    session_broken (shell_told c.args.task) c.args.image.now (g.S.Source.left c.args.input.now) (g.K.Sink.taken c.args.out.now) (g.K.Sink.taken c.run_session.new.out)
+    session_broken (shell_value c.args.task) c.args.image.now (g.S.Source.left c.args.input.now) (g.K.Sink.taken c.args.out.now) (g.K.Sink.taken c.run_session.new.out)
     (g.L.Sink.taken c.args.err.now) c.in-Err.cut c.from.result c.in-Err.ensures.puts
 
 pub returns-in-Err-clause-faults : goal.returns-in-Err-clause-faults

@@ -3,13 +3,13 @@ use Rattle.std.proofs.lemmas.Result.{IfOk-weaker}
 use Rattle.pump_line.specs.Line.{HasMatch}
 use Rattle.pump_line.specs.Request.{request_at}
 use Rattle.pump_line.specs.Task.{task_in, task_of}
-use Rattle.pump_line.specs.Told.{texts_of, told}
+use Rattle.pump_line.specs.Told.{texts_of, task_value}
 use Rattle.pump_line.proofs.LimitLemmas.{words_allow}
 use Rattle.pump_line.proofs.ReadLemmas.{asks_matched, faulty_if_bad, is_simple_if, matched, no_task, none_if_bad, same_faults, task_if_ok}
 use Rattle.pump_line.proofs.task.read_task.Goals as goal
 
 -- what was read of a match is what the words ask for
-reads : (c : goal.Joined-matches) → option_map told c.task_matched.result ≡ task_of (texts_of c.args.words.now.items)
+reads : (c : goal.Joined-matches) → option_map task_value c.task_matched.result ≡ task_of (texts_of c.args.words.now.items)
 reads c =
     let same = ap texts_of c.as_slice.ensures.value in
     let rows = matched _ _ (texts_of c.args.words.now.items) c.in-Ok.matches c.in_ok-command.ensures same c.in-Ok.ensures.matches in
@@ -23,7 +23,7 @@ returns-in-Ok-clause-task c = task_if_ok c.task_matched.result c.ok_or.result _ 
 
 pub returns-in-Ok-clause-tags : goal.returns-in-Ok-clause-tags
 returns-in-Ok-clause-tags c =
-    IfOk-weaker c.ok_or.result _ _ (λ task asked. words_allow (texts_of c.args.words.now.items) (told task) asked)
+    IfOk-weaker c.ok_or.result _ _ (λ task asked. words_allow (texts_of c.args.words.now.items) (task_value task) asked)
     (task_if_ok c.task_matched.result c.ok_or.result _ (reads c) c.ok_or.ensures.value)
 
 pub returns-in-Ok-clause-bad : goal.returns-in-Ok-clause-bad

@@ -6,7 +6,7 @@ use Rattle.shell_turns.specs.Cuts.{PutsOut}
 use Rattle.pump_loader.specs.Loads.{cached_start_of_load}
 use Rattle.pump_shell.specs.Told.{told_from}
 use Rattle.pump_shell.specs.declared.ends.SessionEnd.{SessionEnd}
-use Rattle.pump_shell.proofs.Starts.{kept_start}
+use Rattle.pump_shell.proofs.StartLemmas.{kept_start}
 use Rattle.pump_shell.proofs.session.session_kept.Goals as goal
 
 pub returns-clause-done : goal.returns-clause-done

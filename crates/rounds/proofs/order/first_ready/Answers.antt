@@ -1,6 +1,6 @@
 use Rattle.std.proofs.Common.{◌≡◌, ◌+◌, ◌-◌, ◌<◌, length, ap, sym, ◌∙◌, arith}
 use Rattle.rounds.specs.Course.{first_ready}
-use Rattle.rounds.proofs.Readiness.{is_first, none_left, not_first}
+use Rattle.rounds.proofs.ReadinessLemmas.{is_first, none_left, not_first}
 use Rattle.rounds.proofs.order.first_ready.Goals as goal
 
 pub loop-h-preserved : goal.loop-h-preserved

@@ -1,5 +1,5 @@
 use Rattle.std.proofs.Common.{◌∙◌}
-use Rattle.rounds.proofs.Readiness.{in_order, next_in_order}
+use Rattle.rounds.proofs.ReadinessLemmas.{in_order, next_in_order}
 use Rattle.rounds.proofs.order.next_after.Goals as goal
 
 pub bounds-deref-h : goal.bounds-deref-h

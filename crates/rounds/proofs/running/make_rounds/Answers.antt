@@ -1,9 +1,9 @@
 use Rattle.std.proofs.Common.{Err, arith, refl, ap, subst, sym, ◌∙◌, ◌≡◌, ◌+◌, ◌-◌, ◌<◌, ℕ}
 use Rattle.std.proofs.lemmas.Result.{err_from_is_err_and}
 use Rattle.rounds.specs.Course.{is_stop, rounds}
-use Rattle.rounds.proofs.Readiness.{next_there}
-use Rattle.rounds.proofs.Stopping.{order_stays}
-use Rattle.rounds.proofs.Turning.{left_begins, left_ends, left_goes_on, left_is_cut, left_is_cut_between, rounds-none, rounds-over, same_err}
+use Rattle.rounds.proofs.ReadinessLemmas.{next_there}
+use Rattle.rounds.proofs.StopLemmas.{order_stays}
+use Rattle.rounds.proofs.TurnLemmas.{left_begins, left_ends, left_goes_on, left_is_cut, left_is_cut_between, rounds-none, rounds-over, same_err}
 use Rattle.rounds.proofs.running.make_rounds.Goals as goal
 
 pub loop-init : goal.loop-init

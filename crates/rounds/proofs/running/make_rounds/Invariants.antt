@@ -1,6 +1,6 @@
 use Rattle.std.proofs.Common.{◌≡◌, ℕ, ◌-◌}
 use Rattle.rounds.specs.Course.{next_turn, order_in, rounds}
-use Rattle.rounds.proofs.Turning.{IsLeft}
+use Rattle.rounds.proofs.TurnLemmas.{IsLeft}
 use Rattle.rounds.proofs.running.make_rounds.Given as goal
 
 abbrev pub invariant-loop : goal.invariant-loop

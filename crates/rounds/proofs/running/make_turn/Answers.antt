@@ -1,4 +1,4 @@
-use Rattle.rounds.proofs.Turning.{made_runs}
+use Rattle.rounds.proofs.TurnLemmas.{made_runs}
 use Rattle.host_io.proofs.PieceLemmas.{puts_begin, puts_none}
 use Rattle.rounds.proofs.running.make_turn.Goals as goal
 

@@ -1,4 +1,4 @@
-use Rattle.run_examples.proofs.Computed.{all_retire, blocks_are, is_image, is_safe, jump_is, keys_are, landing_is, shared_is, walk_is}
+use Rattle.run_examples.proofs.ComputedLemmas.{all_retire, blocks_are, is_image, is_safe, jump_is, keys_are, landing_is, shared_is, walk_is}
 use Rattle.run_examples.proofs.law.example_law.Goals as goal
 
 pub returns-clause-image : goal.returns-clause-image

@@ -1,7 +1,7 @@
 use Rattle.std.proofs.Common.{rules, arith, ◌≡◌, ◌≤◌, ℕ, List, [], ◌++◌, Bool, true, false, drop, length, take, Ok, Err, IfSome, refl, ap, sym, subst, ◌∙◌}
 use Rattle.std.specs.Io.KnownBytes.{IsAtEnd, prepend_known}
 use Rattle.std.proofs.lemmas.List.{length-append, length-drop, length-take}
-use Rattle.host_io.proofs.Reading.{prepend_known-append}
+use Rattle.host_io.proofs.ReadingLemmas.{prepend_known-append}
 use Rattle.shell_lang.specs.Stream.{answers_along, end_answer, onto_answers}
 use Rattle.shell_turns.specs.Cuts.{PutsOut}
 use Rattle.shell_turns.specs.declared.ends.ObeyEnd.TheVariants as obey_end

@@ -3,7 +3,7 @@ use Rattle.std.proofs.lemmas.List.{length-append}
 use Rattle.std.proofs.lemmas.Result.{err_from_is_err_and}
 use Rattle.engine_trait.specs.Standing.{step}
 use Rattle.shell_turns.specs.Order.{order_of}
-use Rattle.shell_turns.specs.Told.{counted, is_last}
+use Rattle.shell_turns.specs.Told.{counted_harts, is_last}
 use Rattle.shell_turns.specs.Turns.{step_pieces}
 use Rattle.shell_turns.proofs.PutLemmas.{done, puts_as, puts_nothing, puts_on}
 use Rattle.shell_turns.proofs.TurnLemmas.{finishes, way_begins, way_cut, way_ends, way_goes_on, way_lasts, way_stands, way_stops}
@@ -54,12 +54,12 @@ loop-preserved g c =
     let start = g.E.Engine.standing c.args.engine.now in
     let here = g.E.Engine.standing c.loop.engine in
     let stepped = step eq m here c.loop.feed c.in-Some.h in
-    let counts : c.count_of-count.result ≡ length (counted c.in-Some.h stepped.ended)
-    = c.count_of-count.ensures.count c.in-Some.h ∙ ap (λ ended. length (counted c.in-Some.h ended)) c.in_ok-end.ensures.ended in
+    let counts : c.count_of-count.result ≡ length (counted_harts c.in-Some.h stepped.ended)
+    = c.count_of-count.ensures.count c.in-Some.h ∙ ap (λ ended. length (counted_harts c.in-Some.h ended)) c.in_ok-end.ensures.ended in
     let last = (λ j. is_last c.args.breaks.now (sym c.in_ok-end.ensures.pc j) (sym c.in_ok-end.ensures.ended j)) ∙ sym c.is_last.ensures in
     record {
       pieces = c.loop.invariant.pieces ++ step_pieces c.args.breaks.now c.in-Some.h stepped;
-      harts = c.loop.invariant.harts ++ counted c.in-Some.h stepped.ended;
+      harts = c.loop.invariant.harts ++ counted_harts c.in-Some.h stepped.ended;
       way =
           way_goes_on eq m c.args.breaks.now (order_of c.args.order) start c.args.feed.now c.loop.counter c.loop.invariant.pieces c.loop.invariant.harts
           (order_of c.loop.order) here c.loop.feed c.loop.invariant.way c.in-Some.h (order_of c.in-Some.others) (search rules) (last ∙ c.if-is_last.false)
@@ -67,7 +67,7 @@ loop-preserved g c =
       named = search rules;
       count =
           (λ j. c.loop.invariant.count j + counts j)
-          ∙ sym (length-append c.loop.invariant.harts (counted c.in-Some.h stepped.ended));
+          ∙ sym (length-append c.loop.invariant.harts (counted_harts c.in-Some.h stepped.ended));
       few = omega (arith, c.loop.invariant.few, c.count_of-count.ensures.few);
       stay = c.in_ok-end.ensures.harts ∙ c.loop.invariant.stay;
       puts =
@@ -132,17 +132,17 @@ returns-then-is_last-clause-made g c =
     let start = g.E.Engine.standing c.args.engine.now in
     let here = g.E.Engine.standing c.loop.engine in
     let stepped = step eq m here c.loop.feed c.in-Some.h in
-    let counts : c.count_of-count.result ≡ length (counted c.in-Some.h stepped.ended)
-    = c.count_of-count.ensures.count c.in-Some.h ∙ ap (λ ended. length (counted c.in-Some.h ended)) c.in_ok-end.ensures.ended in
+    let counts : c.count_of-count.result ≡ length (counted_harts c.in-Some.h stepped.ended)
+    = c.count_of-count.ensures.count c.in-Some.h ∙ ap (λ ended. length (counted_harts c.in-Some.h ended)) c.in_ok-end.ensures.ended in
     let last = (λ j. is_last c.args.breaks.now (sym c.in_ok-end.ensures.pc j) (sym c.in_ok-end.ensures.ended j)) ∙ sym c.is_last.ensures in
     let done_all = way_lasts eq m c.args.breaks.now (order_of c.args.order) start c.args.feed.now c.loop.counter c.loop.invariant.pieces c.loop.invariant.harts
     (order_of c.loop.order) here c.loop.feed c.loop.invariant.way c.in-Some.h (order_of c.in-Some.others) (search rules) (last ∙ c.if-is_last.true)
     (g.E.Engine.standing c.make_turn.new.engine) c.make_turn.new.feed c.in_ok-end.ensures.standing c.in_ok-end.ensures.feed c.args.budget c.loop-test.true in
     let all = finishes eq m c.args.breaks.now (order_of c.args.order) start c.args.feed.now c.args.budget
-    (c.loop.invariant.pieces ++ step_pieces c.args.breaks.now c.in-Some.h stepped) (c.loop.invariant.harts ++ counted c.in-Some.h stepped.ended)
+    (c.loop.invariant.pieces ++ step_pieces c.args.breaks.now c.in-Some.h stepped) (c.loop.invariant.harts ++ counted_harts c.in-Some.h stepped.ended)
     (g.E.Engine.standing c.make_turn.new.engine) c.make_turn.new.feed (c.loop.count + c.count_of-count.result)
     (g.K.Sink.taken c.args.out.now) (g.K.Sink.taken c.make_turn.new.out) done_all
-    ((λ j. c.loop.invariant.count j + counts j) ∙ sym (length-append c.loop.invariant.harts (counted c.in-Some.h stepped.ended)))
+    ((λ j. c.loop.invariant.count j + counts j) ∙ sym (length-append c.loop.invariant.harts (counted_harts c.in-Some.h stepped.ended)))
     (puts_on (g.K.Sink.taken c.args.out.now) (g.K.Sink.taken c.loop.out) (g.K.Sink.taken c.make_turn.new.out) c.loop.invariant.pieces
     (step_pieces c.args.breaks.now c.in-Some.h stepped) tt done c.loop.invariant.puts
     (puts_as (g.K.Sink.taken c.loop.out) (g.K.Sink.taken c.make_turn.new.out) (step_pieces c.args.breaks.now c.in-Some.h stepped) (c.in_ok-end.end, c.in_ok-end.pc) tt c.in_ok-end.ensures.puts)) in
@@ -155,17 +155,17 @@ returns-then-is_last-clause-puts g c =
     let start = g.E.Engine.standing c.args.engine.now in
     let here = g.E.Engine.standing c.loop.engine in
     let stepped = step eq m here c.loop.feed c.in-Some.h in
-    let counts : c.count_of-count.result ≡ length (counted c.in-Some.h stepped.ended)
-    = c.count_of-count.ensures.count c.in-Some.h ∙ ap (λ ended. length (counted c.in-Some.h ended)) c.in_ok-end.ensures.ended in
+    let counts : c.count_of-count.result ≡ length (counted_harts c.in-Some.h stepped.ended)
+    = c.count_of-count.ensures.count c.in-Some.h ∙ ap (λ ended. length (counted_harts c.in-Some.h ended)) c.in_ok-end.ensures.ended in
     let last = (λ j. is_last c.args.breaks.now (sym c.in_ok-end.ensures.pc j) (sym c.in_ok-end.ensures.ended j)) ∙ sym c.is_last.ensures in
     let done_all = way_lasts eq m c.args.breaks.now (order_of c.args.order) start c.args.feed.now c.loop.counter c.loop.invariant.pieces c.loop.invariant.harts
     (order_of c.loop.order) here c.loop.feed c.loop.invariant.way c.in-Some.h (order_of c.in-Some.others) (search rules) (last ∙ c.if-is_last.true)
     (g.E.Engine.standing c.make_turn.new.engine) c.make_turn.new.feed c.in_ok-end.ensures.standing c.in_ok-end.ensures.feed c.args.budget c.loop-test.true in
     let all = finishes eq m c.args.breaks.now (order_of c.args.order) start c.args.feed.now c.args.budget
-    (c.loop.invariant.pieces ++ step_pieces c.args.breaks.now c.in-Some.h stepped) (c.loop.invariant.harts ++ counted c.in-Some.h stepped.ended)
+    (c.loop.invariant.pieces ++ step_pieces c.args.breaks.now c.in-Some.h stepped) (c.loop.invariant.harts ++ counted_harts c.in-Some.h stepped.ended)
     (g.E.Engine.standing c.make_turn.new.engine) c.make_turn.new.feed (c.loop.count + c.count_of-count.result)
     (g.K.Sink.taken c.args.out.now) (g.K.Sink.taken c.make_turn.new.out) done_all
-    ((λ j. c.loop.invariant.count j + counts j) ∙ sym (length-append c.loop.invariant.harts (counted c.in-Some.h stepped.ended)))
+    ((λ j. c.loop.invariant.count j + counts j) ∙ sym (length-append c.loop.invariant.harts (counted_harts c.in-Some.h stepped.ended)))
     (puts_on (g.K.Sink.taken c.args.out.now) (g.K.Sink.taken c.loop.out) (g.K.Sink.taken c.make_turn.new.out) c.loop.invariant.pieces
     (step_pieces c.args.breaks.now c.in-Some.h stepped) tt done c.loop.invariant.puts
     (puts_as (g.K.Sink.taken c.loop.out) (g.K.Sink.taken c.make_turn.new.out) (step_pieces c.args.breaks.now c.in-Some.h stepped) (c.in_ok-end.end, c.in_ok-end.pc) tt c.in_ok-end.ensures.puts)) in

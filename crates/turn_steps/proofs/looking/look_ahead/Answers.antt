@@ -1,17 +1,17 @@
 use Rattle.std.proofs.Common.{rules, ◌≡◌, ◌∙◌}
-use Rattle.turn_steps.specs.Looks.{effect_at, inputs_at, looked}
+use Rattle.turn_steps.specs.Looks.{effect_at, inputs_at, look_result}
 use Rattle.turn_steps.proofs.PlaceLemmas.{effect_is, inputs_are}
 use Rattle.turn_steps.proofs.looking.look_ahead.Goals as goal
 
 pub returns-in_err-check-clause-value : goal.returns-in_err-check-clause-value
-unfolding looked
+unfolding look_result
 returns-in_err-check-clause-value g c =
     let effect : c.effect_of-effect.result ≡ effect_at c.args.hart.now c.in-Some.instr =
     c.effect_of-effect.ensures.value ∙ effect_is c.args.hart.now c.in-Some.instr c.places-places.result c.reg-service.result c.places-places.ensures in
     search rules
 
 pub returns-clause-value : goal.returns-clause-value
-unfolding looked
+unfolding look_result
 returns-clause-value g c =
     let effect : c.effect_of-effect.result ≡ effect_at c.args.hart.now c.in-Some.instr =
     c.effect_of-effect.ensures.value ∙ effect_is c.args.hart.now c.in-Some.instr c.places-places.result c.reg-service.result c.places-places.ensures in

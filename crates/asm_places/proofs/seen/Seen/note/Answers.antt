@@ -4,7 +4,7 @@ use Rattle.std.specs.BTreeSet.{contains}
 use Rattle.std.specs.Ordering.{int_cmp}
 use Rattle.std.proofs.lemmas.Result.{on_ok_weaker}
 use Rattle.asm_places.specs.Seen.{enters}
-use Rattle.asm_places.proofs.SeenLaws.{noted}
+use Rattle.asm_places.proofs.SeenLemmas.{noted}
 use Rattle.asm_places.proofs.seen.Seen.note.Goals as goal
 
 pub returns : goal.returns

@@ -1,6 +1,6 @@
 -- Fewer bytes came than were let through, so they are all.
 use Rattle.std.proofs.Common.{arith}
-use Rattle.host_io.proofs.Reading.{whole_front}
+use Rattle.host_io.proofs.ReadingLemmas.{whole_front}
 use Rattle.host_io.proofs.system.std_files.read_within.Goals as goal
 
 pub returns-clause-ok : goal.returns-clause-ok

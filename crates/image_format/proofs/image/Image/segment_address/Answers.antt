@@ -1,4 +1,4 @@
-use Rattle.image_format.proofs.ImageFacts.{address_lies}
+use Rattle.image_format.proofs.ImageLemmas.{address_lies}
 use Rattle.image_format.proofs.image.Image.segment_address.Goals as goal
 
 pub returns-clause-aligned : goal.returns-clause-aligned

@@ -1,4 +1,4 @@
-use Rattle.image_format.proofs.ImageFacts.{words_lie}
+use Rattle.image_format.proofs.ImageLemmas.{words_lie}
 use Rattle.image_format.proofs.image.Image.segment_words.Goals as goal
 
 pub returns-clause-some : goal.returns-clause-some

@@ -1,5 +1,5 @@
 use Rattle.std.proofs.Common.{sym, ◌∙◌}
-use Rattle.image_format.proofs.BuildingLaws.{is_joined, is_first, is_begun}
+use Rattle.image_format.proofs.BuildingLemmas.{is_joined, is_first, is_begun}
 use Rattle.image_format.proofs.segments.Segments.put_word.Goals as goal
 use Rattle.image_format.proofs.segments.Segments.put_word.Goals.{else-count-gt0-via-then-count-gt0+else-is_up_to, else-count-gt0-via-else-count-gt0}
 

@@ -6,8 +6,8 @@ use Rattle.std.proofs.lemmas.Bool.Decides.{nat_tests}
 use Rattle.live_blocks.specs.declared.block.Block.{Block}
 use Rattle.live_blocks.specs.Run.{IsPlaceOf}
 use Rattle.live_blocks.specs.Space.{Space}
-use Rattle.live_blocks.proofs.Lists.{find_fails, find_passes}
-use Rattle.live_blocks.proofs.Numbers.{AreNumbered}
+use Rattle.live_blocks.proofs.ListLemmas.{find_fails, find_passes}
+use Rattle.live_blocks.proofs.NumberLemmas.{AreNumbered}
 use Rattle.live_blocks.proofs.live.LiveBlocks.find.Goals as goal
 
 differs : (x number : ℕ) → x ≢ number → (x == number) ≡ false

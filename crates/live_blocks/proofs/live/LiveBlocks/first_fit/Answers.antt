@@ -6,8 +6,8 @@ use Rattle.live_blocks.specs.declared.block.Block.{Block}
 use Rattle.live_blocks.specs.Fit.{first_found, found_first, none_found}
 use Rattle.live_blocks.specs.Run.{AreBegun, IsKept, gap_at}
 use Rattle.live_blocks.specs.Space.{Space, first_fit}
-use Rattle.live_blocks.proofs.Gaps.{IsGap, first_in_gap, none_past_gap, walk_begins, walk_ends}
-use Rattle.live_blocks.proofs.Lists.{rest}
+use Rattle.live_blocks.proofs.GapLemmas.{IsGap, first_in_gap, none_past_gap, walk_begins, walk_ends}
+use Rattle.live_blocks.proofs.ListLemmas.{rest}
 use Rattle.live_blocks.proofs.live.LiveBlocks.first_fit.Goals as goal
 
 -- the gap, if it ends in the region

@@ -5,9 +5,9 @@ use Rattle.std.proofs.lemmas.List.Elements.{All-drop, All-take}
 use Rattle.live_blocks.specs.declared.block.Block.{Block}
 use Rattle.live_blocks.specs.Run.{AreBegun, IsKept, IsRising, run_end}
 use Rattle.live_blocks.specs.Space.{Space, end_of, with_block}
-use Rattle.live_blocks.proofs.Inserts.{inserted_small, kept_insert, ordered}
-use Rattle.live_blocks.proofs.Lists.{rest}
-use Rattle.live_blocks.proofs.Same.{kept_same}
+use Rattle.live_blocks.proofs.InsertLemmas.{inserted_small, kept_insert, ordered}
+use Rattle.live_blocks.proofs.ListLemmas.{rest}
+use Rattle.live_blocks.proofs.SameLemmas.{kept_same}
 use Rattle.live_blocks.proofs.live.LiveBlocks.insert.Goals as goal
 
 pub begun_below-start-requires : goal.begun_below-start-requires

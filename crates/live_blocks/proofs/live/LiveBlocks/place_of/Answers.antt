@@ -2,7 +2,7 @@
 use Rattle.std.proofs.Common.{rules}
 use Rattle.std.proofs.lemmas.List.Sorted.{answers_always}
 use Rattle.live_blocks.specs.declared.block.Block.{Block}
-use Rattle.live_blocks.proofs.Numbers.{searched}
+use Rattle.live_blocks.proofs.NumberLemmas.{searched}
 use Rattle.live_blocks.proofs.live.LiveBlocks.place_of.Goals as goal
 
 pub returns-clause-found : goal.returns-clause-found

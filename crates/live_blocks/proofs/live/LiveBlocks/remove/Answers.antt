@@ -4,9 +4,9 @@ use Rattle.std.specs.List.{remove}
 use Rattle.live_blocks.specs.declared.block.Block.{Block}
 use Rattle.live_blocks.specs.Run.{AreBegun, IsPlaceOf}
 use Rattle.live_blocks.specs.Space.{Space, without_block}
-use Rattle.live_blocks.proofs.Lists.{filter_keeps}
-use Rattle.live_blocks.proofs.Removes.{kept_remove, other_passes, removed, stands}
-use Rattle.live_blocks.proofs.Same.{kept_same}
+use Rattle.live_blocks.proofs.ListLemmas.{filter_keeps}
+use Rattle.live_blocks.proofs.RemoveLemmas.{kept_remove, other_passes, removed, stands}
+use Rattle.live_blocks.proofs.SameLemmas.{kept_same}
 use Rattle.live_blocks.proofs.live.LiveBlocks.remove.Goals as goal
 
 pub remove-requires : goal.remove-requires

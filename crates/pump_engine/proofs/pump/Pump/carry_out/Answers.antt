@@ -3,7 +3,7 @@ use Rattle.rv_decode.specs.declared.groups.Group.{Group}
 use Rattle.policy_trait.specs.Model.{IsGiven}
 use Rattle.tag_memory.specs.Ram.{IsPlace, ram_bytes}
 use Rattle.monitor_calls.specs.Ends.{job_by}
-use Rattle.engine_trait.specs.Accounts.{counted}
+use Rattle.engine_trait.specs.Accounts.{next_count}
 use Rattle.engine_trait.specs.Turn.{core_served}
 use Rattle.miss_handler.specs.Asked.{AreOutWords}
 use Rattle.tag_intern.proofs.TableLemmas.{longer}
@@ -82,7 +82,7 @@ returns-clause-ends g c =
     let noted : c.commit.new.self ≡ g.P.Policy.model.commit c.self.inside.policy c.args.job.now.plan = search rules in
     let core_is : c.serve.new.self ≡ core_served c.self.inside.core c.args.h c.in-Ok.written.words.items c.in-Ok.written.answer c.args.look.now.effect.next c.args.outs.pc =
     c.serve.ensures.core ∙ ap (λ words. core_served c.self.inside.core c.args.h words c.in-Ok.written.answer c.args.look.now.effect.next c.args.outs.pc) c.deref.ensures.value in
-    let turns_are : c.saturating_add-self-inside.result ≡ counted c.self.inside.turns = search rules in
+    let turns_are : c.saturating_add-self-inside.result ≡ next_count c.self.inside.turns = search rules in
     let left_is : pump_of c.commit.new.self c.serve.new.self (g.T.TagTable.state c.intern_job.new.tags) (g.C.RuleStore.state c.self.inside.store) c.saturating_add-self-inside.result c.self.inside.halt
     ≡ left g.P.Tag.PartialEq.eq g.P.Policy.model g.P.Policy.holds g.met.P.Policy.lawful p c.self.invariant.pump c.args.h c.args.look.now c.args.outs (job_by c.args.job.now.plan c.args.job.now.words.items) (g.T.TagTable.state c.intern_job.new.tags) c.in-Ok.written.words.items c.in-Ok.written.answer =
     λ j. pump_of (noted j) (core_is j) (g.T.TagTable.state c.intern_job.new.tags) (g.C.RuleStore.state c.self.inside.store) (turns_are j) c.self.inside.halt in

@@ -1,7 +1,7 @@
 -- The bytes that are copied out are the first of those left.
 use Rattle.std.proofs.Common.{rules, sym, ap, ◌∙◌}
 use Rattle.host_io.specs.Supply.{left_in}
-use Rattle.host_io.proofs.Supplies.{slice_to_end, read_moves}
+use Rattle.host_io.proofs.SupplyLemmas.{slice_to_end, read_moves}
 use Rattle.host_io.proofs.memory.sure_source.SureSourceSource.read.Goals as goal
 
 pub returns-clause-moved : goal.returns-clause-moved

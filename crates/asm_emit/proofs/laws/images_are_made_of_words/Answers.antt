@@ -1,5 +1,0 @@
-use Rattle.asm_emit.proofs.EmittedLemmas.{made_of_words}
-use Rattle.asm_emit.proofs.laws.images_are_made_of_words.Goals as goal
-
-pub returns : goal.returns
-returns c = made_of_words

@@ -1,5 +1,0 @@
-use Rattle.asm_words.proofs.EncodingLemmas.{table_encoded}
-use Rattle.asm_words.proofs.laws.encoded_is_table.Goals as goal
-
-pub returns : goal.returns
-returns c = table_encoded

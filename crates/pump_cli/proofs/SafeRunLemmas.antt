@@ -1,0 +1,97 @@
+-- The runs of the program's definition are safe.
+use Rattle.std.proofs.Common.{◌≡◌, ℕ, ◌<◌, Bool, true, false, List, [], length, map, Option, Some, None, Result, Ok, Err, refl, sym, ap, subst, if◌then◌else◌}
+use Rattle.std.specs.Prelude.{nat_le, slice_index}
+use Rattle.image_format.proofs.FileLemmas.{file_is_of}
+use Rattle.image_format.specs.Conditions.{IsImage}
+use Rattle.image_format.specs.Picture.{Picture}
+use Rattle.image_format.specs.Reading.{image_of}
+use Rattle.image_format.specs.declared.errors.ImageError.{ImageError}
+use Rattle.engine_trait.specs.Runs.{Trace, turn}
+use Rattle.policy_choice.specs.All.{AllState, AllTag, all, all_eq}
+use Rattle.rounds.proofs.RunLemmas.{rounds_are_run}
+use Rattle.run_props.proofs.RunLemmas.{run_is_safe}
+use Rattle.run_props.specs.Safe.{IsSafe}
+use Rattle.pump_line.specs.Task.{RunTask, ShellTask, Task, assemble, disassemble, run, shell, task_of}
+use Rattle.pump_cli.specs.Program.{course_of_run, file_in, start_of_run}
+use Rattle.pump_cli.specs.Reading.{file_as, file_limit, file_read, image_or_refusal, image_read, input_read, source_read}
+use Rattle.pump_cli.specs.Runs.{AfterFed, AfterFile, AfterImage, AfterInput, AfterLines, AfterPicture, AfterWords, EachRun, IsSafeRun, TellBytes, items_after_lines}
+use Rattle.pump_cli.specs.declared.refusal.Refusal.{Refusal}
+
+abbrev AreBytes : List ℕ → Type 0
+AreBytes bytes = (i : ℕ) → slice_index bytes i < 256
+
+-- ---- an image that was read
+
+ok_image : (read : Result Picture ImageError) (g : Picture) → image_or_refusal read ≡ Ok g → read ≡ Ok g
+ok_image (Ok h) g e = let same : h ≡ g = cc in ap picture_read same
+  where
+    picture_read : Picture → Result Picture ImageError
+    picture_read picture = Ok picture
+ok_image (Err error) g e = absurd cc
+
+read_within : (fits : Bool) (bytes : List ℕ) (refusal : Refusal) (g : Picture) → file_as (λ file. image_or_refusal (image_of file)) (if fits then Ok bytes else Err refusal) ≡ Ok g → image_of bytes ≡ Ok g
+read_within true bytes refusal g e = ok_image (image_of bytes) g e
+read_within false bytes refusal g e = absurd cc
+
+-- bytes that are taken as an image are the file of one
+file_is_image : (bytes : List ℕ) (g : Picture) → AreBytes bytes → image_read bytes ≡ Ok g → IsImage g
+unfolding image_read
+file_is_image bytes g are_bytes e = (file_is_of bytes g are_bytes (read_within (nat_le (length bytes) file_limit) bytes _ g e)).is_image
+
+-- ---- the run
+
+-- rounds are a run along the list of their turns
+safe_course : (task : RunTask) (g : Picture) (fed : List ℕ) → IsImage g → IsSafe task.choice g (course_of_run task g fed).events
+safe_course task g fed is =
+    subst (λ (trace : Trace AllState AllTag). IsSafe task.choice g trace.events)
+    (sym (rounds_are_run all_eq all task.turns 0 (start_of_run task g) fed))
+    (run_is_safe task.choice g fed (map turn (course_of_run task g fed).order) is)
+
+safe_fed : (task : RunTask) (g : Picture) (fed : Result (List ℕ) Refusal) → IsImage g → AfterFed IsSafeRun task g fed
+safe_fed task g (Ok fed) is = safe_course task g fed is
+safe_fed task g (Err refusal) is = tt
+
+safe_input : (task : RunTask) (g : Picture) (input : Option (List ℕ)) → IsImage g → AfterInput IsSafeRun task g input
+safe_input task g None is = tt
+safe_input task g (Some input) is = safe_fed task g (input_read input) is
+
+-- a session has made a run along some list of turns and fed bytes
+safe_lines : (task : ShellTask) (g : Picture) (input : Option (List ℕ)) → IsImage g → AfterLines IsSafeRun task g input
+safe_lines task g None is = tt
+safe_lines task g (Some input) is = λ front rest due. run_is_safe task.choice g [] (items_after_lines task g front) is
+
+safe_picture : (task : Task) (g : Picture) (input : Option (List ℕ)) → IsImage g → AfterPicture IsSafeRun task g input
+safe_picture (run task) g input is = safe_input task g input is
+safe_picture (shell task) g input is = safe_lines task g input is
+safe_picture (assemble task) g input is = tt
+safe_picture (disassemble task) g input is = tt
+
+safe_image : (task : Task) (read : Result Picture Refusal) (input : Option (List ℕ)) → ((g : Picture) → read ≡ Ok g → IsImage g)
+    → AfterImage IsSafeRun task read input
+safe_image task (Ok g) input is = safe_picture task g input (is g refl)
+safe_image task (Err refusal) input is = tt
+
+-- a task that makes no run
+none_made : (task : Task) → ((g : Picture) (input : Option (List ℕ)) → AfterPicture IsSafeRun task g input) → (read : Result Picture Refusal) (input : Option (List ℕ))
+    → AfterImage IsSafeRun task read input
+none_made task none (Ok g) input = none g input
+none_made task none (Err refusal) input = tt
+
+safe_bytes : (task : Task) (bytes : List ℕ) (input : Option (List ℕ)) → AreBytes bytes → AfterImage IsSafeRun task (file_read task bytes) input
+safe_bytes (run task) bytes input are_bytes = safe_image (run task) (image_read bytes) input (λ g read. file_is_image bytes g are_bytes read)
+safe_bytes (shell task) bytes input are_bytes = safe_image (shell task) (image_read bytes) input (λ g read. file_is_image bytes g are_bytes read)
+safe_bytes (assemble task) bytes input are_bytes = none_made (assemble task) (λ g given. tt) (source_read bytes) input
+safe_bytes (disassemble task) bytes input are_bytes = none_made (disassemble task) (λ g given. tt) (image_read bytes) input
+
+safe_file : (task : Task) (file input : Option (List ℕ)) → ((bytes : List ℕ) → file ≡ Some bytes → AreBytes bytes)
+    → AfterFile IsSafeRun task file input
+safe_file task None input tells = tt
+safe_file task (Some bytes) input tells = safe_bytes task bytes input (tells bytes refl)
+
+safe_words : (task : Option Task) (held : List ℕ → Option (List ℕ)) (input : Option (List ℕ)) → TellBytes held → AfterWords IsSafeRun task held input
+safe_words None held input tells = tt
+safe_words (Some task) held input tells = safe_file task (held (file_in task)) input (tells (file_in task))
+
+pub safe_runs : (words : List (List ℕ)) (held : List ℕ → Option (List ℕ)) (input : Option (List ℕ)) → TellBytes held → EachRun IsSafeRun words held input
+unfolding EachRun
+safe_runs words held input tells = safe_words (task_of words) held input tells

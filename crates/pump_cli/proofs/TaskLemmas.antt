@@ -1,0 +1,335 @@
+-- The ways of a task to its end: its file is refused or fails, its input is, or it runs; and what is done to file and input.
+use Rattle.std.proofs.Common.{◌≡◌, ◌≢◌, ℕ, ◌+◌, ◌<◌, ◌⊎◌, nat_le, if◌then◌else◌, Bool, true, false, List, [], length, Option, Some, None, Result, Ok, Err, IfSome, IsErr, IsTrue, refl, sym, subst, arith, inl, inr, ◌∙◌}
+use Rattle.std.proofs.lemmas.Bool.Decides.{nat_tests}
+use Rattle.std.specs.Io.KnownBytes.{prepend_known}
+use Rattle.host_io.specs.Fronts.{LosesFront}
+use Rattle.host_io.specs.Outside.{Outside}
+use Rattle.image_format.specs.Picture.{Picture}
+use Rattle.image_format.specs.Reading.{image_of}
+use Rattle.image_format.specs.declared.errors.ImageError.{ImageError}
+use Rattle.asm_read.specs.declared.errors.AsmError.{AsmError}
+use Rattle.asm_emit.specs.Assembled.{image_of_source}
+use Rattle.pump_line.specs.Request.{AssembleTask, DisassembleTask}
+use Rattle.pump_line.specs.Task.{RunTask, ShellTask, Task, assemble, disassemble, run, shell}
+use Rattle.pump_cli.specs.Codes.{IsBeforeInput, ReadsAll}
+use Rattle.pump_cli.specs.Endings.{Outcome}
+use Rattle.host_io.specs.Causes.{count_after}
+use Rattle.host_io.proofs.FrontLemmas.{if_some_each}
+use Rattle.pump_cli.specs.Facts.{AtMost, FileFacts, IsLongFile, IsLongInput, IsSaving, IsTooLong, Saves, most_calls}
+use Rattle.pump_cli.specs.Program.{file_in, outcome_of_fed, outcome_of_file, outcome_of_image, outcome_of_lines, outcome_of_listing, outcome_of_run, outcome_of_saving, refusal_outcome}
+use Rattle.pump_cli.specs.Reading.{file_as, file_limit, file_read, image_or_refusal, image_read, input_limit, input_read, source_or_refusal, source_read}
+use Rattle.pump_cli.specs.declared.refusal.Refusal.{Refusal}
+use Rattle.pump_cli.specs.declared.refusal.Refusal.TheVariants as refusals
+use Rattle.pump_cli.specs.declared.status.Status.{Status}
+use Rattle.pump_cli.specs.declared.status.Status.TheVariants as statuses
+
+-- ---- what is due
+
+module _ (P : Outcome → Type 0) where
+  pub due_by_file : (task : Task) (held input : Option (List ℕ)) (refusal : Refusal) → IfSome held (λ bytes. file_read task bytes ≡ Err refusal)
+      → P (refusal_outcome refusal) → IfSome (outcome_of_file task held input) P
+  due_by_file task None input refusal is refused = tt
+  due_by_file task (Some bytes) input refusal is refused =
+      subst (λ (read : Result Picture Refusal). IfSome (outcome_of_image task read input) P) (sym is) refused
+
+  pub due_by_input : (task : RunTask) (held input : Option (List ℕ)) (picture : Picture) (refusal : Refusal) → IfSome held (λ bytes. image_read bytes ≡ Ok picture)
+      → IfSome input (λ all. input_read all ≡ Err refusal) → P (refusal_outcome refusal) → IfSome (outcome_of_file (run task) held input) P
+  due_by_input task None input picture refusal is long refused = tt
+  due_by_input task (Some bytes) None picture refusal is long refused =
+      subst (λ (read : Result Picture Refusal). IfSome (outcome_of_image (run task) read None) P) (sym is) tt
+  due_by_input task (Some bytes) (Some all) picture refusal is long refused_is =
+      subst (λ (read : Result Picture Refusal). IfSome (outcome_of_image (run task) read (Some all)) P) (sym is)
+      (subst (λ (fed : Result (List ℕ) Refusal). P (outcome_of_fed task picture fed)) (sym long) refused_is)
+
+  pub due_by_run : (task : RunTask) (held input : Option (List ℕ)) (picture : Picture) (fed : List ℕ) → IfSome held (λ bytes. image_read bytes ≡ Ok picture)
+      → IfSome input (λ all. input_read all ≡ Ok fed) → P (outcome_of_run task picture fed) → IfSome (outcome_of_file (run task) held input) P
+  due_by_run task None input picture fed is taken ran = tt
+  due_by_run task (Some bytes) None picture fed is taken ran =
+      subst (λ (read : Result Picture Refusal). IfSome (outcome_of_image (run task) read None) P) (sym is) tt
+  due_by_run task (Some bytes) (Some all) picture fed is taken ran =
+      subst (λ (read : Result Picture Refusal). IfSome (outcome_of_image (run task) read (Some all)) P) (sym is)
+      (subst (λ (read : Result (List ℕ) Refusal). P (outcome_of_fed task picture read)) (sym taken) ran)
+
+  pub due_by_lines : (task : ShellTask) (held input : Option (List ℕ)) (picture : Picture) → IfSome held (λ bytes. image_read bytes ≡ Ok picture)
+      → IfSome input (λ bytes. P (outcome_of_lines task picture bytes)) → IfSome (outcome_of_file (shell task) held input) P
+  due_by_lines task None input picture is obeyed = tt
+  due_by_lines task (Some bytes) None picture is obeyed =
+      subst (λ (read : Result Picture Refusal). IfSome (outcome_of_image (shell task) read None) P) (sym is) tt
+  due_by_lines task (Some bytes) (Some lines) picture is obeyed =
+      subst (λ (read : Result Picture Refusal). IfSome (outcome_of_image (shell task) read (Some lines)) P) (sym is) obeyed
+
+  pub due_by_saving : (task : AssembleTask) (held input : Option (List ℕ)) (picture : Picture) → IfSome held (λ bytes. source_read bytes ≡ Ok picture)
+      → P outcome_of_saving → IfSome (outcome_of_file (assemble task) held input) P
+  due_by_saving task None input picture is saved = tt
+  due_by_saving task (Some bytes) input picture is saved =
+      subst (λ (read : Result Picture Refusal). IfSome (outcome_of_image (assemble task) read input) P) (sym is) saved
+
+  pub due_by_listing : (task : DisassembleTask) (held input : Option (List ℕ)) (picture : Picture) → IfSome held (λ bytes. image_read bytes ≡ Ok picture)
+      → P (outcome_of_listing picture) → IfSome (outcome_of_file (disassemble task) held input) P
+  due_by_listing task None input picture is listed = tt
+  due_by_listing task (Some bytes) input picture is listed =
+      subst (λ (read : Result Picture Refusal). IfSome (outcome_of_image (disassemble task) read input) P) (sym is) listed
+
+-- ---- why something was refused
+
+each : (told : Option (List ℕ)) (P : List ℕ → Type 0) → ((bytes : List ℕ) → P bytes) → IfSome told P
+each None P all = tt
+each (Some bytes) P all = all bytes
+
+abbrev refusal_error : Refusal → Result Picture Refusal
+refusal_error r = Err r
+
+abbrev taken_as : Picture → Result Picture Refusal
+taken_as picture = Ok picture
+
+-- a file that is refused is too long, or what its bytes are read as is refused
+as_refused : (fits : Bool) (bytes : List ℕ) (read : List ℕ → Result Picture Refusal) (refusal : Refusal) → file_as read (if fits then Ok bytes else Err refusals.TooLong) ≡ Err refusal
+    → ((fits ≡ false) × (refusal ≡ refusals.TooLong)) ⊎ (read bytes ≡ Err refusal)
+as_refused true bytes read refusal is = inr is
+as_refused false bytes read refusal is = inl (refl, (let h : refusal_error refusals.TooLong ≡ refusal_error refusal = is in cc))
+
+image_not_long : (image : Result Picture ImageError) → image_or_refusal image ≡ Err refusals.TooLong → ⊥
+image_not_long (Ok picture) e = let h : taken_as picture ≡ refusal_error refusals.TooLong = e in cc
+image_not_long (Err error) e = let h : refusal_error (refusals.BadImage error) ≡ refusal_error refusals.TooLong = e in cc
+
+source_not_long : (image : Result Picture AsmError) → source_or_refusal image ≡ Err refusals.TooLong → ⊥
+source_not_long (Ok picture) e = let h : taken_as picture ≡ refusal_error refusals.TooLong = e in cc
+source_not_long (Err error) e = let h : refusal_error (refusals.BadSource error) ≡ refusal_error refusals.TooLong = e in cc
+
+image_no_source : (image : Result Picture ImageError) (error : AsmError) → image_or_refusal image ≡ Err (refusals.BadSource error) → ⊥
+image_no_source (Ok picture) error e = let h : taken_as picture ≡ refusal_error (refusals.BadSource error) = e in cc
+image_no_source (Err other) error e = let h : refusal_error (refusals.BadImage other) ≡ refusal_error (refusals.BadSource error) = e in cc
+
+source_no_image : (image : Result Picture AsmError) (error : ImageError) → source_or_refusal image ≡ Err (refusals.BadImage error) → ⊥
+source_no_image (Ok picture) error e = let h : taken_as picture ≡ refusal_error (refusals.BadImage error) = e in cc
+source_no_image (Err other) error e = let h : refusal_error (refusals.BadSource other) ≡ refusal_error (refusals.BadImage error) = e in cc
+
+image_is_bad : (image : Result Picture ImageError) (error : ImageError) → image_or_refusal image ≡ Err (refusals.BadImage error) → IsErr image
+image_is_bad (Ok picture) error e = absurd (let h : taken_as picture ≡ refusal_error (refusals.BadImage error) = e in cc)
+image_is_bad (Err other) error e = refl
+
+source_is_bad : (image : Result Picture AsmError) (error : AsmError) → source_or_refusal image ≡ Err (refusals.BadSource error) → IsErr image
+source_is_bad (Ok picture) error e = absurd (let h : taken_as picture ≡ refusal_error (refusals.BadSource error) = e in cc)
+source_is_bad (Err other) error e = refl
+
+-- a number that is not below or at the limit
+past_limit : (bytes : List ℕ) → nat_le (length bytes) file_limit ≡ false → IsLongFile bytes
+past_limit bytes past = grind (arith, nat_tests)
+
+long_from : {A B : Type 0} (bytes : List ℕ) → ((nat_le (length bytes) file_limit ≡ false) × A) ⊎ B → (B → ⊥) → IsLongFile bytes
+long_from bytes (inl past) never = past_limit bytes past.0
+long_from bytes (inr other) never = absurd (never other)
+
+long_image : (bytes : List ℕ) → image_read bytes ≡ Err refusals.TooLong → IsLongFile bytes
+unfolding image_read
+long_image bytes is =
+    long_from bytes (as_refused (nat_le (length bytes) file_limit) bytes (λ file. image_or_refusal (image_of file)) refusals.TooLong is) (image_not_long (image_of bytes))
+
+long_source : (bytes : List ℕ) → source_read bytes ≡ Err refusals.TooLong → IsLongFile bytes
+unfolding source_read
+long_source bytes is =
+    long_from bytes (as_refused (nat_le (length bytes) file_limit) bytes (λ file. source_or_refusal (image_of_source file)) refusals.TooLong is) (source_not_long (image_of_source bytes))
+
+pub long_file : (task : Task) (bytes : List ℕ) → file_read task bytes ≡ Err refusals.TooLong → IsLongFile bytes
+long_file (run task) bytes is = long_image bytes is
+long_file (shell task) bytes is = long_image bytes is
+long_file (assemble task) bytes is = long_source bytes is
+long_file (disassemble task) bytes is = long_image bytes is
+
+-- that is reason enough
+pub too_long : (task : Task) (bytes : List ℕ) (left : Option (List ℕ)) → IsLongFile bytes → IsTooLong task bytes left
+too_long (run task) bytes left past = each left _ (λ input. inl past)
+too_long (shell task) bytes left past = each left _ (λ input. inl past)
+too_long (assemble task) bytes left past = past
+too_long (disassemble task) bytes left past = past
+
+-- what is read was refused, and not for its length
+not_for_length : {A B : Type 0} (refusal : Refusal) → (A × (refusal ≡ refusals.TooLong)) ⊎ B → (refusal ≡ refusals.TooLong → ⊥) → B
+not_for_length refusal (inl past) never = absurd (never past.1)
+not_for_length refusal (inr read) never = read
+
+image_refusal : (bytes : List ℕ) (refusal : Refusal) → image_read bytes ≡ Err refusal → (refusal ≡ refusals.TooLong → ⊥) → image_or_refusal (image_of bytes) ≡ Err refusal
+unfolding image_read
+image_refusal bytes refusal is never =
+    not_for_length refusal (as_refused (nat_le (length bytes) file_limit) bytes (λ file. image_or_refusal (image_of file)) refusal is) never
+
+source_refusal : (bytes : List ℕ) (refusal : Refusal) → source_read bytes ≡ Err refusal → (refusal ≡ refusals.TooLong → ⊥) → source_or_refusal (image_of_source bytes) ≡ Err refusal
+unfolding source_read
+source_refusal bytes refusal is never =
+    not_for_length refusal (as_refused (nat_le (length bytes) file_limit) bytes (λ file. source_or_refusal (image_of_source file)) refusal is) never
+
+image_bad : (bytes : List ℕ) (error : ImageError) → image_read bytes ≡ Err (refusals.BadImage error) → image_or_refusal (image_of bytes) ≡ Err (refusals.BadImage error)
+image_bad bytes error is = image_refusal bytes (refusals.BadImage error) is (λ e. let h : refusals.BadImage error ≡ refusals.TooLong = e in cc)
+
+source_bad : (bytes : List ℕ) (error : AsmError) → source_read bytes ≡ Err (refusals.BadSource error) → source_or_refusal (image_of_source bytes) ≡ Err (refusals.BadSource error)
+source_bad bytes error is = source_refusal bytes (refusals.BadSource error) is (λ e. let h : refusals.BadSource error ≡ refusals.TooLong = e in cc)
+
+pub no_image : (task : Task) (bytes : List ℕ) (error : ImageError) → file_read task bytes ≡ Err (refusals.BadImage error) → IsErr (image_of bytes)
+no_image (run task) bytes error is = image_is_bad (image_of bytes) error (image_bad bytes error is)
+no_image (shell task) bytes error is = image_is_bad (image_of bytes) error (image_bad bytes error is)
+no_image (assemble task) bytes error is =
+    absurd (source_no_image (image_of_source bytes) error (source_refusal bytes (refusals.BadImage error) is (λ e. let h : refusals.BadImage error ≡ refusals.TooLong = e in cc)))
+no_image (disassemble task) bytes error is = image_is_bad (image_of bytes) error (image_bad bytes error is)
+
+image_no_source_in : (bytes : List ℕ) (error : AsmError) → image_read bytes ≡ Err (refusals.BadSource error) → ⊥
+image_no_source_in bytes error is =
+    image_no_source (image_of bytes) error (image_refusal bytes (refusals.BadSource error) is (λ e. let h : refusals.BadSource error ≡ refusals.TooLong = e in cc))
+
+pub no_source : (task : Task) (bytes : List ℕ) (error : AsmError) → file_read task bytes ≡ Err (refusals.BadSource error) → IsErr (image_of_source bytes)
+no_source (run task) bytes error is = absurd (image_no_source_in bytes error is)
+no_source (shell task) bytes error is = absurd (image_no_source_in bytes error is)
+no_source (assemble task) bytes error is = source_is_bad (image_of_source bytes) error (source_bad bytes error is)
+no_source (disassemble task) bytes error is = absurd (image_no_source_in bytes error is)
+
+pub long_input : (bytes : List ℕ) → input_read bytes ≡ Err refusals.TooLong → IsLongInput bytes
+unfolding input_read
+long_input bytes is = by_length (nat_le (length bytes) input_limit) (λ past. grind (arith, nat_tests)) is
+  where
+    by_length : (fits : Bool) → (fits ≡ false → input_limit < length bytes) → (if fits then Ok bytes else Err refusals.TooLong) ≡ Err refusals.TooLong → input_limit < length bytes
+    by_length true past e = absurd (let h : Ok bytes ≡ Err refusals.TooLong = e in cc)
+    by_length false past e = past refl
+
+-- ---- what was done to the file and to the input
+
+loses_nothing : (left : Option (List ℕ)) (most : ℕ) → LosesFront left left most
+loses_nothing left most = record { front = []; moved = by left; within = omega arith }
+  where
+    by : (known : Option (List ℕ)) → known ≡ prepend_known [] known
+    by None = refl
+    by (Some bytes) = refl
+
+taken_is_fine : (task : Task) (bytes : List ℕ) (picture : Picture) {P : Type 0} → file_read task bytes ≡ Ok picture → IsErr (file_read task bytes) → P
+taken_is_fine task bytes picture is bad = absurd (let h : false ≡ true = subst (λ (read : Result Picture Refusal). IsErr read) is bad in cc)
+
+-- what a status is not, and why it may be what it is
+pub record Side (task : Task) (status : Status) (BadImage BadSource TooLong : Type 0) : Type 0 where
+  pub words : status ≡ statuses.BadWords → ⊥
+  pub bad : status ≡ statuses.BadImage → BadImage
+  pub source : status ≡ statuses.BadSource → BadSource
+  pub long : status ≡ statuses.TooLong → TooLong
+  pub not_run : ReadsAll task status → ⊥
+  pub not_saving : Saves task status → ⊥
+
+-- ---- calls of files
+
+one_call : (task : Task) (before now : ℕ) → now ≡ count_after before → AtMost (most_calls task) before now
+one_call (run task) before now is = inr is
+one_call (shell task) before now is = inr is
+one_call (assemble task) before now is = inr (inl is)
+one_call (disassemble task) before now is = inr is
+
+pub no_call : (task : Task) (before : ℕ) → AtMost (most_calls task) before before
+no_call (run task) before = inl refl
+no_call (shell task) before = inl refl
+no_call (assemble task) before = inl refl
+no_call (disassemble task) before = inl refl
+
+module _ {I : Type 0} (task : Task) (status : Status) (before after : Outside I) (calls : after.calls ≡ count_after before.calls)
+    (not_saving : Saves task status → ⊥)
+    (bad : status ≡ statuses.BadImage → IfSome (before.held (file_in task)) (λ bytes. IsErr (image_of bytes)))
+    (source : status ≡ statuses.BadSource → IfSome (before.held (file_in task)) (λ bytes. IsErr (image_of_source bytes)))
+    (long : status ≡ statuses.TooLong → IfSome (before.held (file_in task)) (λ bytes. IsTooLong task bytes before.left)) where
+  -- the input was not asked for
+  pub facts_unasked : after.input ≡ before.input → after.left ≡ before.left → (ReadsAll task status → ⊥) → FileFacts task status before after
+  facts_unasked input left not_all = record {
+    calls = λ memory saving. calls;
+    saving_calls = λ saving. absurd (not_saving saving);
+    at_most = one_call task before.calls after.calls calls;
+    bad_image = bad;
+    bad_source = source;
+    too_long = long;
+    unread = λ early. input;
+    unasked = each (before.held (file_in task)) _ (λ bytes refused. input);
+    whole = λ all. absurd (not_all all);
+    moved = subst (λ (now : Option (List ℕ)). LosesFront before.left now (input_limit + 4096)) (sym left) (loses_nothing before.left (input_limit + 4096));
+  }
+
+  -- the file was taken
+  pub facts_asked : (picture : Picture) → IfSome (before.held (file_in task)) (λ bytes. file_read task bytes ≡ Ok picture)
+      → LosesFront before.left after.left (input_limit + 4096) → (IsBeforeInput task status → after.input ≡ before.input)
+      → (ReadsAll task status → IsTrue after.closed) → FileFacts task status before after
+  facts_asked picture taken moved unread whole = record {
+    calls = λ memory saving. calls;
+    saving_calls = λ saving. absurd (not_saving saving);
+    at_most = one_call task before.calls after.calls calls;
+    bad_image = bad;
+    bad_source = source;
+    too_long = long;
+    unread = unread;
+    unasked = if_some_each (before.held (file_in task)) _ _ (λ bytes is refused. taken_is_fine task bytes picture is refused) taken;
+    whole = whole;
+    moved = moved;
+  }
+
+-- the status of a call that saved, or was to save, is none of a refusal
+record OfSaving (status : Status) : Type 0 where
+  bad : status ≡ statuses.BadImage → ⊥
+  source : status ≡ statuses.BadSource → ⊥
+  long : status ≡ statuses.TooLong → ⊥
+
+of_saving : (status : Status) → IsSaving status ⊎ (status ≡ statuses.Memory) → OfSaving status
+of_saving status (inl saving) = record {
+  bad = λ e. subst IsSaving e saving;
+  source = λ e. subst IsSaving e saving;
+  long = λ e. subst IsSaving e saving;
+}
+of_saving status (inr memory) = record {
+  bad = λ e. let h : statuses.Memory ≡ statuses.BadImage = sym memory ∙ e in cc;
+  source = λ e. let h : statuses.Memory ≡ statuses.BadSource = sym memory ∙ e in cc;
+  long = λ e. let h : statuses.Memory ≡ statuses.TooLong = sym memory ∙ e in cc;
+}
+
+saving_is_no_memory : (status : Status) → IsSaving status → status ≢ statuses.Memory
+saving_is_no_memory status saving e = subst IsSaving e saving
+
+-- a source was taken, and its image was to be saved
+pub facts_saving : {I : Type 0} (task : AssembleTask) (status : Status) (before after : Outside I) (picture : Picture)
+    → IfSome (before.held task.source) (λ bytes. source_read bytes ≡ Ok picture) → IsSaving status ⊎ (status ≡ statuses.Memory)
+    → (status ≢ statuses.Memory → after.calls ≡ count_after (count_after before.calls)) → AtMost 1 (count_after before.calls) after.calls
+    → after.input ≡ before.input → after.left ≡ before.left → FileFacts (assemble task) status before after
+facts_saving task status before after picture taken ends calls at_most input left =
+    let side = of_saving status ends in
+    record {
+      calls = λ memory not_saving. absurd (by ends memory not_saving);
+      saving_calls = λ saving. calls (saving_is_no_memory status saving);
+      at_most = inr at_most;
+      bad_image = λ e. absurd (side.bad e);
+      bad_source = λ e. absurd (side.source e);
+      too_long = λ e. absurd (side.long e);
+      unread = λ early. input;
+      unasked = if_some_each (before.held task.source) _ _ (λ bytes is refused. taken_is_fine (assemble task) bytes picture is refused) taken;
+      whole = λ all. absurd all;
+      moved = subst (λ (now : Option (List ℕ)). LosesFront before.left now (input_limit + 4096)) (sym left) (loses_nothing before.left (input_limit + 4096));
+    }
+  where
+    by : IsSaving status ⊎ (status ≡ statuses.Memory) → status ≢ statuses.Memory → (IsSaving status → ⊥) → ⊥
+    by (inl saving) memory not_saving = not_saving saving
+    by (inr is) memory not_saving = memory is
+
+-- a call that wants memory did not read the input to its end, as far as is told
+not_all_read : (task : Task) → ReadsAll task statuses.Memory → ⊥
+not_all_read (run task) all = all
+not_all_read (shell task) all = all
+not_all_read (assemble task) all = all
+not_all_read (disassemble task) all = all
+
+nothing_saved : (task : Task) → Saves task statuses.Memory → ⊥
+nothing_saved (run task) saves = saves
+nothing_saved (shell task) saves = saves
+nothing_saved (assemble task) saves = saves
+nothing_saved (disassemble task) saves = saves
+
+-- want of memory before anything was asked for
+pub facts_none : {I : Type 0} (task : Task) (before : Outside I) → FileFacts task statuses.Memory before before
+facts_none task before = record {
+  calls = λ memory saving. absurd (memory refl);
+  saving_calls = λ saving. absurd (nothing_saved task saving);
+  at_most = no_call task before.calls;
+  bad_image = λ e. absurd (let h : statuses.Memory ≡ statuses.BadImage = e in cc);
+  bad_source = λ e. absurd (let h : statuses.Memory ≡ statuses.BadSource = e in cc);
+  too_long = λ e. absurd (let h : statuses.Memory ≡ statuses.TooLong = e in cc);
+  unread = λ early. refl;
+  unasked = each (before.held (file_in task)) _ (λ bytes refused. refl);
+  whole = λ all. absurd (not_all_read task all);
+  moved = loses_nothing before.left (input_limit + 4096);
+}

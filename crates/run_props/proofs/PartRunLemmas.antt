@@ -1,0 +1,40 @@
+-- What a part's turns keep, each run of an image keeps in which the part is chosen.
+use Rattle.std.proofs.Common.{◌≡◌, ℕ, true, List, [], ap, subst, sym, ◌∙◌}
+use Rattle.image_format.specs.Conditions.{IsImage}
+use Rattle.image_format.specs.Picture.{Picture}
+use Rattle.policy_trait.specs.Model.{PolicyModel}
+use Rattle.policy_choice.specs.All.{AllState, AllTag, all, choice_state}
+use Rattle.policy_choice.specs.declared.choice.Choice.{Choice}
+use Rattle.engine_trait.specs.Events.{Event}
+use Rattle.engine_trait.specs.Machine.{Machine}
+use Rattle.engine_trait.specs.Runs.{Item, Trace, run_along}
+use Rattle.policy_parts.specs.Part.{IsPart}
+use Rattle.policy_parts.specs.View.{View}
+use Rattle.part_turns.specs.Keeps.{Keeps, RunKeeps}
+use Rattle.part_turns.specs.Start.{first_machine}
+use Rattle.part_turns.proofs.RunLemmas.{runs_keep}
+use Rattle.tag_loader.specs.Births.{birth_of}
+use Rattle.tag_loader.specs.Start.{memory_of, start_machine}
+use Rattle.tag_loader.proofs.MemoryLemmas.{length-memory_of}
+use Rattle.run_props.proofs.ChosenLemmas.{start_holds, start_sound}
+use Rattle.run_props.proofs.PartLemmas.{all_laws}
+use Rattle.run_props.specs.Holds.{AllHold}
+use Rattle.run_props.proofs.StartLemmas.{seen_start}
+
+module _ (choice : Choice) (g : Picture) (feed : List ℕ) (items : List Item) where
+  -- the run of the image, whatever bytes are there to be got at its start
+  abbrev pub fed_run : Trace AllState AllTag
+  fed_run = run_along all (start_machine all (choice_state choice g) g) feed items
+
+  -- v is the part's value at the start
+  pub part_keeps : {U V : Type 0} (m : PolicyModel U V) (l : View AllTag AllState U V) (line : List (Event U) → Machine V U → Type 0)
+      (promise : List (Event U) → Event U → Type 0) (v : V) → IsImage g → IsPart all m l → Keeps m line promise
+      → l.is_on (choice_state choice g) ≡ true → l.value (choice_state choice g) ≡ v
+      → line [] (first_machine m v (birth_of g) (memory_of g) g.entries) → RunKeeps l line promise fed_run
+  unfolding start_machine
+  part_keeps {U} {V} m l line promise v is part keeps on value first =
+      let start = start_machine all (choice_state choice g) g in
+      let seen = seen_start all m l part (choice_state choice g) g on (length-memory_of g is)
+      ∙ ap (λ (x : V). first_machine m x (birth_of g) (memory_of g) g.entries) value in
+      runs_keep all m l AllHold all_laws part line promise keeps start feed items on (start_sound choice g is) (start_holds choice g is)
+      (subst (line []) (sym seen) first)

@@ -1,5 +1,0 @@
-use Rattle.rv_decode.proofs.TableLemmas.{decoded_is_row}
-use Rattle.rv_decode.proofs.laws.decoded_is_table.Goals as goal
-
-pub returns : goal.returns
-returns c = decoded_is_row
