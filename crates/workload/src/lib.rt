@@ -1,0 +1,9 @@
+//! The workload: a program in assembler source that is made by rule, of as many blocks as are asked for.
+#![tactic(auto)]
+
+mod kinds;
+mod source;
+#[cfg(test)]
+mod tests;
+
+pub use source::write_workload;
