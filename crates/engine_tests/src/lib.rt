@@ -1,5 +1,5 @@
 //! Tests of the engine that keeps rules beside the one that asks its policy at every turn: what they count, how tags run out,
-//! and random programs, which both run alike.
+//! random programs, which both run alike, and a policy that neither was written for.
 #![tactic(auto)]
 
 #[cfg(test)]
@@ -14,3 +14,5 @@ mod images;
 mod limits;
 #[cfg(test)]
 mod programs;
+#[cfg(test)]
+mod tainting;

@@ -1,0 +1,3 @@
+pub mod Taint
+pub mod TaintLaws
+pub mod TextLaws

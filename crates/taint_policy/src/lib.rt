@@ -1,0 +1,15 @@
+//! The policy of taint, the worked case of a policy of one's own (`docs/policies/WRITE_ONE.md`): a value that came from the
+//! input is tainted, and so is what is computed from it. No jump by register goes to a tainted address, no store to one, and
+//! no tainted word is obeyed.
+#![tactic(auto)]
+
+mod law;
+mod policy;
+mod table;
+mod tag;
+#[cfg(test)]
+mod tests;
+
+pub use law::{ignores_law, text_law};
+pub use policy::Taint;
+pub use tag::TaintTag;

@@ -1,0 +1,2 @@
+pub mod TaintTurn
+pub mod Whole
