@@ -81,7 +81,7 @@ impl<P: Policy> Plain<P> {
     }
 
     /// The checks of hart `h`'s turn.
-    #[tactic(auto, unfolding(engine_trait::specs::Turn::prepared))]
+    #[tactic(auto, unfolding(engine_trait::specs::Turn::preparation))]
     fn prepare(&self, h: u32) -> Result<Look<P::Tag>, Stop>
         requires { h < length self.now.machine.core.harts }
         ensures value { result ≡ preparation P.model self.now.machine h }
@@ -100,7 +100,7 @@ impl<P: Policy> Plain<P> {
     }
 
     /// The answer of the rule.
-    #[tactic(auto, unfolding(engine_trait::specs::Turn::allowed))]
+    #[tactic(auto, unfolding(engine_trait::specs::Turn::rule_answer))]
     fn ask(&self, h: u32, look: &Look<P::Tag>) -> Result<Outs<P::Tag>, Stop>
         requires { h < length self.now.machine.core.harts }
         ensures { result ≡ rule_answer P.model self.now.machine h look.now }
@@ -222,7 +222,7 @@ impl<P: Policy> Plain<P> {
     }
 
     /// A call of a policy's service that the rule allowed.
-    #[tactic(auto, unfolding(engine_trait::specs::Turn::planned))]
+    #[tactic(auto, unfolding(engine_trait::specs::Turn::turn_job))]
     fn service(&mut self, h: u32, look: &Look<P::Tag>, outs: Outs<P::Tag>) -> TurnEnd
         requires hart { h < length self.old.machine.core.harts }
         requires call { is_call look.now.group ≡ true }

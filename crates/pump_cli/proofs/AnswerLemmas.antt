@@ -1,16 +1,15 @@
 -- What a result on the way says of the answer.
-use Rattle.std.proofs.Common.{◌≡◌, ◌≢◌, ℕ, Option, Some, None, Result, Ok, Err, IfOk, IfSome, refl, sym, subst, arith}
+use Rattle.std.proofs.Common.{◌≡◌, ◌≢◌, ℕ, List, Option, Some, None, Result, Ok, Err, IfOk, IfSome, refl, sym, subst, arith}
 use Rattle.host_io.specs.Causes.{Rose}
 use Rattle.host_io.specs.Outside.{Faults, NoFault, Outside}
 use Rattle.host_io.specs.Pieces.{PutsFront, Taken}
 use Rattle.host_io.specs.TwoSinks.{OneRose, PutFaults, on_err, on_out}
 use Rattle.host_io.proofs.FrontLemmas.{if_some_each}
 use Rattle.host_io.proofs.PieceLemmas.{all_puts_are_front, puts_none}
-use Rattle.pump_line.specs.Task.{Task, assemble, disassemble, run, shell}
+use Rattle.pump_line.specs.Task.{Task}
 use Rattle.pump_cli.specs.Codes.{IsFinal, IsOfRefusal, IsOfRun, IsSilent, status_of_refusal}
 use Rattle.pump_cli.specs.Endings.{Outcome}
-use Rattle.pump_cli.specs.Facts.{AllStayed, Does, FaultBy, Finishes, HeldBy, PutsFaultBy, Stayed, TaskFacts, status_in}
-use Rattle.pump_cli.specs.Program.{file_in}
+use Rattle.pump_cli.specs.Facts.{AllStayed, Does, FaultBy, Finishes, HeldBy, LoadFault, PutsFaultBy, SaveFault, Stayed, TaskFacts, loaded_by, saved_by, status_in}
 use Rattle.pump_cli.specs.Theorem.{Answers}
 use Rattle.pump_cli.specs.declared.refusal.Refusal.{Refusal}
 use Rattle.pump_cli.specs.declared.refusal.Refusal.TheVariants as refusals
@@ -49,15 +48,16 @@ none_rose task statuses.Violated before now fault stayed memory = tt
 none_rose task statuses.Faulted before now fault stayed memory = tt
 none_rose task statuses.TurnsSpent before now fault stayed memory = tt
 none_rose task statuses.TagsOut before now fault stayed memory = tt
-none_rose None statuses.ReadFailed before now fault stayed memory = absurd fault
-none_rose (Some task) statuses.ReadFailed before now fault stayed memory =
-    not_both (before.read (file_in task)) (now.read (file_in task)) (stayed.read (file_in task)) fault.read.own
-none_rose None statuses.WriteFailed before now fault stayed memory = absurd fault
-none_rose (Some (run task)) statuses.WriteFailed before now fault stayed memory = absurd fault
-none_rose (Some (shell task)) statuses.WriteFailed before now fault stayed memory = absurd fault
-none_rose (Some (assemble task)) statuses.WriteFailed before now fault stayed memory =
-    not_both (before.write task.image) (now.write task.image) (stayed.write task.image) fault.write.own
-none_rose (Some (disassemble task)) statuses.WriteFailed before now fault stayed memory = absurd fault
+none_rose task statuses.ReadFailed before now fault stayed memory = no_load (loaded_by task) fault
+  where
+    no_load : (file : Option (List ℕ)) → LoadFault file before now → IsFinal statuses.ReadFailed
+    no_load None failed = absurd failed
+    no_load (Some name) failed = not_both (before.read name) (now.read name) (stayed.read name) failed.read.own
+none_rose task statuses.WriteFailed before now fault stayed memory = no_save (saved_by task) fault
+  where
+    no_save : (file : Option (List ℕ)) → SaveFault file before now → IsFinal statuses.WriteFailed
+    no_save None failed = absurd failed
+    no_save (Some name) failed = not_both (before.write name) (now.write name) (stayed.write name) failed.write.own
 none_rose task statuses.InputFailed before now fault stayed memory = not_both before.input now.input stayed.input fault.input
 none_rose task statuses.PutFailed before now fault stayed memory = no_put fault.puts
   where

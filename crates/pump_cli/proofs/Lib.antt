@@ -10,3 +10,4 @@ pub mod SessionLemmas
 pub mod StartLemmas
 pub mod TaskLemmas
 pub mod WayLemmas
+pub mod WorkloadLemmas

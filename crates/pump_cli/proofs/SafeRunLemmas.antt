@@ -1,20 +1,25 @@
 -- The runs of the program's definition are safe.
-use Rattle.std.proofs.Common.{◌≡◌, ℕ, ◌<◌, Bool, true, false, List, [], length, map, Option, Some, None, Result, Ok, Err, refl, sym, ap, subst, if◌then◌else◌}
+use Rattle.std.proofs.Common.{◌≡◌, ℕ, ◌<◌, ◌^◌, Bool, true, false, List, [], length, map, Option, Some, None, Result, Ok, Err, refl, sym, ap, subst, if◌then◌else◌, arith}
+use Rattle.std.proofs.lemmas.Bool.Decides.{nat_tests}
 use Rattle.std.specs.Prelude.{nat_le, slice_index}
 use Rattle.image_format.proofs.FileLemmas.{file_is_of}
 use Rattle.image_format.specs.Conditions.{IsImage}
 use Rattle.image_format.specs.Picture.{Picture}
 use Rattle.image_format.specs.Reading.{image_of}
 use Rattle.image_format.specs.declared.errors.ImageError.{ImageError}
+use Rattle.asm_emit.proofs.ImageLemmas.{are_images}
+use Rattle.asm_emit.specs.Assembled.{image_of_source}
+use Rattle.asm_read.specs.declared.errors.AsmError.{AsmError}
+use Rattle.workload.specs.Source.{source_of_workload}
 use Rattle.engine_trait.specs.Runs.{Trace, turn}
 use Rattle.policy_choice.specs.All.{AllState, AllTag, all, all_eq}
 use Rattle.rounds.proofs.RunLemmas.{rounds_are_run}
 use Rattle.run_props.proofs.RunLemmas.{run_is_safe}
 use Rattle.run_props.specs.Safe.{IsSafe}
-use Rattle.pump_line.specs.Task.{RunTask, ShellTask, Task, assemble, disassemble, run, shell, task_of}
-use Rattle.pump_cli.specs.Program.{course_of_run, file_in, start_of_run}
-use Rattle.pump_cli.specs.Reading.{file_as, file_limit, file_read, image_or_refusal, image_read, input_read, source_read}
-use Rattle.pump_cli.specs.Runs.{AfterFed, AfterFile, AfterImage, AfterInput, AfterLines, AfterPicture, AfterWords, EachRun, IsSafeRun, TellBytes, items_after_lines}
+use Rattle.pump_line.specs.Task.{RunTask, ShellTask, Task, assemble, disassemble, load, run, shell, task_of}
+use Rattle.pump_cli.specs.Program.{course_of_run, run_of_load, start_of_run}
+use Rattle.pump_cli.specs.Reading.{content_of, content_read, file_as, file_limit, image_or_refusal, image_read, input_read, source_or_refusal, source_read}
+use Rattle.pump_cli.specs.Runs.{AfterContent, AfterFed, AfterImage, AfterInput, AfterLines, AfterPicture, AfterWords, EachRun, IsSafeRun, TellBytes, items_after_lines}
 use Rattle.pump_cli.specs.declared.refusal.Refusal.{Refusal}
 
 abbrev AreBytes : List ℕ → Type 0
@@ -37,6 +42,25 @@ read_within false bytes refusal g e = absurd cc
 file_is_image : (bytes : List ℕ) (g : Picture) → AreBytes bytes → image_read bytes ≡ Ok g → IsImage g
 unfolding image_read
 file_is_image bytes g are_bytes e = (file_is_of bytes g are_bytes (read_within (nat_le (length bytes) file_limit) bytes _ g e)).is_image
+
+-- ---- an image that was assembled
+
+picture_made : Picture → Result Picture AsmError
+picture_made picture = Ok picture
+
+ok_source : (read : Result Picture AsmError) (g : Picture) → source_or_refusal read ≡ Ok g → read ≡ Ok g
+ok_source (Ok h) g e = let same : h ≡ g = cc in ap picture_made same
+ok_source (Err error) g e = absurd cc
+
+assembled_within : (fits : Bool) (bytes : List ℕ) (refusal : Refusal) (g : Picture) → (fits ≡ true → length bytes < 2 ^ 32)
+    → file_as (λ file. source_or_refusal (image_of_source file)) (if fits then Ok bytes else Err refusal) ≡ Ok g → IsImage g
+assembled_within true bytes refusal g few e = are_images bytes g (few refl) (ok_source (image_of_source bytes) g e)
+assembled_within false bytes refusal g few e = absurd cc
+
+-- a source that is taken has few enough bytes
+source_is_image : (bytes : List ℕ) (g : Picture) → source_read bytes ≡ Ok g → IsImage g
+unfolding source_read file_limit
+source_is_image bytes g e = assembled_within (nat_le (length bytes) 33554432) bytes _ g (λ fits. grind (arith, nat_tests, fits)) e
 
 -- ---- the run
 
@@ -65,6 +89,7 @@ safe_picture (run task) g input is = safe_input task g input is
 safe_picture (shell task) g input is = safe_lines task g input is
 safe_picture (assemble task) g input is = tt
 safe_picture (disassemble task) g input is = tt
+safe_picture (load task) g input is = safe_course (run_of_load task) g [] is
 
 safe_image : (task : Task) (read : Result Picture Refusal) (input : Option (List ℕ)) → ((g : Picture) → read ≡ Ok g → IsImage g)
     → AfterImage IsSafeRun task read input
@@ -77,20 +102,27 @@ none_made : (task : Task) → ((g : Picture) (input : Option (List ℕ)) → Aft
 none_made task none (Ok g) input = none g input
 none_made task none (Err refusal) input = tt
 
-safe_bytes : (task : Task) (bytes : List ℕ) (input : Option (List ℕ)) → AreBytes bytes → AfterImage IsSafeRun task (file_read task bytes) input
-safe_bytes (run task) bytes input are_bytes = safe_image (run task) (image_read bytes) input (λ g read. file_is_image bytes g are_bytes read)
-safe_bytes (shell task) bytes input are_bytes = safe_image (shell task) (image_read bytes) input (λ g read. file_is_image bytes g are_bytes read)
-safe_bytes (assemble task) bytes input are_bytes = none_made (assemble task) (λ g given. tt) (source_read bytes) input
-safe_bytes (disassemble task) bytes input are_bytes = none_made (disassemble task) (λ g given. tt) (image_read bytes) input
-
+-- a file's bytes
 safe_file : (task : Task) (file input : Option (List ℕ)) → ((bytes : List ℕ) → file ≡ Some bytes → AreBytes bytes)
-    → AfterFile IsSafeRun task file input
-safe_file task None input tells = tt
-safe_file task (Some bytes) input tells = safe_bytes task bytes input (tells bytes refl)
+    → ((bytes : List ℕ) → AreBytes bytes → AfterImage IsSafeRun task (content_read task bytes) input) → AfterContent IsSafeRun task file input
+safe_file task None input tells safe = tt
+safe_file task (Some bytes) input tells safe = safe bytes (tells bytes refl)
+
+safe_content : (task : Task) (held : List ℕ → Option (List ℕ)) (input : Option (List ℕ)) → TellBytes held → AfterContent IsSafeRun task (content_of task held) input
+safe_content (run task) held input tells =
+    safe_file (run task) (held task.image) input (tells task.image) (λ bytes are_bytes. safe_image (run task) (image_read bytes) input (λ g read. file_is_image bytes g are_bytes read))
+safe_content (shell task) held input tells =
+    safe_file (shell task) (held task.image) input (tells task.image) (λ bytes are_bytes. safe_image (shell task) (image_read bytes) input (λ g read. file_is_image bytes g are_bytes read))
+safe_content (assemble task) held input tells =
+    safe_file (assemble task) (held task.source) input (tells task.source) (λ bytes are_bytes. none_made (assemble task) (λ g given. tt) (source_read bytes) input)
+safe_content (disassemble task) held input tells =
+    safe_file (disassemble task) (held task.image) input (tells task.image) (λ bytes are_bytes. none_made (disassemble task) (λ g given. tt) (image_read bytes) input)
+safe_content (load task) held input tells =
+    safe_image (load task) (source_read (source_of_workload task.count)) input (λ g made. source_is_image (source_of_workload task.count) g made)
 
 safe_words : (task : Option Task) (held : List ℕ → Option (List ℕ)) (input : Option (List ℕ)) → TellBytes held → AfterWords IsSafeRun task held input
 safe_words None held input tells = tt
-safe_words (Some task) held input tells = safe_file task (held (file_in task)) input (tells (file_in task))
+safe_words (Some task) held input tells = safe_content task held input tells
 
 pub safe_runs : (words : List (List ℕ)) (held : List ℕ → Option (List ℕ)) (input : Option (List ℕ)) → TellBytes held → EachRun IsSafeRun words held input
 unfolding EachRun

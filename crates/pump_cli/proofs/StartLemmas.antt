@@ -8,12 +8,12 @@ use Rattle.engine_trait.specs.Accounts.{is_over, plain_account}
 use Rattle.engine_trait.specs.Standing.{Standing}
 use Rattle.engine_trait.specs.declared.ends.Halt.{Halt}
 use Rattle.engine_trait.specs.declared.ends.Halt.TheVariants as halt
-use Rattle.rounds.specs.Course.{next_turn, rounds, stays}
+use Rattle.rounds.specs.Course.{Course, next_turn, rounds, stays}
 use Rattle.tag_loader.specs.Loads.{start_of}
 use Rattle.pump_loader.specs.Loads.{cached_start_of}
 use Rattle.pump_line.specs.Task.{RunTask}
 use Rattle.pump_cli.specs.Endings.{last_pieces, out_at_start, outcome_of_course}
-use Rattle.pump_cli.specs.Program.{outcome_of_run, start_of_run, standing_at_start, started_account}
+use Rattle.pump_cli.specs.Program.{course_of_run, outcome_of_run, start_of_run, standing_at_start, started_account}
 
 -- an engine that is stopped as a whole makes no turn
 stopped_stays : {S T : Type 0} (eq : T → T → Bool) (m : PolicyModel T S) (n from : ℕ) (e : Standing S T) (feed : List ℕ) (why : Halt)
@@ -24,7 +24,7 @@ stopped_stays eq m (suc n) from e feed why stopped = rw stopped refl
 
 module _ {S T : Type 0} (e : Standing S T) where
   -- out of tag words
-  abbrev out_of_tags : Standing S T
+  abbrev pub out_of_tags : Standing S T
   out_of_tags = record { machine = e.machine; account = record e.account { halt = Some halt.TagWords } }
 
   started_if : Bool → Standing S T
@@ -38,12 +38,18 @@ module _ {S T : Type 0} (e : Standing S T) where
   unfolding started_if
   started_over over = ap started_if over
 
+  -- and so makes no turn
+  pub over_course : (eq : T → T → Bool) (m : PolicyModel T S) (turns : ℕ) (feed : List ℕ) → is_over e.account ≡ true
+      → rounds eq m turns 0 (standing_at_start e) feed ≡ stays out_of_tags feed
+  over_course eq m turns feed over =
+      ap (λ (from : Standing S T). rounds eq m turns 0 from feed) (started_over over)
+      ∙ stopped_stays eq m turns 0 out_of_tags feed halt.TagWords refl
+
   pub over_outcome : (eq : T → T → Bool) (m : PolicyModel T S) (turns : ℕ) (feed : List ℕ) → is_over e.account ≡ true
       → outcome_of_course (rounds eq m turns 0 (standing_at_start e) feed) ≡ out_at_start
   unfolding last_pieces
   over_outcome eq m turns feed over =
-      ap (λ (from : Standing S T). outcome_of_course (rounds eq m turns 0 from feed)) (started_over over)
-      ∙ ap outcome_of_course (stopped_stays eq m turns 0 out_of_tags feed halt.TagWords refl)
+      ap (λ (course : Course S T). outcome_of_course course) (over_course eq m turns feed over)
 
 keeps_some : (rules : ℕ) → 1 ≤ rules → (rules == 0) ≡ false
 keeps_some rules some = grind (arith, nat_tests)
@@ -67,14 +73,24 @@ module _ (task : RunTask) (picture : Picture) where
   cached_start cached = ap start_if cached
 
   module _ (fed : List ℕ) where
+    pub uncached_course : task.cache ≡ 0
+        → rounds all_eq all task.turns 0 (standing_at_start (start_of task.choice picture)) fed ≡ course_of_run task picture fed
+    uncached_course uncached =
+        ap (λ (start : Standing AllState AllTag). rounds all_eq all task.turns 0 start fed) (sym (uncached_start (ap (λ (rules : ℕ). rules == 0) uncached)))
+
+    pub cached_course : 1 ≤ task.cache
+        → rounds all_eq all task.turns 0 (standing_at_start (cached_start_of task.choice task.cache task.tags picture)) fed ≡ course_of_run task picture fed
+    cached_course cached =
+        ap (λ (start : Standing AllState AllTag). rounds all_eq all task.turns 0 start fed) (sym (cached_start (keeps_some task.cache cached)))
+
     pub uncached_outcome : task.cache ≡ 0
         → outcome_of_course (rounds all_eq all task.turns 0 (standing_at_start (start_of task.choice picture)) fed) ≡ outcome_of_run task picture fed
     unfolding outcome_of_run
     uncached_outcome uncached =
-        ap (λ (start : Standing AllState AllTag). outcome_of_course (rounds all_eq all task.turns 0 start fed)) (sym (uncached_start (ap (λ (rules : ℕ). rules == 0) uncached)))
+        ap (λ (course : Course AllState AllTag). outcome_of_course course) (uncached_course uncached)
 
     pub cached_outcome : 1 ≤ task.cache
         → outcome_of_course (rounds all_eq all task.turns 0 (standing_at_start (cached_start_of task.choice task.cache task.tags picture)) fed) ≡ outcome_of_run task picture fed
     unfolding outcome_of_run
     cached_outcome cached =
-        ap (λ (start : Standing AllState AllTag). outcome_of_course (rounds all_eq all task.turns 0 start fed)) (sym (cached_start (keeps_some task.cache cached)))
+        ap (λ (course : Course AllState AllTag). outcome_of_course course) (cached_course cached)

@@ -1,4 +1,4 @@
--- The ways of a task to its end: its file is refused or fails, its input is, or it runs; and what is done to file and input.
+-- What is due at the end of a task, why something is refused, and what is done to file and input.
 use Rattle.std.proofs.Common.{◌≡◌, ◌≢◌, ℕ, ◌+◌, ◌<◌, ◌⊎◌, nat_le, if◌then◌else◌, Bool, true, false, List, [], length, Option, Some, None, Result, Ok, Err, IfSome, IsErr, IsTrue, refl, sym, subst, arith, inl, inr, ◌∙◌}
 use Rattle.std.proofs.lemmas.Bool.Decides.{nat_tests}
 use Rattle.std.specs.Io.KnownBytes.{prepend_known}
@@ -9,15 +9,16 @@ use Rattle.image_format.specs.Reading.{image_of}
 use Rattle.image_format.specs.declared.errors.ImageError.{ImageError}
 use Rattle.asm_read.specs.declared.errors.AsmError.{AsmError}
 use Rattle.asm_emit.specs.Assembled.{image_of_source}
+use Rattle.workload.specs.Source.{source_of_workload}
 use Rattle.pump_line.specs.Request.{AssembleTask, DisassembleTask}
-use Rattle.pump_line.specs.Task.{RunTask, ShellTask, Task, assemble, disassemble, run, shell}
+use Rattle.pump_line.specs.Task.{LoadTask, RunTask, ShellTask, Task, assemble, disassemble, load, run, shell}
 use Rattle.pump_cli.specs.Codes.{IsBeforeInput, ReadsAll}
 use Rattle.pump_cli.specs.Endings.{Outcome}
 use Rattle.host_io.specs.Causes.{count_after}
 use Rattle.host_io.proofs.FrontLemmas.{if_some_each}
-use Rattle.pump_cli.specs.Facts.{AtMost, FileFacts, IsLongFile, IsLongInput, IsSaving, IsTooLong, Saves, most_calls}
-use Rattle.pump_cli.specs.Program.{file_in, outcome_of_fed, outcome_of_file, outcome_of_image, outcome_of_lines, outcome_of_listing, outcome_of_run, outcome_of_saving, refusal_outcome}
-use Rattle.pump_cli.specs.Reading.{file_as, file_limit, file_read, image_or_refusal, image_read, input_limit, input_read, source_or_refusal, source_read}
+use Rattle.pump_cli.specs.Facts.{AtMost, FileFacts, IsLongFile, IsLongInput, IsSaving, IsTooLong, Saves, count_after_load, most_calls}
+use Rattle.pump_cli.specs.Program.{outcome_of_content, outcome_of_fed, outcome_of_image, outcome_of_lines, outcome_of_listing, outcome_of_load, outcome_of_run, outcome_of_saving, refusal_outcome}
+use Rattle.pump_cli.specs.Reading.{content_of, content_read, file_as, file_limit, image_or_refusal, image_read, input_limit, input_read, source_or_refusal, source_read}
 use Rattle.pump_cli.specs.declared.refusal.Refusal.{Refusal}
 use Rattle.pump_cli.specs.declared.refusal.Refusal.TheVariants as refusals
 use Rattle.pump_cli.specs.declared.status.Status.{Status}
@@ -26,14 +27,14 @@ use Rattle.pump_cli.specs.declared.status.Status.TheVariants as statuses
 -- ---- what is due
 
 module _ (P : Outcome → Type 0) where
-  pub due_by_file : (task : Task) (held input : Option (List ℕ)) (refusal : Refusal) → IfSome held (λ bytes. file_read task bytes ≡ Err refusal)
-      → P (refusal_outcome refusal) → IfSome (outcome_of_file task held input) P
+  pub due_by_file : (task : Task) (held input : Option (List ℕ)) (refusal : Refusal) → IfSome held (λ bytes. content_read task bytes ≡ Err refusal)
+      → P (refusal_outcome refusal) → IfSome (outcome_of_content task held input) P
   due_by_file task None input refusal is refused = tt
   due_by_file task (Some bytes) input refusal is refused =
       subst (λ (read : Result Picture Refusal). IfSome (outcome_of_image task read input) P) (sym is) refused
 
   pub due_by_input : (task : RunTask) (held input : Option (List ℕ)) (picture : Picture) (refusal : Refusal) → IfSome held (λ bytes. image_read bytes ≡ Ok picture)
-      → IfSome input (λ all. input_read all ≡ Err refusal) → P (refusal_outcome refusal) → IfSome (outcome_of_file (run task) held input) P
+      → IfSome input (λ all. input_read all ≡ Err refusal) → P (refusal_outcome refusal) → IfSome (outcome_of_content (run task) held input) P
   due_by_input task None input picture refusal is long refused = tt
   due_by_input task (Some bytes) None picture refusal is long refused =
       subst (λ (read : Result Picture Refusal). IfSome (outcome_of_image (run task) read None) P) (sym is) tt
@@ -42,7 +43,7 @@ module _ (P : Outcome → Type 0) where
       (subst (λ (fed : Result (List ℕ) Refusal). P (outcome_of_fed task picture fed)) (sym long) refused_is)
 
   pub due_by_run : (task : RunTask) (held input : Option (List ℕ)) (picture : Picture) (fed : List ℕ) → IfSome held (λ bytes. image_read bytes ≡ Ok picture)
-      → IfSome input (λ all. input_read all ≡ Ok fed) → P (outcome_of_run task picture fed) → IfSome (outcome_of_file (run task) held input) P
+      → IfSome input (λ all. input_read all ≡ Ok fed) → P (outcome_of_run task picture fed) → IfSome (outcome_of_content (run task) held input) P
   due_by_run task None input picture fed is taken ran = tt
   due_by_run task (Some bytes) None picture fed is taken ran =
       subst (λ (read : Result Picture Refusal). IfSome (outcome_of_image (run task) read None) P) (sym is) tt
@@ -51,7 +52,7 @@ module _ (P : Outcome → Type 0) where
       (subst (λ (read : Result (List ℕ) Refusal). P (outcome_of_fed task picture read)) (sym taken) ran)
 
   pub due_by_lines : (task : ShellTask) (held input : Option (List ℕ)) (picture : Picture) → IfSome held (λ bytes. image_read bytes ≡ Ok picture)
-      → IfSome input (λ bytes. P (outcome_of_lines task picture bytes)) → IfSome (outcome_of_file (shell task) held input) P
+      → IfSome input (λ bytes. P (outcome_of_lines task picture bytes)) → IfSome (outcome_of_content (shell task) held input) P
   due_by_lines task None input picture is obeyed = tt
   due_by_lines task (Some bytes) None picture is obeyed =
       subst (λ (read : Result Picture Refusal). IfSome (outcome_of_image (shell task) read None) P) (sym is) tt
@@ -59,16 +60,21 @@ module _ (P : Outcome → Type 0) where
       subst (λ (read : Result Picture Refusal). IfSome (outcome_of_image (shell task) read (Some lines)) P) (sym is) obeyed
 
   pub due_by_saving : (task : AssembleTask) (held input : Option (List ℕ)) (picture : Picture) → IfSome held (λ bytes. source_read bytes ≡ Ok picture)
-      → P outcome_of_saving → IfSome (outcome_of_file (assemble task) held input) P
+      → P outcome_of_saving → IfSome (outcome_of_content (assemble task) held input) P
   due_by_saving task None input picture is saved = tt
   due_by_saving task (Some bytes) input picture is saved =
       subst (λ (read : Result Picture Refusal). IfSome (outcome_of_image (assemble task) read input) P) (sym is) saved
 
   pub due_by_listing : (task : DisassembleTask) (held input : Option (List ℕ)) (picture : Picture) → IfSome held (λ bytes. image_read bytes ≡ Ok picture)
-      → P (outcome_of_listing picture) → IfSome (outcome_of_file (disassemble task) held input) P
+      → P (outcome_of_listing picture) → IfSome (outcome_of_content (disassemble task) held input) P
   due_by_listing task None input picture is listed = tt
   due_by_listing task (Some bytes) input picture is listed =
       subst (λ (read : Result Picture Refusal). IfSome (outcome_of_image (disassemble task) read input) P) (sym is) listed
+
+  pub due_by_work : (task : LoadTask) (input : Option (List ℕ)) (picture : Picture) → source_read (source_of_workload task.count) ≡ Ok picture
+      → P (outcome_of_load task picture) → IfSome (outcome_of_content (load task) (Some (source_of_workload task.count)) input) P
+  due_by_work task input picture is worked =
+      subst (λ (read : Result Picture Refusal). IfSome (outcome_of_image (load task) read input) P) (sym is) worked
 
 -- ---- why something was refused
 
@@ -130,18 +136,12 @@ unfolding source_read
 long_source bytes is =
     long_from bytes (as_refused (nat_le (length bytes) file_limit) bytes (λ file. source_or_refusal (image_of_source file)) refusals.TooLong is) (source_not_long (image_of_source bytes))
 
-pub long_file : (task : Task) (bytes : List ℕ) → file_read task bytes ≡ Err refusals.TooLong → IsLongFile bytes
-long_file (run task) bytes is = long_image bytes is
-long_file (shell task) bytes is = long_image bytes is
-long_file (assemble task) bytes is = long_source bytes is
-long_file (disassemble task) bytes is = long_image bytes is
-
--- that is reason enough
-pub too_long : (task : Task) (bytes : List ℕ) (left : Option (List ℕ)) → IsLongFile bytes → IsTooLong task bytes left
-too_long (run task) bytes left past = each left _ (λ input. inl past)
-too_long (shell task) bytes left past = each left _ (λ input. inl past)
-too_long (assemble task) bytes left past = past
-too_long (disassemble task) bytes left past = past
+pub too_long : (task : Task) (bytes : List ℕ) (left : Option (List ℕ)) → content_read task bytes ≡ Err refusals.TooLong → IsTooLong task bytes left
+too_long (run task) bytes left is = each left _ (λ input. inl (long_image bytes is))
+too_long (shell task) bytes left is = each left _ (λ input. inl (long_image bytes is))
+too_long (assemble task) bytes left is = long_source bytes is
+too_long (disassemble task) bytes left is = long_image bytes is
+too_long (load task) bytes left is = long_source bytes is
 
 -- what is read was refused, and not for its length
 not_for_length : {A B : Type 0} (refusal : Refusal) → (A × (refusal ≡ refusals.TooLong)) ⊎ B → (refusal ≡ refusals.TooLong → ⊥) → B
@@ -164,22 +164,27 @@ image_bad bytes error is = image_refusal bytes (refusals.BadImage error) is (λ 
 source_bad : (bytes : List ℕ) (error : AsmError) → source_read bytes ≡ Err (refusals.BadSource error) → source_or_refusal (image_of_source bytes) ≡ Err (refusals.BadSource error)
 source_bad bytes error is = source_refusal bytes (refusals.BadSource error) is (λ e. let h : refusals.BadSource error ≡ refusals.TooLong = e in cc)
 
-pub no_image : (task : Task) (bytes : List ℕ) (error : ImageError) → file_read task bytes ≡ Err (refusals.BadImage error) → IsErr (image_of bytes)
+source_no_image_in : (bytes : List ℕ) (error : ImageError) → source_read bytes ≡ Err (refusals.BadImage error) → ⊥
+source_no_image_in bytes error is =
+    source_no_image (image_of_source bytes) error (source_refusal bytes (refusals.BadImage error) is (λ e. let h : refusals.BadImage error ≡ refusals.TooLong = e in cc))
+
+pub no_image : (task : Task) (bytes : List ℕ) (error : ImageError) → content_read task bytes ≡ Err (refusals.BadImage error) → IsErr (image_of bytes)
 no_image (run task) bytes error is = image_is_bad (image_of bytes) error (image_bad bytes error is)
 no_image (shell task) bytes error is = image_is_bad (image_of bytes) error (image_bad bytes error is)
-no_image (assemble task) bytes error is =
-    absurd (source_no_image (image_of_source bytes) error (source_refusal bytes (refusals.BadImage error) is (λ e. let h : refusals.BadImage error ≡ refusals.TooLong = e in cc)))
+no_image (assemble task) bytes error is = absurd (source_no_image_in bytes error is)
 no_image (disassemble task) bytes error is = image_is_bad (image_of bytes) error (image_bad bytes error is)
+no_image (load task) bytes error is = absurd (source_no_image_in bytes error is)
 
 image_no_source_in : (bytes : List ℕ) (error : AsmError) → image_read bytes ≡ Err (refusals.BadSource error) → ⊥
 image_no_source_in bytes error is =
     image_no_source (image_of bytes) error (image_refusal bytes (refusals.BadSource error) is (λ e. let h : refusals.BadSource error ≡ refusals.TooLong = e in cc))
 
-pub no_source : (task : Task) (bytes : List ℕ) (error : AsmError) → file_read task bytes ≡ Err (refusals.BadSource error) → IsErr (image_of_source bytes)
+pub no_source : (task : Task) (bytes : List ℕ) (error : AsmError) → content_read task bytes ≡ Err (refusals.BadSource error) → IsErr (image_of_source bytes)
 no_source (run task) bytes error is = absurd (image_no_source_in bytes error is)
 no_source (shell task) bytes error is = absurd (image_no_source_in bytes error is)
 no_source (assemble task) bytes error is = source_is_bad (image_of_source bytes) error (source_bad bytes error is)
 no_source (disassemble task) bytes error is = absurd (image_no_source_in bytes error is)
+no_source (load task) bytes error is = source_is_bad (image_of_source bytes) error (source_bad bytes error is)
 
 pub long_input : (bytes : List ℕ) → input_read bytes ≡ Err refusals.TooLong → IsLongInput bytes
 unfolding input_read
@@ -198,7 +203,7 @@ loses_nothing left most = record { front = []; moved = by left; within = omega a
     by None = refl
     by (Some bytes) = refl
 
-taken_is_fine : (task : Task) (bytes : List ℕ) (picture : Picture) {P : Type 0} → file_read task bytes ≡ Ok picture → IsErr (file_read task bytes) → P
+taken_is_fine : (task : Task) (bytes : List ℕ) (picture : Picture) {P : Type 0} → content_read task bytes ≡ Ok picture → IsErr (content_read task bytes) → P
 taken_is_fine task bytes picture is bad = absurd (let h : false ≡ true = subst (λ (read : Result Picture Refusal). IsErr read) is bad in cc)
 
 -- what a status is not, and why it may be what it is
@@ -212,51 +217,53 @@ pub record Side (task : Task) (status : Status) (BadImage BadSource TooLong : Ty
 
 -- ---- calls of files
 
-one_call : (task : Task) (before now : ℕ) → now ≡ count_after before → AtMost (most_calls task) before now
-one_call (run task) before now is = inr is
-one_call (shell task) before now is = inr is
-one_call (assemble task) before now is = inr (inl is)
-one_call (disassemble task) before now is = inr is
+load_call : (task : Task) (before now : ℕ) → now ≡ count_after_load task before → AtMost (most_calls task) before now
+load_call (run task) before now is = inr is
+load_call (shell task) before now is = inr is
+load_call (assemble task) before now is = inr (inl is)
+load_call (disassemble task) before now is = inr is
+load_call (load task) before now is = is
 
 pub no_call : (task : Task) (before : ℕ) → AtMost (most_calls task) before before
 no_call (run task) before = inl refl
 no_call (shell task) before = inl refl
 no_call (assemble task) before = inl refl
 no_call (disassemble task) before = inl refl
+no_call (load task) before = refl
 
-module _ {I : Type 0} (task : Task) (status : Status) (before after : Outside I) (calls : after.calls ≡ count_after before.calls)
+module _ {I : Type 0} (task : Task) (status : Status) (before after : Outside I) (calls : after.calls ≡ count_after_load task before.calls)
     (not_saving : Saves task status → ⊥)
-    (bad : status ≡ statuses.BadImage → IfSome (before.held (file_in task)) (λ bytes. IsErr (image_of bytes)))
-    (source : status ≡ statuses.BadSource → IfSome (before.held (file_in task)) (λ bytes. IsErr (image_of_source bytes)))
-    (long : status ≡ statuses.TooLong → IfSome (before.held (file_in task)) (λ bytes. IsTooLong task bytes before.left)) where
+    (bad : status ≡ statuses.BadImage → IfSome (content_of task before.held) (λ bytes. IsErr (image_of bytes)))
+    (source : status ≡ statuses.BadSource → IfSome (content_of task before.held) (λ bytes. IsErr (image_of_source bytes)))
+    (long : status ≡ statuses.TooLong → IfSome (content_of task before.held) (λ bytes. IsTooLong task bytes before.left)) where
   -- the input was not asked for
   pub facts_unasked : after.input ≡ before.input → after.left ≡ before.left → (ReadsAll task status → ⊥) → FileFacts task status before after
   facts_unasked input left not_all = record {
     calls = λ memory saving. calls;
     saving_calls = λ saving. absurd (not_saving saving);
-    at_most = one_call task before.calls after.calls calls;
+    at_most = load_call task before.calls after.calls calls;
     bad_image = bad;
     bad_source = source;
     too_long = long;
     unread = λ early. input;
-    unasked = each (before.held (file_in task)) _ (λ bytes refused. input);
+    unasked = each (content_of task before.held) _ (λ bytes refused. input);
     whole = λ all. absurd (not_all all);
     moved = subst (λ (now : Option (List ℕ)). LosesFront before.left now (input_limit + 4096)) (sym left) (loses_nothing before.left (input_limit + 4096));
   }
 
   -- the file was taken
-  pub facts_asked : (picture : Picture) → IfSome (before.held (file_in task)) (λ bytes. file_read task bytes ≡ Ok picture)
+  pub facts_asked : (picture : Picture) → IfSome (content_of task before.held) (λ bytes. content_read task bytes ≡ Ok picture)
       → LosesFront before.left after.left (input_limit + 4096) → (IsBeforeInput task status → after.input ≡ before.input)
       → (ReadsAll task status → IsTrue after.closed) → FileFacts task status before after
   facts_asked picture taken moved unread whole = record {
     calls = λ memory saving. calls;
     saving_calls = λ saving. absurd (not_saving saving);
-    at_most = one_call task before.calls after.calls calls;
+    at_most = load_call task before.calls after.calls calls;
     bad_image = bad;
     bad_source = source;
     too_long = long;
     unread = unread;
-    unasked = if_some_each (before.held (file_in task)) _ _ (λ bytes is refused. taken_is_fine task bytes picture is refused) taken;
+    unasked = if_some_each (content_of task before.held) _ _ (λ bytes is refused. taken_is_fine task bytes picture is refused) taken;
     whole = whole;
     moved = moved;
   }
@@ -312,12 +319,14 @@ not_all_read (run task) all = all
 not_all_read (shell task) all = all
 not_all_read (assemble task) all = all
 not_all_read (disassemble task) all = all
+not_all_read (load task) all = all
 
 nothing_saved : (task : Task) → Saves task statuses.Memory → ⊥
 nothing_saved (run task) saves = saves
 nothing_saved (shell task) saves = saves
 nothing_saved (assemble task) saves = saves
 nothing_saved (disassemble task) saves = saves
+nothing_saved (load task) saves = saves
 
 -- want of memory before anything was asked for
 pub facts_none : {I : Type 0} (task : Task) (before : Outside I) → FileFacts task statuses.Memory before before
@@ -329,7 +338,7 @@ facts_none task before = record {
   bad_source = λ e. absurd (let h : statuses.Memory ≡ statuses.BadSource = e in cc);
   too_long = λ e. absurd (let h : statuses.Memory ≡ statuses.TooLong = e in cc);
   unread = λ early. refl;
-  unasked = each (before.held (file_in task)) _ (λ bytes refused. refl);
+  unasked = each (content_of task before.held) _ (λ bytes refused. refl);
   whole = λ all. absurd (not_all_read task all);
   moved = loses_nothing before.left (input_limit + 4096);
 }

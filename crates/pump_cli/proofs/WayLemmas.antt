@@ -11,14 +11,15 @@ use Rattle.image_format.specs.Picture.{Picture}
 use Rattle.image_format.specs.Reading.{image_of}
 use Rattle.image_format.specs.Spelling.{spelling}
 use Rattle.asm_emit.specs.Assembled.{image_of_source}
+use Rattle.workload.specs.Source.{source_of_workload}
 use Rattle.pump_line.specs.Request.{AssembleTask, DisassembleTask}
-use Rattle.pump_line.specs.Task.{RunTask, ShellTask, Task, assemble, disassemble, run, shell, task_of}
+use Rattle.pump_line.specs.Task.{LoadTask, RunTask, ShellTask, Task, assemble, disassemble, load, run, shell, task_of}
 use Rattle.pump_cli.specs.Codes.{IsBeforeInput, IsOfRefusal, IsOfRun, IsOfSession, IsSilent, ReadsAll, status_of_cut, status_of_refusal}
 use Rattle.pump_cli.specs.Early.{EndsEarly, InputRoseBy, IsOfFile, ReadRoseBy, SessionFaultBy, Tells, WriteRoseBy}
 use Rattle.pump_cli.specs.Endings.{Outcome}
-use Rattle.pump_cli.specs.Facts.{AtMost, Does, FaultBy, HeldBy, HeldByAssembly, HoldsFile, IsLongInput, IsSaving, IsTooLong, OthersKept, PutsFaultBy, Saves, TaskFacts, status_in}
-use Rattle.pump_cli.specs.Program.{file_in, outcome_of_file, outcome_of_lines, outcome_of_listing, outcome_of_run, outcome_of_saving, outcome_of_words, program, refusal_outcome}
-use Rattle.pump_cli.specs.Reading.{file_read, image_read, input_limit, input_read, source_read}
+use Rattle.pump_cli.specs.Facts.{AtMost, Does, FaultBy, HeldBy, HeldByAssembly, HoldsFile, IsLongInput, IsSaving, IsTooLong, OthersKept, PutsFaultBy, LoadFault, Saves, TaskFacts, count_after_load, status_in}
+use Rattle.pump_cli.specs.Program.{outcome_of_content, outcome_of_lines, outcome_of_listing, outcome_of_load, outcome_of_run, outcome_of_saving, outcome_of_words, program, refusal_outcome}
+use Rattle.pump_cli.specs.Reading.{content_of, content_read, file_in, image_read, input_limit, input_read, source_read}
 use Rattle.pump_cli.specs.Theorem.{Answers}
 use Rattle.pump_cli.specs.declared.cut.Cut.{Cut}
 use Rattle.pump_cli.specs.declared.cut.Cut.TheVariants as cut
@@ -29,7 +30,7 @@ use Rattle.pump_cli.specs.declared.refusal.Refusal.TheVariants as refusals
 use Rattle.pump_cli.specs.declared.status.Status.{Status}
 use Rattle.pump_cli.specs.declared.status.Status.TheVariants as statuses
 use Rattle.pump_cli.proofs.AnswerLemmas.{answers, does_nothing, puts_fault, refusal_ends, refusal_quiet, run_ends, run_quiet}
-use Rattle.pump_cli.proofs.TaskLemmas.{Side, due_by_file, due_by_input, due_by_lines, due_by_listing, due_by_run, due_by_saving, facts_asked, facts_none, facts_saving, facts_unasked, long_file, long_input, no_image, no_source, too_long}
+use Rattle.pump_cli.proofs.TaskLemmas.{Side, due_by_file, due_by_input, due_by_lines, due_by_listing, due_by_run, due_by_saving, due_by_work, facts_asked, facts_none, facts_saving, facts_unasked, long_input, no_image, no_source, too_long}
 
 -- a cut that comes before anything is put or saved, or while it is put
 abbrev IsBeforeSaving : Cut → Type 0
@@ -42,6 +43,7 @@ all_read_is (run task) status all = all
 all_read_is (shell task) status all = absurd all
 all_read_is (assemble task) status all = absurd all
 all_read_is (disassemble task) status all = absurd all
+all_read_is (load task) status all = absurd all
 
 -- only `asm` saves
 saving_is : (task : Task) (status : Status) → Saves task status → IsSaving status
@@ -49,6 +51,7 @@ saving_is (run task) status saves = absurd saves
 saving_is (shell task) status saves = absurd saves
 saving_is (assemble task) status saves = saves
 saving_is (disassemble task) status saves = absurd saves
+saving_is (load task) status saves = absurd saves
 
 of_cut : (task : Task) (B S L : Type 0) (cut : Cut) → IsBeforeSaving cut → Side task (status_of_cut cut) B S L
 of_cut task B S L cut.ReadFailed reads = record {
@@ -136,6 +139,7 @@ kept (assemble task) statuses.PutFailed before after saves held = held
 kept (assemble task) statuses.Memory before after saves held = held
 kept (assemble task) statuses.TooLong before after saves held = held
 kept (disassemble task) status before after saves held = held
+kept (load task) status before after saves held = held
 
 -- a refusal, a failed put and want of memory are not silent
 refusal_is_told : (task : Option Task) (refusal : Refusal) → IsSilent task (status_of_refusal refusal) → ⊥
@@ -149,16 +153,15 @@ late : (task : RunTask) (r : Refusal) → r ≡ refusals.TooLong → IsBeforeInp
 late task r is early = subst (λ (other : Refusal). IsBeforeInput (run task) (status_of_refusal other)) is early
 
 -- the status of a run is none of the others
-record OfRun (task : RunTask) (status : Status) : Type 0 where
+record OfRun (task : Task) (status : Status) : Type 0 where
   words : status ≡ statuses.BadWords → ⊥
-  silent : IsSilent (Some (run task)) status → ⊥
-  refusal : IsOfRefusal (Some (run task)) status → ⊥
+  silent : IsSilent (Some task) status → ⊥
+  refusal : IsOfRefusal (Some task) status → ⊥
   bad : status ≡ statuses.BadImage → ⊥
   source : status ≡ statuses.BadSource → ⊥
   long : status ≡ statuses.TooLong → ⊥
-  early : IsBeforeInput (run task) status → ⊥
 
-of_run_is : (task : RunTask) (status : Status) → IsOfRun status → OfRun task status
+of_run_is : (task : Task) (status : Status) → IsOfRun status → OfRun task status
 of_run_is task status of_run = record {
   words = λ e. subst IsOfRun e of_run;
   silent = λ silent. silent_is status of_run silent;
@@ -166,29 +169,29 @@ of_run_is task status of_run = record {
   bad = λ e. subst IsOfRun e of_run;
   source = λ e. subst IsOfRun e of_run;
   long = λ e. subst IsOfRun e of_run;
-  early = λ early. early_is status of_run early;
 }
   where
-    silent_is : (s : Status) → IsOfRun s → IsSilent (Some (run task)) s → ⊥
+    silent_is : (s : Status) → IsOfRun s → IsSilent (Some task) s → ⊥
     silent_is statuses.ReadFailed of_run silent = of_run
     silent_is statuses.WriteFailed of_run silent = of_run
     silent_is statuses.InputFailed of_run silent = of_run
     silent_is _ of_run silent = silent
 
-    refused_is : (s : Status) → IsOfRun s → IsOfRefusal (Some (run task)) s → ⊥
+    refused_is : (s : Status) → IsOfRun s → IsOfRefusal (Some task) s → ⊥
     refused_is statuses.BadWords of_run refused = of_run
     refused_is statuses.BadImage of_run refused = of_run
     refused_is statuses.BadSource of_run refused = of_run
     refused_is statuses.TooLong of_run refused = of_run
     refused_is _ of_run refused = refused
 
-    early_is : (s : Status) → IsOfRun s → IsBeforeInput (run task) s → ⊥
-    early_is statuses.BadWords of_run early = of_run
-    early_is statuses.BadImage of_run early = of_run
-    early_is statuses.ReadFailed of_run early = of_run
-    early_is _ of_run early = early
+-- a run comes after the input was asked for
+ran_late : (task : RunTask) (s : Status) → IsOfRun s → IsBeforeInput (run task) s → ⊥
+ran_late task statuses.BadWords of_run early = of_run
+ran_late task statuses.BadImage of_run early = of_run
+ran_late task statuses.ReadFailed of_run early = of_run
+ran_late task _ of_run early = early
 
-put_failed_is : (task : RunTask) → OfRun task statuses.PutFailed
+put_failed_is : (task : Task) → OfRun task statuses.PutFailed
 put_failed_is task = record {
   words = λ e. let h : statuses.PutFailed ≡ statuses.BadWords = e in cc;
   silent = λ no. no;
@@ -196,10 +199,9 @@ put_failed_is task = record {
   bad = λ e. let h : statuses.PutFailed ≡ statuses.BadImage = e in cc;
   source = λ e. let h : statuses.PutFailed ≡ statuses.BadSource = e in cc;
   long = λ e. let h : statuses.PutFailed ≡ statuses.TooLong = e in cc;
-  early = λ no. no;
 }
 
-memory_is : (task : RunTask) → OfRun task statuses.Memory
+memory_is : (task : Task) → OfRun task statuses.Memory
 memory_is task = record {
   words = λ e. let h : statuses.Memory ≡ statuses.BadWords = e in cc;
   silent = λ no. no;
@@ -207,7 +209,6 @@ memory_is task = record {
   bad = λ e. let h : statuses.Memory ≡ statuses.BadImage = e in cc;
   source = λ e. let h : statuses.Memory ≡ statuses.BadSource = e in cc;
   long = λ e. let h : statuses.Memory ≡ statuses.TooLong = e in cc;
-  early = λ no. no;
 }
 
 abbrev early : {A : Type 0} → EarlyEnd → Result A EarlyEnd
@@ -232,91 +233,94 @@ input_error r = Err r
 
 -- the causes of a refusal
 abbrev BadFile : {I : Type 0} → Task → Outside I → Type 0
-BadFile task before = IfSome (before.held (file_in task)) (λ bytes. IsErr (image_of bytes))
+BadFile task before = IfSome (content_of task before.held) (λ bytes. IsErr (image_of bytes))
 
 abbrev BadText : {I : Type 0} → Task → Outside I → Type 0
-BadText task before = IfSome (before.held (file_in task)) (λ bytes. IsErr (image_of_source bytes))
+BadText task before = IfSome (content_of task before.held) (λ bytes. IsErr (image_of_source bytes))
 
 abbrev LongFile : {I : Type 0} → Task → Outside I → Type 0
-LongFile task before = IfSome (before.held (file_in task)) (λ bytes. IsTooLong task bytes before.left)
+LongFile task before = IfSome (content_of task before.held) (λ bytes. IsTooLong task bytes before.left)
 
--- ---- the file
+-- ---- the content
 
 module _ {I : Type 0} (task : Task) (before after : Outside I) where
   abbrev AnsweredBy : Status → Type 0
-  AnsweredBy status = Answers (outcome_of_file task (before.held (file_in task)) before.left) (Some task) status before after
+  AnsweredBy status = Answers (outcome_of_content task (content_of task before.held) before.left) (Some task) status before after
 
   abbrev SideOf : Status → Type 0
   SideOf status = Side task status (BadFile task before) (BadText task before) (LongFile task before)
 
-  file_refusal : (refusal : Refusal) → IsOfFile refusal → IfSome (before.held (file_in task)) (λ bytes. file_read task bytes ≡ Err refusal) → SideOf (status_of_refusal refusal)
+  file_refusal : (refusal : Refusal) → IsOfFile refusal → IfSome (content_of task before.held) (λ bytes. content_read task bytes ≡ Err refusal) → SideOf (status_of_refusal refusal)
   file_refusal refusals.BadWords of_file is = absurd of_file
-  file_refusal (refusals.BadImage error) of_file is = of_bad_image task (BadFile task before) (BadText task before) (LongFile task before) (if_some_each (before.held (file_in task)) _ _ (λ bytes read. no_image task bytes error read) is)
-  file_refusal (refusals.BadSource error) of_file is = of_bad_source task (BadFile task before) (BadText task before) (LongFile task before) (if_some_each (before.held (file_in task)) _ _ (λ bytes read. no_source task bytes error read) is)
+  file_refusal (refusals.BadImage error) of_file is = of_bad_image task (BadFile task before) (BadText task before) (LongFile task before) (if_some_each (content_of task before.held) _ _ (λ bytes read. no_image task bytes error read) is)
+  file_refusal (refusals.BadSource error) of_file is = of_bad_source task (BadFile task before) (BadText task before) (LongFile task before) (if_some_each (content_of task before.held) _ _ (λ bytes read. no_source task bytes error read) is)
   file_refusal refusals.TooLong of_file is =
-      of_too_long task (BadFile task before) (BadText task before) (LongFile task before) (if_some_each (before.held (file_in task)) _ _ (λ bytes read. too_long task bytes before.left (long_file task bytes read)) is)
+      of_too_long task (BadFile task before) (BadText task before) (LongFile task before) (if_some_each (content_of task before.held) _ _ (λ bytes read. too_long task bytes before.left read) is)
 
-  -- the file is refused
-  pub file_refused : (refusal : Refusal) (result : Result Status Cut) → IsOfFile refusal → IfSome (before.held (file_in task)) (λ bytes. file_read task bytes ≡ Err refusal)
+  -- the content is refused
+  pub file_refused : (refusal : Refusal) (result : Result Status Cut) → IsOfFile refusal → IfSome (content_of task before.held) (λ bytes. content_read task bytes ≡ Err refusal)
       → Does (refusal_outcome refusal) before.taken after.taken result → PutsFaultBy before.faults.puts after.faults.puts result
       → IfOk result (λ ended. ended ≡ status_of_refusal refusal)
       → after.faults.read ≡ before.faults.read → after.faults.write ≡ before.faults.write → after.faults.input ≡ before.faults.input → after.taken.out ≡ before.taken.out
-      → after.held ≡ before.held → after.calls ≡ count_after before.calls → after.input ≡ before.input → after.left ≡ before.left → AnsweredBy (status_in result)
+      → after.held ≡ before.held → after.calls ≡ count_after_load task before.calls → after.input ≡ before.input → after.left ≡ before.left → AnsweredBy (status_in result)
   file_refused refusal result of_file is does faults ends read write input_faults out held calls input left =
       let side : SideOf (status_in result) =
       refusal_ends SideOf refusal before.faults.puts after.faults.puts result faults ends
       (file_refusal refusal of_file is) (of_cut task (BadFile task before) (BadText task before) (LongFile task before) cut.PutFailed tt) (of_cut task (BadFile task before) (BadText task before) (LongFile task before) cut.Memory tt) in
       answers _ (Some task) result before after
-      (due_by_file (λ outcome. Does outcome before.taken after.taken result) task (before.held (file_in task)) before.left refusal is does)
+      (due_by_file (λ outcome. Does outcome before.taken after.taken result) task (content_of task before.held) before.left refusal is does)
       (puts_fault (Some task) before.faults after.faults result faults read write input_faults (refusal_quiet (Some task) before.faults after.faults refusal result ends))
       (λ words. absurd (side.words words))
       (λ silent. absurd (refusal_ends (λ (ended : Status). IsSilent (Some task) ended → ⊥) refusal before.faults.puts after.faults.puts result faults ends (refusal_is_told (Some task) refusal) (λ no. no) (λ no. no) silent))
       (λ refused. out) (kept task (status_in result) before after side.not_saving held)
       (facts_unasked task (status_in result) before after calls side.not_saving side.bad side.source side.long input left side.not_run)
 
-  -- the load of the file is cut short
-  file_fault : (cut : Cut) (A : Type 0) → ReadRoseBy {A = A} before.faults.read after.faults.read (file_in task) (Err (early_end.Cut cut))
-      → after.faults.write ≡ before.faults.write → after.faults.puts ≡ before.faults.puts → after.faults.input ≡ before.faults.input
-      → FaultBy (Some task) (status_of_cut cut) before.faults after.faults
-  file_fault cut.ReadFailed A rose write puts input = record { read = rose; write = write; input = input; puts = puts }
-  file_fault cut.WriteFailed A rose write puts input = absurd rose
-  file_fault cut.InputFailed A rose write puts input = absurd rose
-  file_fault cut.PutFailed A rose write puts input = absurd rose
-  file_fault cut.Memory A rose write puts input = λ i. record { read = rose i; write = write i; input = input i; puts = puts i }
-
-  file_reads : (cut : Cut) (A : Type 0) → ReadRoseBy {A = A} before.faults.read after.faults.read (file_in task) (Err (early_end.Cut cut)) → IsBeforeSaving cut
-  file_reads cut.ReadFailed A rose = tt
-  file_reads cut.WriteFailed A rose = absurd rose
-  file_reads cut.InputFailed A rose = tt
-  file_reads cut.PutFailed A rose = tt
-  file_reads cut.Memory A rose = tt
-
-  pub file_cut : (cut : Cut) (A : Type 0) → ReadRoseBy {A = A} before.faults.read after.faults.read (file_in task) (Err (early_end.Cut cut))
-      → after.faults.write ≡ before.faults.write → after.faults.puts ≡ before.faults.puts → after.faults.input ≡ before.faults.input → after.taken ≡ before.taken
-      → after.held ≡ before.held → after.calls ≡ count_after before.calls → after.input ≡ before.input → after.left ≡ before.left → AnsweredBy (status_of_cut cut)
-  file_cut cut A rose write puts input_faults taken held calls input left =
-      let side : SideOf (status_of_cut cut) = of_cut task (BadFile task before) (BadText task before) (LongFile task before) cut (file_reads cut A rose) in
+  -- it can't be had
+  pub file_cut : (cut : Cut) → IsBeforeSaving cut → FaultBy (Some task) (status_of_cut cut) before.faults after.faults → after.taken ≡ before.taken
+      → after.held ≡ before.held → after.calls ≡ count_after_load task before.calls → after.input ≡ before.input → after.left ≡ before.left → AnsweredBy (status_of_cut cut)
+  file_cut cut reads fault taken held calls input left =
+      let side : SideOf (status_of_cut cut) = of_cut task (BadFile task before) (BadText task before) (LongFile task before) cut reads in
       answers _ (Some task) (Err cut) before after
       (if_some_all _ _ (λ outcome. subst (λ (now : Taken). Does outcome before.taken now (Err cut)) (sym taken) (does_nothing outcome before.taken cut)))
-      (file_fault cut A rose write puts input_faults) (λ words. absurd (side.words words)) (λ silent. taken) (λ refused. ap (λ (now : Taken). now.out) taken)
+      fault (λ words. absurd (side.words words)) (λ silent. taken) (λ refused. ap (λ (now : Taken). now.out) taken)
       (kept task (status_of_cut cut) before after side.not_saving held)
       (facts_unasked task (status_of_cut cut) before after calls side.not_saving side.bad side.source side.long input left side.not_run)
 
-  -- either of them; standard output is left alone
-  pub file_ends : (end : EarlyEnd) (A : Type 0) (result : Result Status Cut)
-      → ((refusal : Refusal) → early {A = A} end ≡ early (early_end.Refused refusal) → IfSome (before.held (file_in task)) (λ bytes. file_read task bytes ≡ Err refusal))
-      → ((refusal : Refusal) → early {A = A} end ≡ early (early_end.Refused refusal) → IsOfFile refusal)
-      → ReadRoseBy {A = A} before.faults.read after.faults.read (file_in task) (Err end) → after.faults.write ≡ before.faults.write
-      → EndsEarly end before.taken.err after.taken.err before.faults.puts.err after.faults.puts.err result
-      → after.taken.out ≡ before.taken.out → after.faults.puts.out ≡ before.faults.puts.out → after.faults.input ≡ before.faults.input
-      → after.held ≡ before.held → after.calls ≡ count_after before.calls → after.input ≡ before.input → after.left ≡ before.left → AnsweredBy (status_in result)
-  file_ends (early_end.Refused refusal) A result refused of_file rose write ends out out_faults input_faults held calls input left =
-      file_refused refusal result (of_file refusal refl) (refused refusal refl)
-      (beside (Does (refused_outcome refusal)) before.taken after.taken out result ends.does) (beside_faults before.faults.puts after.faults.puts out_faults result ends.faults)
-      ends.status rose write input_faults out held calls input left
-  file_ends (early_end.Cut cut) A result refused of_file rose write ends out out_faults input_faults held calls input left =
-      subst (λ (done : Result Status Cut). AnsweredBy (status_in done)) (sym ends.ends)
-      (file_cut cut A rose write (λ i. record { out = out_faults i; err = ends.faults i }) input_faults (λ i. record { out = out i; err = ends.err i }) held calls input left)
+  -- the load of its file is cut short
+  module _ (name : List ℕ) (loads : file_in task ≡ Some name) where
+    file_fault : (cut : Cut) (A : Type 0) → ReadRoseBy {A = A} before.faults.read after.faults.read name (Err (early_end.Cut cut))
+        → after.faults.write ≡ before.faults.write → after.faults.puts ≡ before.faults.puts → after.faults.input ≡ before.faults.input
+        → FaultBy (Some task) (status_of_cut cut) before.faults after.faults
+    file_fault cut.ReadFailed A rose write puts input =
+        subst (λ (file : Option (List ℕ)). LoadFault file before.faults after.faults) (sym loads) (record { read = rose; write = write; input = input; puts = puts })
+    file_fault cut.WriteFailed A rose write puts input = absurd rose
+    file_fault cut.InputFailed A rose write puts input = absurd rose
+    file_fault cut.PutFailed A rose write puts input = absurd rose
+    file_fault cut.Memory A rose write puts input = λ i. record { read = rose i; write = write i; input = input i; puts = puts i }
+
+    file_reads : (cut : Cut) (A : Type 0) → ReadRoseBy {A = A} before.faults.read after.faults.read name (Err (early_end.Cut cut)) → IsBeforeSaving cut
+    file_reads cut.ReadFailed A rose = tt
+    file_reads cut.WriteFailed A rose = absurd rose
+    file_reads cut.InputFailed A rose = tt
+    file_reads cut.PutFailed A rose = tt
+    file_reads cut.Memory A rose = tt
+
+    -- the file is refused, or that; standard output is left alone
+    pub file_ends : (end : EarlyEnd) (A : Type 0) (result : Result Status Cut)
+        → ((refusal : Refusal) → early {A = A} end ≡ early (early_end.Refused refusal) → IfSome (content_of task before.held) (λ bytes. content_read task bytes ≡ Err refusal))
+        → ((refusal : Refusal) → early {A = A} end ≡ early (early_end.Refused refusal) → IsOfFile refusal)
+        → ReadRoseBy {A = A} before.faults.read after.faults.read name (Err end) → after.faults.write ≡ before.faults.write
+        → EndsEarly end before.taken.err after.taken.err before.faults.puts.err after.faults.puts.err result
+        → after.taken.out ≡ before.taken.out → after.faults.puts.out ≡ before.faults.puts.out → after.faults.input ≡ before.faults.input
+        → after.held ≡ before.held → after.calls ≡ count_after_load task before.calls → after.input ≡ before.input → after.left ≡ before.left → AnsweredBy (status_in result)
+    file_ends (early_end.Refused refusal) A result refused of_file rose write ends out out_faults input_faults held calls input left =
+        file_refused refusal result (of_file refusal refl) (refused refusal refl)
+        (beside (Does (refused_outcome refusal)) before.taken after.taken out result ends.does) (beside_faults before.faults.puts after.faults.puts out_faults result ends.faults)
+        ends.status rose write input_faults out held calls input left
+    file_ends (early_end.Cut cut) A result refused of_file rose write ends out out_faults input_faults held calls input left =
+        subst (λ (done : Result Status Cut). AnsweredBy (status_in done)) (sym ends.ends)
+        (file_cut cut (file_reads cut A rose) (file_fault cut A rose write (λ i. record { out = out_faults i; err = ends.faults i }) input_faults)
+        (λ i. record { out = out i; err = ends.err i }) held calls input left)
 
 -- ---- `run`
 
@@ -413,13 +417,15 @@ module _ {I : Type 0} (task : RunTask) (before after : Outside I) where
         → Does (outcome_of_run task picture fed) before.taken after.taken result → PutsFaultBy before.faults.puts after.faults.puts result
         → IfOk result IsOfRun → after.faults.input ≡ before.faults.input → IsTrue after.closed → AnsweredRun (status_in result)
     ran fed result taken does faults kind input_faults closed =
-        let side : OfRun task (status_in result) =
-        run_ends (OfRun task) before.faults.puts after.faults.puts result faults kind (of_run_is task) (put_failed_is task) (memory_is task) in
+        let side : OfRun (run task) (status_in result) =
+        run_ends (OfRun (run task)) before.faults.puts after.faults.puts result faults kind (of_run_is (run task)) (put_failed_is (run task)) (memory_is (run task)) in
         answers _ (Some (run task)) result before after
         (due_by_run (λ outcome. Does outcome before.taken after.taken result) task (before.held task.image) before.left picture fed is taken does)
         (puts_fault (Some (run task)) before.faults after.faults result faults read write input_faults (run_quiet (Some (run task)) before.faults after.faults result kind))
         (λ words. absurd (side.words words)) (λ silent. absurd (side.silent silent)) (λ refused. absurd (side.refusal refused)) held
-        (facts_asked (run task) (status_in result) before after calls (λ saves. saves) (λ e. absurd (side.bad e)) (λ e. absurd (side.source e)) (λ e. absurd (side.long e)) picture is moved (λ early. absurd (side.early early)) (λ of_run. closed))
+        (facts_asked (run task) (status_in result) before after calls (λ saves. saves) (λ e. absurd (side.bad e)) (λ e. absurd (side.source e)) (λ e. absurd (side.long e)) picture is moved
+        (λ early. absurd (run_ends (λ (ended : Status). IsBeforeInput (run task) ended → ⊥) before.faults.puts after.faults.puts result faults kind (ran_late task) (λ no. no) (λ no. no) early))
+        (λ of_run. closed))
 
 -- ---- `shell`
 
@@ -610,54 +616,42 @@ module _ {I : Type 0} (task : AssembleTask) (before after : Outside I) where
       (saving_held picture result is done file others memory rose)
       (facts_saving task (status_in result) before after picture is ends (λ not_memory. calls (saving_no_memory result not_memory)) at_most input left)
 
--- ---- `dis`
+-- ---- `dis` and `load`
 
--- what the status of a listing is not
-record OfListing (task : DisassembleTask) (status : Status) : Type 0 where
-  words : status ≡ statuses.BadWords → ⊥
-  silent : IsSilent (Some (disassemble task)) status → ⊥
-  refusal : IsOfRefusal (Some (disassemble task)) status → ⊥
-  bad : status ≡ statuses.BadImage → ⊥
-  source : status ≡ statuses.BadSource → ⊥
-  long : status ≡ statuses.TooLong → ⊥
+-- a task that puts on standard output, and leaves the input and what files hold alone
+module _ {I : Type 0} (task : Task) (before after : Outside I) where
+  abbrev PutsAs : Outcome → Result Status Cut → Type 0
+  PutsAs outcome result = Does outcome before.taken after.taken result
+
+  put_out : (outcome : Outcome) (result : Result Status Cut)
+      → (PutsAs outcome result → IfSome (outcome_of_content task (content_of task before.held) before.left) (λ due. PutsAs due result))
+      → ((err : Option (List ℕ)) → Does outcome (record { out = before.taken.out; err = err }) (record { out = after.taken.out; err = err }) result)
+      → ((err : ℕ) → PutsFaultBy (record { out = before.faults.puts.out; err = err }) (record { out = after.faults.puts.out; err = err }) result)
+      → IfOk result IsOfRun → (Saves task (status_in result) → ⊥) → (ReadsAll task (status_in result) → ⊥)
+      → after.taken.err ≡ before.taken.err → after.faults.puts.err ≡ before.faults.puts.err
+      → after.faults.read ≡ before.faults.read → after.faults.write ≡ before.faults.write → after.faults.input ≡ before.faults.input
+      → after.held ≡ before.held → after.calls ≡ count_after_load task before.calls → after.input ≡ before.input → after.left ≡ before.left
+      → AnsweredBy task before after (status_in result)
+  put_out outcome result due does faults kind not_saving not_all err err_faults read write input_faults held calls input left =
+      let told : PutsAs outcome result
+      = subst (λ (now : Option (List ℕ)). Does outcome before.taken (record { out = after.taken.out; err = now }) result) (sym err) (does before.taken.err) in
+      let counted : PutsFaultBy before.faults.puts after.faults.puts result
+      = subst (λ (now : ℕ). PutsFaultBy before.faults.puts (record { out = after.faults.puts.out; err = now }) result) (sym err_faults) (faults before.faults.puts.err) in
+      let side : OfRun task (status_in result)
+      = run_ends (OfRun task) before.faults.puts after.faults.puts result counted kind (of_run_is task) (put_failed_is task) (memory_is task) in
+      answers _ (Some task) result before after (due told)
+      (puts_fault (Some task) before.faults after.faults result counted read write input_faults (run_quiet (Some task) before.faults after.faults result kind))
+      (λ words. absurd (side.words words)) (λ silent. absurd (side.silent silent)) (λ refused. absurd (side.refusal refused))
+      (kept task (status_in result) before after not_saving held)
+      (facts_unasked task (status_in result) before after calls not_saving (λ e. absurd (side.bad e)) (λ e. absurd (side.source e)) (λ e. absurd (side.long e))
+      input left not_all)
+
+-- a call that is done ends as a run may
+done_is : (result : Result Status Cut) → IfOk result (λ status. status ≡ statuses.Done) → IfOk result IsOfRun
+done_is (Ok status) done = subst IsOfRun (sym done) tt
+done_is (Err cut) done = tt
 
 module _ {I : Type 0} (task : DisassembleTask) (before after : Outside I) where
-  of_listing : (result : Result Status Cut) → PutsFaultBy before.faults.puts after.faults.puts result → IfOk result (λ status. status ≡ statuses.Done)
-      → OfListing task (status_in result)
-  of_listing (Ok status) faults done = subst (OfListing task) (sym done) (record {
-    words = λ e. let h : statuses.Done ≡ statuses.BadWords = e in cc;
-    silent = λ no. no;
-    refusal = λ no. no;
-    bad = λ e. let h : statuses.Done ≡ statuses.BadImage = e in cc;
-    source = λ e. let h : statuses.Done ≡ statuses.BadSource = e in cc;
-    long = λ e. let h : statuses.Done ≡ statuses.TooLong = e in cc;
-  })
-  of_listing (Err cut.ReadFailed) faults done = absurd faults
-  of_listing (Err cut.WriteFailed) faults done = absurd faults
-  of_listing (Err cut.InputFailed) faults done = absurd faults
-  of_listing (Err cut.PutFailed) faults done = record {
-    words = λ e. let h : statuses.PutFailed ≡ statuses.BadWords = e in cc;
-    silent = λ no. no;
-    refusal = λ no. no;
-    bad = λ e. let h : statuses.PutFailed ≡ statuses.BadImage = e in cc;
-    source = λ e. let h : statuses.PutFailed ≡ statuses.BadSource = e in cc;
-    long = λ e. let h : statuses.PutFailed ≡ statuses.TooLong = e in cc;
-  }
-  of_listing (Err cut.Memory) faults done = record {
-    words = λ e. let h : statuses.Memory ≡ statuses.BadWords = e in cc;
-    silent = λ no. no;
-    refusal = λ no. no;
-    bad = λ e. let h : statuses.Memory ≡ statuses.BadImage = e in cc;
-    source = λ e. let h : statuses.Memory ≡ statuses.BadSource = e in cc;
-    long = λ e. let h : statuses.Memory ≡ statuses.TooLong = e in cc;
-  }
-
-  listing_quiet : (result : Result Status Cut) → IfOk result (λ status. status ≡ statuses.Done)
-      → IfOk result (λ status. NoFault before.faults after.faults → FaultBy (Some (disassemble task)) status before.faults after.faults)
-  listing_quiet (Ok status) done =
-      subst (λ (ended : Status). NoFault before.faults after.faults → FaultBy (Some (disassemble task)) ended before.faults after.faults) (sym done) (λ none. none)
-  listing_quiet (Err cut) done = tt
-
   -- the image's words are listed
   pub listed : (picture : Picture) (result : Result Status Cut) → IfSome (before.held task.image) (λ bytes. image_read bytes ≡ Ok picture)
       → ((err : Option (List ℕ)) → Does (outcome_of_listing picture) (record { out = before.taken.out; err = err }) (record { out = after.taken.out; err = err }) result)
@@ -666,18 +660,45 @@ module _ {I : Type 0} (task : DisassembleTask) (before after : Outside I) where
       → after.faults.read ≡ before.faults.read → after.faults.write ≡ before.faults.write → after.faults.input ≡ before.faults.input
       → after.held ≡ before.held → after.calls ≡ count_after before.calls → after.input ≡ before.input → after.left ≡ before.left
       → AnsweredBy (disassemble task) before after (status_in result)
-  listed picture result is does faults done err err_faults read write input_faults held calls input left =
-      let told : Does (outcome_of_listing picture) before.taken after.taken result
-      = subst (λ (now : Option (List ℕ)). Does (outcome_of_listing picture) before.taken (record { out = after.taken.out; err = now }) result) (sym err) (does before.taken.err) in
-      let counted : PutsFaultBy before.faults.puts after.faults.puts result
-      = subst (λ (now : ℕ). PutsFaultBy before.faults.puts (record { out = after.faults.puts.out; err = now }) result) (sym err_faults) (faults before.faults.puts.err) in
-      let side = of_listing result counted done in
-      answers _ (Some (disassemble task)) result before after
-      (due_by_listing (λ outcome. Does outcome before.taken after.taken result) task (before.held task.image) before.left picture is told)
-      (puts_fault (Some (disassemble task)) before.faults after.faults result counted read write input_faults (listing_quiet result done))
-      (λ words. absurd (side.words words)) (λ silent. absurd (side.silent silent)) (λ refused. absurd (side.refusal refused)) held
-      (facts_unasked (disassemble task) (status_in result) before after calls (λ saves. saves) (λ e. absurd (side.bad e)) (λ e. absurd (side.source e)) (λ e. absurd (side.long e))
-      input left (λ all. all))
+  listed picture result is does faults done =
+      put_out (disassemble task) before after (outcome_of_listing picture) result
+      (λ told. due_by_listing (λ outcome. Does outcome before.taken after.taken result) task (before.held task.image) before.left picture is told)
+      does faults (done_is result done) (λ saves. saves) (λ all. all)
+
+module _ {I : Type 0} (task : LoadTask) (before after : Outside I) where
+  -- the workload ran
+  pub worked : (picture : Picture) (result : Result Status Cut) → source_read (source_of_workload task.count) ≡ Ok picture
+      → ((err : Option (List ℕ)) → Does (outcome_of_load task picture) (record { out = before.taken.out; err = err }) (record { out = after.taken.out; err = err }) result)
+      → ((err : ℕ) → PutsFaultBy (record { out = before.faults.puts.out; err = err }) (record { out = after.faults.puts.out; err = err }) result)
+      → IfOk result IsOfRun → after.taken.err ≡ before.taken.err → after.faults.puts.err ≡ before.faults.puts.err
+      → after.faults.read ≡ before.faults.read → after.faults.write ≡ before.faults.write → after.faults.input ≡ before.faults.input
+      → after.held ≡ before.held → after.calls ≡ before.calls → after.input ≡ before.input → after.left ≡ before.left
+      → AnsweredBy (load task) before after (status_in result)
+  worked picture result is does faults kind =
+      put_out (load task) before after (outcome_of_load task picture) result
+      (λ told. due_by_work (λ outcome. Does outcome before.taken after.taken result) task before.left picture is told)
+      does faults kind (λ saves. saves) (λ all. all)
+
+  -- its source is refused, or memory ran out
+  pub work_ends : (end : EarlyEnd) (A : Type 0) (result : Result Status Cut)
+      → ((refusal : Refusal) → early {A = A} end ≡ early (early_end.Refused refusal) → source_read (source_of_workload task.count) ≡ Err refusal)
+      → ((refusal : Refusal) → early {A = A} end ≡ early (early_end.Refused refusal) → IsOfFile refusal)
+      → ((why : Cut) → early {A = A} end ≡ early (early_end.Cut why) → why ≡ cut.Memory)
+      → EndsEarly end before.taken.err after.taken.err before.faults.puts.err after.faults.puts.err result
+      → after.taken.out ≡ before.taken.out → after.faults.puts.out ≡ before.faults.puts.out
+      → after.faults.read ≡ before.faults.read → after.faults.write ≡ before.faults.write → after.faults.input ≡ before.faults.input
+      → after.held ≡ before.held → after.calls ≡ before.calls → after.input ≡ before.input → after.left ≡ before.left
+      → AnsweredBy (load task) before after (status_in result)
+  work_ends (early_end.Refused refusal) A result refused of_file memory ends out out_faults read write input_faults held calls input left =
+      file_refused (load task) before after refusal result (of_file refusal refl) (refused refusal refl)
+      (beside (Does (refused_outcome refusal)) before.taken after.taken out result ends.does) (beside_faults before.faults.puts after.faults.puts out_faults result ends.faults)
+      ends.status read write input_faults out held calls input left
+  work_ends (early_end.Cut why) A result refused of_file memory ends out out_faults read write input_faults held calls input left =
+      subst (λ (done : Result Status Cut). AnsweredBy (load task) before after (status_in done)) (sym ends.ends)
+      (subst (λ (cause : Cut). AnsweredBy (load task) before after (status_of_cut cause)) (sym (memory why refl))
+      (file_cut (load task) before after cut.Memory tt
+      (λ i. record { read = read i; write = write i; input = input_faults i; puts = record { out = out_faults i; err = ends.faults i } })
+      (λ i. record { out = out i; err = ends.err i }) held calls input left))
 
 -- ---- words
 

@@ -1,6 +1,6 @@
 -- The number of each status, and kinds of statuses.
 use Rattle.std.specs.Prelude.{ℕ, Option, Some, None}
-use Rattle.pump_line.specs.Task.{Task, assemble, disassemble, run, shell}
+use Rattle.pump_line.specs.Task.{Task, assemble, disassemble, load, run, shell}
 use Rattle.pump_cli.specs.declared.cut.Cut.{Cut}
 use Rattle.pump_cli.specs.declared.cut.Cut.TheVariants as cut
 use Rattle.pump_cli.specs.declared.refusal.Refusal.{Refusal}
@@ -62,6 +62,7 @@ ReadsFirst (Some (run task)) = Unit {0}
 ReadsFirst (Some (shell task)) = ⊥
 ReadsFirst (Some (assemble task)) = Unit {0}
 ReadsFirst (Some (disassemble task)) = Unit {0}
+ReadsFirst (Some (load task)) = Unit {0}
 
 -- the status of a refusal that is told before anything else is: one line on standard error
 abbrev pub IsOfRefusal : Option Task → Status → Type 0
@@ -93,11 +94,14 @@ StartsFirst (run task) = ⊥
 StartsFirst (shell task) = Unit {0}
 StartsFirst (assemble task) = ⊥
 StartsFirst (disassemble task) = ⊥
+StartsFirst (load task) = ⊥
 
--- the status of a call that ended before the input was asked for: any, where a source is assembled or an image listed
+-- the status of a call that ended before the input was asked for: any, where a source is assembled, an image listed or a workload
+-- run
 abbrev pub IsBeforeInput : Task → Status → Type 0
 IsBeforeInput (assemble task) status = Unit {0}
 IsBeforeInput (disassemble task) status = Unit {0}
+IsBeforeInput (load task) status = Unit {0}
 IsBeforeInput task BadWords = Unit {0}
 IsBeforeInput task BadImage = Unit {0}
 IsBeforeInput task ReadFailed = Unit {0}
@@ -110,3 +114,4 @@ ReadsAll (run task) status = IsOfRun status
 ReadsAll (shell task) status = ⊥
 ReadsAll (assemble task) status = ⊥
 ReadsAll (disassemble task) status = ⊥
+ReadsAll (load task) status = ⊥

@@ -11,11 +11,10 @@ use Rattle.image_format.specs.Reading.{image_of}
 use Rattle.image_format.specs.Spelling.{spelling}
 use Rattle.asm_emit.specs.Assembled.{image_of_source}
 use Rattle.pump_line.specs.Request.{AssembleTask}
-use Rattle.pump_line.specs.Task.{Task, assemble, disassemble, run, shell}
+use Rattle.pump_line.specs.Task.{Task, assemble, disassemble, load, run, shell}
 use Rattle.pump_cli.specs.Codes.{IsBeforeInput, ReadsAll, status_of_cut}
 use Rattle.pump_cli.specs.Endings.{Outcome}
-use Rattle.pump_cli.specs.Program.{file_in}
-use Rattle.pump_cli.specs.Reading.{file_limit, file_read, input_limit, source_read}
+use Rattle.pump_cli.specs.Reading.{content_of, content_read, file_in, file_limit, input_limit, source_read}
 use Rattle.pump_cli.specs.declared.refusal.Refusal.{Refusal}
 use Rattle.pump_cli.specs.declared.cut.Cut.{Cut}
 use Rattle.pump_cli.specs.declared.cut.Cut.TheVariants as cut
@@ -29,10 +28,10 @@ pub record Finishes (outcome : Outcome) (before after : Taken) (status : Status)
 
 -- ---- counts of faults
 
--- the file that a task loads, and the one that it saves
+-- the file that is loaded, and the one that is saved
 abbrev pub loaded_by : Option Task → Option (List ℕ)
 loaded_by None = None
-loaded_by (Some task) = Some (file_in task)
+loaded_by (Some task) = file_in task
 
 abbrev pub saved_by : Option Task → Option (List ℕ)
 saved_by (Some (assemble task)) = Some task.image
@@ -84,6 +83,15 @@ Saves (run task) status = ⊥
 Saves (shell task) status = ⊥
 Saves (assemble task) status = IsSaving status
 Saves (disassemble task) status = ⊥
+Saves (load task) status = ⊥
+
+-- a count of calls of files after the one for the file that a task loads, if it loads one
+abbrev pub count_after_load : Task → ℕ → ℕ
+count_after_load (run task) before = count_after before
+count_after_load (shell task) before = count_after before
+count_after_load (assemble task) before = count_after before
+count_after_load (disassemble task) before = count_after before
+count_after_load (load task) before = before
 
 -- the most calls of files that a task makes
 abbrev pub most_calls : Task → ℕ
@@ -91,13 +99,14 @@ most_calls (run task) = 1
 most_calls (shell task) = 1
 most_calls (assemble task) = 2
 most_calls (disassemble task) = 1
+most_calls (load task) = 0
 
 -- a count after at most so many calls
 abbrev pub AtMost : ℕ → ℕ → ℕ → Type 0
 AtMost zero before now = now ≡ before
 AtMost (suc calls) before now = (now ≡ before) ⊎ AtMost calls (count_after before) now
 
--- the file is longer than its limit
+-- the file, or the source of a workload, is longer than its limit
 abbrev pub IsLongFile : List ℕ → Type 0
 IsLongFile bytes = file_limit < length bytes
 
@@ -110,22 +119,23 @@ IsTooLong (run task) bytes left = IfSome left (λ input. IsLongFile bytes ⊎ Is
 IsTooLong (shell task) bytes left = IfSome left (λ input. IsLongFile bytes ⊎ IsLongInput input)
 IsTooLong (assemble task) bytes left = IsLongFile bytes
 IsTooLong (disassemble task) bytes left = IsLongFile bytes
+IsTooLong (load task) bytes left = IsLongFile bytes
 
 -- What is done to the file that is loaded and to the input. The file is asked for once, before the one that is saved, and the
 -- input is read only once the file is taken.
 pub record FileFacts {I : Type 0} (task : Task) (status : Status) (before after : Outside I) : Type 0 where
-  -- one call, and one more where a file was to be saved
-  pub calls : status ≢ Memory → (Saves task status → ⊥) → after.calls ≡ count_after before.calls
+  -- the call that loads a file, and one more where a file was to be saved
+  pub calls : status ≢ Memory → (Saves task status → ⊥) → after.calls ≡ count_after_load task before.calls
   pub saving_calls : Saves task status → after.calls ≡ count_after (count_after before.calls)
   pub at_most : AtMost (most_calls task) before.calls after.calls
   -- the causes of a refusal
-  pub bad_image : status ≡ BadImage → IfSome (before.held (file_in task)) (λ bytes. IsErr (image_of bytes))
-  pub bad_source : status ≡ BadSource → IfSome (before.held (file_in task)) (λ bytes. IsErr (image_of_source bytes))
-  pub too_long : status ≡ TooLong → IfSome (before.held (file_in task)) (λ bytes. IsTooLong task bytes before.left)
-  -- the input is left alone where the file fails or is refused, where a session can't start, and by `asm` and `dis`; a run that
-  -- came to its end has read it to its end, and at most 4,096 bytes past its limit are taken
+  pub bad_image : status ≡ BadImage → IfSome (content_of task before.held) (λ bytes. IsErr (image_of bytes))
+  pub bad_source : status ≡ BadSource → IfSome (content_of task before.held) (λ bytes. IsErr (image_of_source bytes))
+  pub too_long : status ≡ TooLong → IfSome (content_of task before.held) (λ bytes. IsTooLong task bytes before.left)
+  -- the input is left alone where the file fails or is refused, where a session can't start, and by `asm`, `dis` and `load`; a run
+  -- that came to its end has read it to its end, and at most 4,096 bytes past its limit are taken
   pub unread : IsBeforeInput task status → after.input ≡ before.input
-  pub unasked : IfSome (before.held (file_in task)) (λ bytes. IsErr (file_read task bytes) → after.input ≡ before.input)
+  pub unasked : IfSome (content_of task before.held) (λ bytes. IsErr (content_read task bytes) → after.input ≡ before.input)
   pub whole : ReadsAll task status → IsTrue after.closed
   pub moved : LosesFront before.left after.left (input_limit + 4096)
 
@@ -158,6 +168,7 @@ HeldBy (Some (run task)) status before after = after.held ≡ before.held
 HeldBy (Some (shell task)) status before after = after.held ≡ before.held
 HeldBy (Some (assemble task)) status before after = HeldByAssembly task status before after
 HeldBy (Some (disassemble task)) status before after = after.held ≡ before.held
+HeldBy (Some (load task)) status before after = after.held ≡ before.held
 
 -- bad words ask for nothing
 pub record NoTaskFacts {I : Type 0} (before after : Outside I) : Type 0 where

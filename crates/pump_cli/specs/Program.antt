@@ -1,13 +1,15 @@
 -- The program: what it writes and its status, from the words, what the files hold and what the input gives.
-use Rattle.std.specs.Prelude.{ℕ, ◌==◌, List, [], ◌∷◌, ◌++◌, Option, Some, None, Result, Ok, Err, if◌then◌else◌}
+use Rattle.std.specs.Prelude.{ℕ, ◌+◌, ◌*◌, ◌==◌, true, List, [], ◌∷◌, ◌++◌, Option, Some, None, Result, Ok, Err, if◌then◌else◌}
 use Rattle.image_format.specs.Picture.{Picture}
-use Rattle.host_io.specs.Pieces.{err}
+use Rattle.host_io.specs.Pieces.{err, out}
 use Rattle.tag_text.specs.Texts.{line}
-use Rattle.engine_trait.specs.Accounts.{Account, is_over, plain_account}
+use Rattle.engine_trait.specs.Accounts.{Account, counts_of, is_over, plain_account}
 use Rattle.engine_trait.specs.Standing.{Standing}
+use Rattle.engine_trait.specs.declared.ends.Counts.{Counts}
 use Rattle.engine_trait.specs.declared.ends.Halt.TheVariants as halt
 use Rattle.policy_choice.specs.All.{AllState, AllTag, all, all_eq}
-use Rattle.rounds.specs.Course.{Course, rounds}
+use Rattle.policy_choice.specs.declared.choice.Choice.{Choice}
+use Rattle.rounds.specs.Course.{Course, hart_stops, rounds}
 use Rattle.tag_loader.specs.Loads.{start_of}
 use Rattle.pump_loader.specs.Loads.{cached_start_of}
 use Rattle.pump_shell.specs.Told.{Told, told_of}
@@ -15,13 +17,14 @@ use Rattle.pump_shell.specs.declared.ends.SessionEnd.{SessionEnd}
 use Rattle.pump_shell.specs.declared.ends.SessionEnd.TheVariants as session_end
 use Rattle.pump_shell.specs.declared.setup.Setup.{Setup}
 use Rattle.image_listing.specs.Listing.{listing}
-use Rattle.pump_line.specs.Task.{RunTask, ShellTask, Task, assemble, disassemble, run, shell, task_of}
-use Rattle.pump_cli.specs.Endings.{Outcome, out_at_start, outcome_of_course}
-use Rattle.pump_cli.specs.Codes.{status_of_refusal}
-use Rattle.pump_cli.specs.Reading.{file_read, input_limit, input_read}
-use Rattle.pump_cli.specs.Texts.{refusal_text}
+use Rattle.pump_line.specs.Task.{LoadTask, RunTask, ShellTask, Task, assemble, disassemble, load, run, shell, task_of}
+use Rattle.pump_cli.specs.Endings.{Outcome, out_at_start, outcome_of_course, status_of}
+use Rattle.pump_cli.specs.Codes.{code_of, status_of_refusal}
+use Rattle.pump_cli.specs.Reading.{content_of, content_read, input_limit, input_read}
+use Rattle.pump_cli.specs.Texts.{refusal_text, workload_line}
 use Rattle.pump_cli.specs.declared.refusal.Refusal.{Refusal}
 use Rattle.pump_cli.specs.declared.refusal.Refusal.TheVariants.{BadWords, TooLong}
+use Rattle.pump_cli.specs.declared.status.Status.{Status}
 use Rattle.pump_cli.specs.declared.status.Status.TheVariants.{Done}
 
 -- one line on standard error, and nothing else
@@ -97,14 +100,35 @@ outcome_of_saving = record { pieces = []; status = Done }
 unfoldable pub outcome_of_listing : Picture → Outcome
 outcome_of_listing picture = record { pieces = listing picture; status = Done }
 
--- ---- the whole
+-- ---- `load`
 
--- the file that a task loads
-abbrev pub file_in : Task → List ℕ
-file_in (run task) = task.image
-file_in (shell task) = task.image
-file_in (assemble task) = task.source
-file_in (disassemble task) = task.image
+abbrev pub every_policy : Choice
+every_policy = record { seal = true; comp = true; flow = true; heap = true }
+
+-- a workload runs under every policy; its blocks make at most ten turns each, and its head and its end at most four
+abbrev pub run_of_load : LoadTask → RunTask
+run_of_load task =
+    record { image = []; choice = every_policy; cache = task.cache; tags = task.tags; turns = 10 * task.count + 4 }
+
+-- the counts of an engine that made no turn
+abbrev pub no_counts : Counts
+no_counts = record { turns = 0; hits = 0; misses = 0 }
+
+-- what its turns show goes nowhere: one line on standard output tells its counts and its status
+abbrev pub outcome_of_counts : ℕ → Counts → Status → Outcome
+outcome_of_counts count counts status =
+    record { pieces = out (workload_line count counts (code_of status)) ∷ []; status = status }
+
+abbrev pub outcome_of_work : {S T : Type 0} → ℕ → Course S T → Outcome
+outcome_of_work count course =
+    let account = course.standing.account in
+    outcome_of_counts count (counts_of account) (status_of account.halt (hart_stops course.standing.machine.core))
+
+-- no input is fed
+unfoldable pub outcome_of_load : LoadTask → Picture → Outcome
+outcome_of_load task picture = outcome_of_work task.count (course_of_run (run_of_load task) picture [])
+
+-- ---- the whole
 
 -- what is done with an image and the input's bytes, where these are told
 abbrev pub outcome_of_picture : Task → Picture → Option (List ℕ) → Option Outcome
@@ -112,19 +136,20 @@ outcome_of_picture (run task) picture input = outcome_of_input task picture inpu
 outcome_of_picture (shell task) picture input = outcome_of_session task picture input
 outcome_of_picture (assemble task) picture input = Some outcome_of_saving
 outcome_of_picture (disassemble task) picture input = Some (outcome_of_listing picture)
+outcome_of_picture (load task) picture input = Some (outcome_of_load task picture)
 
--- where the file is refused, the input is not looked at
+-- where the content is refused, the input is not looked at
 abbrev pub outcome_of_image : Task → Result Picture Refusal → Option (List ℕ) → Option Outcome
 outcome_of_image task (Ok picture) input = outcome_of_picture task picture input
 outcome_of_image task (Err refusal) input = Some (refusal_outcome refusal)
 
--- a file whose content is not told leaves the outcome unsaid too
-abbrev pub outcome_of_file : Task → Option (List ℕ) → Option (List ℕ) → Option Outcome
-outcome_of_file task None input = None
-outcome_of_file task (Some bytes) input = outcome_of_image task (file_read task bytes) input
+-- a content that is not told leaves the outcome unsaid too
+abbrev pub outcome_of_content : Task → Option (List ℕ) → Option (List ℕ) → Option Outcome
+outcome_of_content task None input = None
+outcome_of_content task (Some bytes) input = outcome_of_image task (content_read task bytes) input
 
 abbrev pub outcome_of_task : Task → (List ℕ → Option (List ℕ)) → Option (List ℕ) → Option Outcome
-outcome_of_task task held input = outcome_of_file task (held (file_in task)) input
+outcome_of_task task held input = outcome_of_content task (content_of task held) input
 
 abbrev pub outcome_of_words : Option Task → (List ℕ → Option (List ℕ)) → Option (List ℕ) → Option Outcome
 outcome_of_words None held input = Some (refusal_outcome BadWords)

@@ -1,15 +1,16 @@
 -- What is read: the file of an image or of a source, and the whole input, each within its limit.
-use Rattle.std.specs.Prelude.{ℕ, nat_le, List, length, Result, Ok, Err, if◌then◌else◌}
+use Rattle.std.specs.Prelude.{ℕ, nat_le, List, length, Option, Some, None, Result, Ok, Err, if◌then◌else◌}
 use Rattle.image_format.specs.Picture.{Picture}
 use Rattle.image_format.specs.Reading.{image_of}
 use Rattle.image_format.specs.declared.errors.ImageError.{ImageError}
 use Rattle.asm_read.specs.declared.errors.AsmError.{AsmError}
 use Rattle.asm_emit.specs.Assembled.{image_of_source}
-use Rattle.pump_line.specs.Task.{Task, assemble, disassemble, run, shell}
+use Rattle.workload.specs.Source.{source_of_workload}
+use Rattle.pump_line.specs.Task.{Task, assemble, disassemble, load, run, shell}
 use Rattle.pump_cli.specs.declared.refusal.Refusal.{Refusal}
 use Rattle.pump_cli.specs.declared.refusal.Refusal.TheVariants as refusal
 
--- the most bytes of a file
+-- the most bytes of a file, and of the source of a workload
 unfoldable pub file_limit : ℕ
 file_limit = 33554432
 
@@ -43,12 +44,29 @@ image_read bytes = file_as (λ file. image_or_refusal (image_of file)) (within_l
 unfoldable pub source_read : List ℕ → Result Picture Refusal
 source_read bytes = file_as (λ file. source_or_refusal (image_of_source file)) (within_limit file_limit bytes)
 
--- the image in the file that a task loads, which of `asm` is a source
-abbrev pub file_read : Task → List ℕ → Result Picture Refusal
-file_read (run task) bytes = image_read bytes
-file_read (shell task) bytes = image_read bytes
-file_read (assemble task) bytes = source_read bytes
-file_read (disassemble task) bytes = image_read bytes
+-- the file that a task loads, if it loads one
+abbrev pub file_in : Task → Option (List ℕ)
+file_in (run task) = Some task.image
+file_in (shell task) = Some task.image
+file_in (assemble task) = Some task.source
+file_in (disassemble task) = Some task.image
+file_in (load task) = None
+
+-- the bytes that a task's image is made from, where they are told: those of its file, or the source of a workload
+abbrev pub content_of : Task → (List ℕ → Option (List ℕ)) → Option (List ℕ)
+content_of (run task) held = held task.image
+content_of (shell task) held = held task.image
+content_of (assemble task) held = held task.source
+content_of (disassemble task) held = held task.image
+content_of (load task) held = Some (source_of_workload task.count)
+
+-- the image that is made from them, which of `asm` and of `load` are a source
+abbrev pub content_read : Task → List ℕ → Result Picture Refusal
+content_read (run task) bytes = image_read bytes
+content_read (shell task) bytes = image_read bytes
+content_read (assemble task) bytes = source_read bytes
+content_read (disassemble task) bytes = image_read bytes
+content_read (load task) bytes = source_read bytes
 
 -- the whole input, or why it is not taken
 unfoldable pub input_read : List ℕ → Result (List ℕ) Refusal

@@ -11,9 +11,9 @@ use Rattle.shell_run.specs.Session.{fresh}
 use Rattle.shell_script.specs.Scripts.{items_along}
 use Rattle.shell_script.specs.Shell.{last_in, lines_in}
 use Rattle.pump_shell.specs.Told.{start_of_setup}
-use Rattle.pump_line.specs.Task.{RunTask, ShellTask, Task, assemble, disassemble, run, shell, task_of}
-use Rattle.pump_cli.specs.Program.{course_of_run, file_in, setup_of}
-use Rattle.pump_cli.specs.Reading.{file_read, input_limit, input_read}
+use Rattle.pump_line.specs.Task.{RunTask, ShellTask, Task, assemble, disassemble, load, run, shell, task_of}
+use Rattle.pump_cli.specs.Program.{course_of_run, run_of_load, setup_of}
+use Rattle.pump_cli.specs.Reading.{content_of, content_read, input_limit, input_read}
 use Rattle.pump_cli.specs.declared.refusal.Refusal.{Refusal}
 
 -- the chosen policies, the image, and the events of the turns that were made
@@ -28,7 +28,7 @@ IsSafeRun made = IsSafe made.choice made.image made.events
 
 -- ---- the runs
 
--- the run whose outcome is that of `run`
+-- the run whose outcome is that of `run`, and, on an empty feed, that of `load`
 abbrev pub run_of_fed : RunTask → Picture → List ℕ → Run
 run_of_fed task picture fed = record { choice = task.choice; image = picture; events = (course_of_run task picture fed).events }
 
@@ -68,21 +68,23 @@ module _ (Holds : Run → Type 0) where
   AfterPicture (shell task) picture input = AfterLines task picture input
   AfterPicture (assemble task) picture input = Unit {0}
   AfterPicture (disassemble task) picture input = Unit {0}
+  AfterPicture (load task) picture input = Holds (run_of_fed (run_of_load task) picture [])
 
   abbrev pub AfterImage : Task → Result Picture Refusal → Option (List ℕ) → Type 0
   AfterImage task (Ok picture) input = AfterPicture task picture input
   AfterImage task (Err refusal) input = Unit {0}
 
-  abbrev pub AfterFile : Task → Option (List ℕ) → Option (List ℕ) → Type 0
-  AfterFile task None input = Unit {0}
-  AfterFile task (Some bytes) input = AfterImage task (file_read task bytes) input
+  abbrev pub AfterContent : Task → Option (List ℕ) → Option (List ℕ) → Type 0
+  AfterContent task None input = Unit {0}
+  AfterContent task (Some bytes) input = AfterImage task (content_read task bytes) input
 
   abbrev pub AfterWords : Option Task → (List ℕ → Option (List ℕ)) → Option (List ℕ) → Type 0
   AfterWords None held input = Unit {0}
-  AfterWords (Some task) held input = AfterFile task (held (file_in task)) input
+  AfterWords (Some task) held input = AfterContent task (content_of task held) input
 
--- Of each run that the words ask for: of `run` the one, of `shell` those that a session has made after each of its lines, each since
--- the start or the last reset. The files' content by name, and the bytes of the input, are known where they are told.
+-- Of each run that the words ask for: of `run` and `load` the one, of `shell` those that a session has made after each of its
+-- lines, each since the start or the last reset. The files' content by name, and the bytes of the input, are known where they are
+-- told.
 unfoldable pub EachRun : (Run → Type 0) → List (List ℕ) → (List ℕ → Option (List ℕ)) → Option (List ℕ) → Type 0
 EachRun Holds words held input = AfterWords Holds (task_of words) held input
 

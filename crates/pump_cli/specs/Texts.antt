@@ -1,6 +1,8 @@
--- The lines of refusals.
+-- The lines of refusals, and the line of a workload.
 use Rattle.std.specs.Prelude.{ℕ, List, ◌++◌, codes}
 use Rattle.std.specs.Fmt.{decimal}
+use Rattle.engine_trait.specs.declared.ends.Counts.{Counts}
+use Rattle.tag_text.specs.Texts.{line}
 use Rattle.asm_read.specs.declared.errors.AsmError.{AsmError}
 use Rattle.asm_read.specs.declared.errors.AsmErrorKind.{AsmErrorKind}
 use Rattle.asm_read.specs.declared.errors.AsmErrorKind.TheVariants as kinds
@@ -40,3 +42,9 @@ refusal_text refusal.BadWords = codes "pump: bad command line"
 refusal_text (refusal.BadImage error) = codes "pump: bad image: " ++ image_error_text error
 refusal_text (refusal.BadSource error) = codes "pump: bad source: " ++ source_error_text error
 refusal_text refusal.TooLong = codes "pump: too long"
+
+-- how a workload of so many blocks went: its counts, and the number of its status
+unfoldable pub workload_line : ℕ → Counts → ℕ → List ℕ
+workload_line count counts code =
+    line (codes "load " ++ decimal count ++ codes " turns " ++ decimal counts.turns ++ codes " hits " ++ decimal counts.hits
+    ++ codes " misses " ++ decimal counts.misses ++ codes " status " ++ decimal code)

@@ -20,7 +20,7 @@ pub(crate) enum Cut {
     InputFailed,
     /// A put failed.
     PutFailed,
-    /// Memory ran out: for a put, in the engine, at its start, or for what was read or is saved.
+    /// Memory ran out: for a put, in the engine, at its start, or for what was read or made or is saved.
     Memory,
 }
 

@@ -81,7 +81,7 @@ fn status_of_stops(stops: &[Option<Stop>]) -> Status
 }
 
 /// The status of a run that ended with these stops and for this reason.
-fn status_of(halt: Option<Halt>, stops: &[Option<Stop>]) -> Status
+pub(crate) fn status_of(halt: Option<Halt>, stops: &[Option<Stop>]) -> Status
     ensures value { result ≡ status_of halt stops.now }
     ensures kind { IsOfRun result }
 {

@@ -1,5 +1,5 @@
 //! The program `pump`: runs an image of a tagged RISC-V machine and tells how it ended, obeys the lines of a monitor shell over
-//! it, assembles a source to an image, or lists an image's words.
+//! it, assembles a source to an image, lists an image's words, or runs a workload and tells its counts.
 #![tactic(auto)]
 
 #[cfg(test)]
@@ -25,6 +25,9 @@ mod status;
 #[cfg(test)]
 mod tests;
 mod texts;
+#[cfg(test)]
+mod workload_tests;
+mod workloads;
 
 use host_io::{StdFiles, StdSink, StdSource};
 use program::pump;

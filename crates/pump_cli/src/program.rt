@@ -5,7 +5,7 @@ ghost use Rattle.pump_line.specs.Task.{AllowsTags, run, shell, task_of};
 ghost use Rattle.pump_line.specs.Told.{run_value, shell_value, texts_of, task_value};
 ghost use Rattle.pump_cli.specs.Facts.{status_in};
 ghost use Rattle.pump_cli.specs.Outsides.{outside};
-ghost use Rattle.pump_cli.specs.Program.{outcome_of_file, outcome_of_task, program};
+ghost use Rattle.pump_cli.specs.Program.{outcome_of_content, outcome_of_task, program};
 ghost use Rattle.pump_cli.specs.Runs.{EachRun, IsSafeRun, TellBytes};
 ghost use Rattle.pump_cli.specs.Theorem.{Answers};
 
@@ -17,6 +17,7 @@ use crate::runs::run_image;
 use crate::saving::save_image;
 use crate::sessions::obey_lines;
 use crate::status::Status;
+use crate::workloads::{make_workload, run_workload};
 use host_io::{Files, Sink, Source};
 use pump_line::{RunTask, ShellTask, Task, WordsEnd, read_task};
 use std::alloc::Global;
@@ -32,7 +33,7 @@ fn run_task<F: Files, S: Source, K: Sink, L: Sink>(
 ) -> Result<Status, Cut>
     requires { 1 ≤ task.tags }
     ensures { Answers
-        (outcome_of_file (run (run_value task.entry)) (F.held files.old task.entry.image.now)
+        (outcome_of_content (run (run_value task.entry)) (F.held files.old task.entry.image.now)
         (S.left input.old))
         (Some (run (run_value task.entry))) (status_in result)
         (outside F.tells F.held F.read_faults F.write_faults F.calls S.left S.closed S.faults
@@ -62,7 +63,7 @@ fn shell_task<F: Files, S: Source, K: Sink, L: Sink>(
 ) -> Result<Status, Cut>
     requires { 1 ≤ task.tags }
     ensures { Answers
-        (outcome_of_file (shell (shell_value task.entry)) (F.held files.old task.entry.image.now)
+        (outcome_of_content (shell (shell_value task.entry)) (F.held files.old task.entry.image.now)
         (S.left input.old))
         (Some (shell (shell_value task.entry))) (status_in result)
         (outside F.tells F.held F.read_faults F.write_faults F.calls S.left S.closed S.faults
@@ -105,6 +106,10 @@ fn do_task<F: Files, S: Source, K: Sink, L: Sink>(
             Ok(image) => list_words(&image, out),
             Err(end) => end_early(err, end),
         },
+        Task::Load(task) => match make_workload(alloc, task.count) {
+            Ok(image) => run_workload(alloc, task, &image, out),
+            Err(end) => end_early(err, end),
+        },
     }
 }
 
@@ -134,13 +139,16 @@ fn run_words<F: Files, S: Source, K: Sink, L: Sink>(
 
 /// The program: what the words ask for, with the files, the input and the two sinks, and the status that the process ends
 /// with. The first word is the program's name. The input is read only once the image is taken: by `run` as a whole before its
-/// first turn, by `shell` line by line; `asm` and `dis` leave it alone. The one file that is changed is that which `asm` saves: it
-/// holds the one spelling of the image that the source is assembled to, and a source that is refused saves nothing.
+/// first turn, by `shell` line by line; `asm`, `dis` and `load` leave it alone. The one file that is changed is that which `asm`
+/// saves: it holds the one spelling of the image that the source is assembled to, and a source that is refused saves nothing.
 ///
 /// Without fault and want of memory the bytes and the status are those of the machine that asks the chosen policies at
 /// every turn of every hart, however many rules are kept: on the whole input, or at the commands of its lines. Where some rules
 /// may be kept, a run ends at the turn that would give words to more tags than may have them. `Answers` (specs/Theorem.antt) has
 /// the whole promise, fact by fact.
+///
+/// `load` makes the source of a workload itself, runs its image under every policy on no input, and tells in one line on standard
+/// output how many turns, hits and misses there were, and its status.
 ///
 /// In that run, and in each run that a session makes, the sentence of each chosen policy holds (`safe`): every unsealing used its
 /// key, every indirect jump is a listed edge, every store lies in its compartment's permitted words, every heap access in its

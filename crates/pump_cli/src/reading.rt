@@ -18,8 +18,8 @@ use host_io::{Files, LoadFile, ReadEnd, Source, read_to_end};
 use image_format::{Image, ImageEnd, read_image};
 use std::alloc::Global;
 
-/// The most bytes of a file.
-const FILE_LIMIT: usize = 33_554_432;
+/// The most bytes of a file, and of the source of a workload.
+pub(crate) const FILE_LIMIT: usize = 33_554_432;
 
 /// The most bytes of the input.
 pub(crate) const INPUT_LIMIT: usize = 16_777_216;
@@ -121,7 +121,7 @@ fn image_of(alloc: Global, bytes: &[u8]) -> Result<Image, EarlyEnd>
 }
 
 /// The image that a source of these bytes is assembled to.
-fn image_of_source(alloc: Global, bytes: &[u8]) -> Result<Image, EarlyEnd>
+pub(crate) fn image_of_source(alloc: Global, bytes: &[u8]) -> Result<Image, EarlyEnd>
     ensures taken { IfOk result (λ image.
         source_or_refusal (image_of_source bytes.now) ≡ Ok image) }
     ensures refused { (refusal : Refusal) → result ≡ Err (EarlyEnd.Refused refusal) →

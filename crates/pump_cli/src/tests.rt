@@ -96,7 +96,7 @@ const BAD_WORDS: Expected<'static> = Expected {
 
 #[test]
 fn bad_lines_are_refused(rt: HostRuntime) -> Result<(), Fail> {
-    let refused: [&[&str]; 15] = [
+    let refused: [&[&str]; 17] = [
         &[],
         &["pump"],
         &["pump", "run"],
@@ -112,6 +112,8 @@ fn bad_lines_are_refused(rt: HostRuntime) -> Result<(), Fail> {
         &["pump", "run", "image", "--tags", "0"],
         &["pump", "shell"],
         &["pump", "shell", "image", "--turns", "5"],
+        &["pump", "load", "0"],
+        &["pump", "load", "1001"],
     ];
     let outside = Outside {
         image: &HELLO,

@@ -8,8 +8,8 @@ use Rattle.clap.specs.Simple.{argument_words, built_leaf, entered, inherited, la
 use Rattle.clap.specs.Takes.{is_given}
 use Rattle.clap.specs.Walk.{Held, Names, answers_to, finished, nothing_held, rows_after, settled, walk, walk_from}
 use Rattle.clap.specs.Words.{App, Kinds, Shape, Text, built, fault_of, subcommand_of}
-use Rattle.pump_line.specs.Line.{HasMatch, asm_shape, dis_shape, faults_of, match_of, pump_app, run_shape, shell_shape}
-use Rattle.pump_line.specs.Request.{assemble_in, disassemble_in, request_at, request_by, run_in, shell_in}
+use Rattle.pump_line.specs.Line.{HasMatch, asm_shape, dis_shape, faults_of, load_shape, match_of, pump_app, run_shape, shell_shape}
+use Rattle.pump_line.specs.Request.{assemble_in, disassemble_in, load_in, request_at, request_by, run_in, shell_in}
 use Rattle.pump_line.proofs.GivenLemmas.{given_has_value}
 
 or_nil : (a b : Kinds) → or_else a b ≡ [] → (a ≡ []) × (b ≡ [])
@@ -95,6 +95,10 @@ unfoldable built_dis : Shape
 unfolding pump_app dis_shape
 built_dis = built_leaf (inherited (with_leaf_noted (marked_built pump_app.top)) dis_shape)
 
+unfoldable built_load : Shape
+unfolding pump_app load_shape
+built_load = built_leaf (inherited (with_leaf_noted (marked_built pump_app.top)) load_shape)
+
 some_mapped : {X Y : Type 0} (f : X → Y) (o : Option X) → is_some o ≡ true → is_some (option_map f o) ≡ true
 some_mapped f None h = cc
 some_mapped f (Some x) h = refl
@@ -148,12 +152,18 @@ dis_asks words fine =
     let given = given_if (is_given (codes "image") (rows_after built_dis.rules [] words)) false (level_needs built_dis words fine) in
     some_mapped _ _ (some_mapped _ _ (given_has_value (codes "image") built_dis.rules [] words refl given))
 
+load_asks : Asks built_load
+unfolding built_load pump_app load_shape request_by load_in
+load_asks words fine =
+    let given = given_if (is_given (codes "count") (rows_after built_load.rules [] words)) false (level_needs built_load words fine) in
+    some_mapped _ _ (some_mapped _ _ (given_has_value (codes "count") built_load.rules [] words refl given))
+
 all_ask : AllAsk (built pump_app).subs
-unfolding built_run built_shell built_asm built_dis pump_app run_shape shell_shape asm_shape dis_shape
-all_ask = (run_asks, (shell_asks, (asm_asks, (dis_asks, tt))))
+unfolding built_run built_shell built_asm built_dis built_load pump_app run_shape shell_shape asm_shape dis_shape load_shape
+all_ask = (run_asks, (shell_asks, (asm_asks, (dis_asks, (load_asks, tt)))))
 
 needs_subcommand : (built pump_app).top.subcommand_required ≡ true
-unfolding pump_app run_shape shell_shape asm_shape dis_shape
+unfolding pump_app run_shape shell_shape asm_shape dis_shape load_shape
 needs_subcommand = refl
 
 -- words with a match ask for something

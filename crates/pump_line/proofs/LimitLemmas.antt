@@ -4,8 +4,8 @@ use Rattle.std.proofs.lemmas.Bool.Decides.{nat_tests}
 use Rattle.std.specs.Prelude.{option_and_then, option_map}
 use Rattle.clap.specs.Words.{Text}
 use Rattle.policy_choice.specs.declared.choice.Choice.{Choice}
-use Rattle.pump_line.specs.Request.{Request, assemble_asked, disassemble_asked, request_of, run_asked, shell_asked}
-use Rattle.pump_line.specs.Task.{AllowsTags, RunTask, ShellTask, Task, assemble, disassemble, number_of, run, run_task_in, run_with, shell, shell_task_in, shell_with, tags_of, task_in, task_of}
+use Rattle.pump_line.specs.Request.{Request, assemble_asked, disassemble_asked, load_asked, request_of, run_asked, shell_asked}
+use Rattle.pump_line.specs.Task.{AllowsTags, LoadTask, RunTask, ShellTask, Task, assemble, disassemble, load, load_task_in, load_with, number_of, run, run_task_in, run_with, shell, shell_task_in, shell_with, tags_of, task_in, task_of}
 use Rattle.pump_line.proofs.ValueLemmas.{within}
 
 -- ---- the value of the option
@@ -47,6 +47,16 @@ tags_in_shell image (Some chosen) (Some rules) (Some limit) task some is =
     let same : with_limit ≡ task = cc in
     subst (λ (other : ShellTask). 1 ≤ other.tags) same (some limit refl)
 
+tags_in_load : (count cache tags : Option ℕ) (task : LoadTask) → ((n : ℕ) → tags ≡ Some n → 1 ≤ n) → load_with count cache tags ≡ Some task
+    → 1 ≤ task.tags
+tags_in_load None cache tags task some is = absurd cc
+tags_in_load (Some blocks) None tags task some is = absurd cc
+tags_in_load (Some blocks) (Some rules) None task some is = absurd cc
+tags_in_load (Some blocks) (Some rules) (Some limit) task some is =
+    let with_limit : LoadTask = record { count = blocks; cache = rules; tags = limit } in
+    let same : with_limit ≡ task = cc in
+    subst (λ (other : LoadTask). 1 ≤ other.tags) same (some limit refl)
+
 -- a task that is made of what was read allows what each of those does
 made_allows : {A : Type 0} (make : A → Task) (read : Option A) (task : Task) → ((other : A) → read ≡ Some other → AllowsTags (make other))
     → option_map make read ≡ Some task → AllowsTags task
@@ -54,7 +64,7 @@ made_allows make None task some is = absurd cc
 made_allows make (Some other) task some is = let same : make other ≡ task = cc in subst AllowsTags same (some other refl)
 
 request_allows : (asked : Option Request) (task : Task) → option_and_then task_in asked ≡ Some task → AllowsTags task
-unfolding run_task_in shell_task_in
+unfolding run_task_in shell_task_in load_task_in
 request_allows None task is = absurd cc
 request_allows (Some (run_asked request)) task is =
     made_allows run (run_task_in request) task (λ other read. tags_in_run request.image _ _ _ _ other (some_tags request.tags) read) is
@@ -62,6 +72,8 @@ request_allows (Some (shell_asked request)) task is =
     made_allows shell (shell_task_in request) task (λ other read. tags_in_shell request.image _ _ _ other (some_tags request.tags) read) is
 request_allows (Some (assemble_asked asked)) task is = let same : assemble asked ≡ task = cc in subst AllowsTags same tt
 request_allows (Some (disassemble_asked asked)) task is = let same : disassemble asked ≡ task = cc in subst AllowsTags same tt
+request_allows (Some (load_asked request)) task is =
+    made_allows load (load_task_in request) task (λ other read. tags_in_load _ _ _ other (some_tags request.tags) read) is
 
 pub words_allow : (words : List Text) (task : Task) → task_of words ≡ Some task → AllowsTags task
 unfolding task_of

@@ -6,13 +6,13 @@ use Rattle.clap.specs.Words.{Text}
 use Rattle.clap.specs.declared.error.kind.ErrorKind.TheVariants.{ArgumentConflict, InvalidSubcommand, InvalidValue, MissingRequiredArgument, MissingSubcommand, UnknownArgument}
 use Rattle.policy_choice.specs.Choice.{no_policy}
 use Rattle.policy_choice.specs.declared.choice.Choice.{Choice}
-use Rattle.pump_line.specs.Line.{asm_shape, dis_shape, faults_of, match_of, pump_app, run_shape, shell_shape}
-use Rattle.pump_line.specs.Request.{assemble_in, disassemble_in, request_by, request_of, run_in, shell_in}
-use Rattle.pump_line.specs.Task.{Task, assemble, disassemble, run, run_task_in, shell, shell_task_in, task_of}
+use Rattle.pump_line.specs.Line.{asm_shape, dis_shape, faults_of, load_shape, match_of, pump_app, run_shape, shell_shape}
+use Rattle.pump_line.specs.Request.{assemble_in, disassemble_in, load_in, request_by, request_of, run_in, shell_in}
+use Rattle.pump_line.specs.Task.{Task, assemble, disassemble, load, load_task_in, run, run_task_in, shell, shell_task_in, task_of}
 
 -- what computes on words that are written out
 unfoldable on_rows : ⊤
-unfolding clap_on_literals faults_of match_of pump_app run_shape shell_shape asm_shape dis_shape request_by request_of run_in shell_in assemble_in disassemble_in run_task_in shell_task_in task_of
+unfolding clap_on_literals faults_of match_of pump_app run_shape shell_shape asm_shape dis_shape load_shape request_by request_of run_in shell_in assemble_in disassemble_in load_in run_task_in shell_task_in load_task_in task_of
 on_rows = tt
 
 -- a line after the program's name
@@ -38,6 +38,10 @@ asm_of source image = assemble (record { source = source; image = image })
 -- a listing of an image
 abbrev dis_of : Text → Task
 dis_of image = disassemble (record { image = image })
+
+-- a workload of so many blocks that keeps so many rules, and so many tags with words
+abbrev load_of : ℕ → ℕ → ℕ → Task
+load_of count cache tags = load (record { count = count; cache = cache; tags = tags })
 
 abbrev sealing_alone : Choice
 sealing_alone = record no_policy { seal = true }
@@ -269,6 +273,33 @@ dis_dash = refl
 dis_empty_name : task_of (line (codes "dis" ∷ [] ∷ [])) ≡ Some (dis_of [])
 unfolding on_rows
 dis_empty_name = refl
+
+-- ---- lines that ask for a workload
+
+-- the count alone
+load_plain : task_of (line (codes "load" ∷ codes "25" ∷ [])) ≡ Some (load_of 25 1024 65536)
+unfolding on_rows
+load_plain = refl
+
+-- the fewest blocks
+least_blocks : task_of (line (codes "load" ∷ codes "1" ∷ [])) ≡ Some (load_of 1 1024 65536)
+unfolding on_rows
+least_blocks = refl
+
+-- the most blocks, of ten digits
+most_blocks : task_of (line (codes "load" ∷ codes "0000001000" ∷ [])) ≡ Some (load_of 1000 1024 65536)
+unfolding on_rows
+most_blocks = refl
+
+-- no rule is kept
+load_cache : task_of (line (codes "load" ∷ codes "2" ∷ codes "--cache" ∷ codes "0" ∷ [])) ≡ Some (load_of 2 0 65536)
+unfolding on_rows
+load_cache = refl
+
+-- tags before the count, kept rules behind it
+load_around : task_of (line (codes "load" ∷ codes "--tags" ∷ codes "6" ∷ codes "2" ∷ codes "--cache=5" ∷ [])) ≡ Some (load_of 2 5 6)
+unfolding on_rows
+load_around = refl
 
 -- ---- lines in which `clap` names a fault
 
@@ -507,6 +538,36 @@ dis_longer : faults_of (line (codes "disassemble" ∷ codes "a.img" ∷ [])) ≡
 unfolding on_rows
 dis_longer = refl
 
+-- a workload of no count
+load_alone : faults_of (line (codes "load" ∷ [])) ≡ MissingRequiredArgument ∷ []
+unfolding on_rows
+load_alone = refl
+
+-- two counts
+load_two_counts : faults_of (line (codes "load" ∷ codes "1" ∷ codes "2" ∷ [])) ≡ UnknownArgument ∷ []
+unfolding on_rows
+load_two_counts = refl
+
+-- a count with a minus sign
+load_negative : faults_of (line (codes "load" ∷ codes "-1" ∷ [])) ≡ UnknownArgument ∷ []
+unfolding on_rows
+load_negative = refl
+
+-- a workload runs under every policy
+load_policy : faults_of (line (codes "load" ∷ codes "1" ∷ codes "--policy" ∷ codes "seal" ∷ [])) ≡ UnknownArgument ∷ []
+unfolding on_rows
+load_policy = refl
+
+-- and its turns follow from its count
+load_turns : faults_of (line (codes "load" ∷ codes "1" ∷ codes "--turns" ∷ codes "5" ∷ [])) ≡ UnknownArgument ∷ []
+unfolding on_rows
+load_turns = refl
+
+-- an option of a workload that is repeated
+load_cache_twice : faults_of (line (codes "load" ∷ codes "1" ∷ codes "--cache" ∷ codes "5" ∷ codes "--cache=5" ∷ [])) ≡ ArgumentConflict ∷ []
+unfolding on_rows
+load_cache_twice = refl
+
 -- ---- lines without a fault, of which a value is refused
 
 -- a policy named twice
@@ -598,3 +659,28 @@ shell_no_tags = (refl, refl)
 shell_too_large_cache : (faults_of (line (codes "shell" ∷ codes "a.img" ∷ codes "--cache" ∷ codes "65537" ∷ [])) ≡ []) × (task_of (line (codes "shell" ∷ codes "a.img" ∷ codes "--cache" ∷ codes "65537" ∷ [])) ≡ None)
 unfolding on_rows
 shell_too_large_cache = (refl, refl)
+
+-- a workload of no blocks
+no_blocks : (faults_of (line (codes "load" ∷ codes "0" ∷ [])) ≡ []) × (task_of (line (codes "load" ∷ codes "0" ∷ [])) ≡ None)
+unfolding on_rows
+no_blocks = (refl, refl)
+
+-- one block more than the most
+too_many_blocks : (faults_of (line (codes "load" ∷ codes "1001" ∷ [])) ≡ []) × (task_of (line (codes "load" ∷ codes "1001" ∷ [])) ≡ None)
+unfolding on_rows
+too_many_blocks = (refl, refl)
+
+-- a count of eleven digits
+count_of_eleven_digits : (faults_of (line (codes "load" ∷ codes "00000000001" ∷ [])) ≡ []) × (task_of (line (codes "load" ∷ codes "00000000001" ∷ [])) ≡ None)
+unfolding on_rows
+count_of_eleven_digits = (refl, refl)
+
+-- a count that is no number
+count_by_name : (faults_of (line (codes "load" ∷ codes "two" ∷ [])) ≡ []) × (task_of (line (codes "load" ∷ codes "two" ∷ [])) ≡ None)
+unfolding on_rows
+count_by_name = (refl, refl)
+
+-- a workload with no tag at all
+load_no_tags : (faults_of (line (codes "load" ∷ codes "1" ∷ codes "--tags" ∷ codes "0" ∷ [])) ≡ []) × (task_of (line (codes "load" ∷ codes "1" ∷ codes "--tags" ∷ codes "0" ∷ [])) ≡ None)
+unfolding on_rows
+load_no_tags = (refl, refl)

@@ -21,9 +21,13 @@ subcommand_shape name operands options =
 abbrev pub image_operand : List Text
 image_operand = codes "image" ∷ []
 
+-- the options of each subcommand that keeps rules
+abbrev pub limit_options : List Text
+limit_options = codes "cache" ∷ codes "tags" ∷ []
+
 -- the options of each subcommand that starts an image
 abbrev pub start_options : List Text
-start_options = codes "policy" ∷ codes "cache" ∷ codes "tags" ∷ []
+start_options = codes "policy" ∷ limit_options
 
 unfoldable pub run_shape : Shape
 run_shape = subcommand_shape (codes "run") image_operand (start_options ++ codes "turns" ∷ [])
@@ -37,6 +41,9 @@ asm_shape = subcommand_shape (codes "asm") (codes "source" ∷ codes "image" ∷
 unfoldable pub dis_shape : Shape
 dis_shape = subcommand_shape (codes "dis") image_operand []
 
+unfoldable pub load_shape : Shape
+load_shape = subcommand_shape (codes "load") (codes "count" ∷ []) limit_options
+
 -- `pump SUBCOMMAND ..`, with no help and no version
 unfoldable pub pump_app : App
 pump_app = record {
@@ -46,7 +53,7 @@ pump_app = record {
     disable_help_subcommand = true;
     subcommand_required = true;
   };
-  subs = run_shape ∷ shell_shape ∷ asm_shape ∷ dis_shape ∷ [];
+  subs = run_shape ∷ shell_shape ∷ asm_shape ∷ dis_shape ∷ load_shape ∷ [];
 }
 
 -- the faults that `clap` may name for the words

@@ -28,12 +28,19 @@ pub record AssembleTask : Type 0 where
 pub record DisassembleTask : Type 0 where
   pub image : Text
 
+-- a `load`: how many blocks its workload has, and the values of the options that stand on the line
+pub record LoadRequest : Type 0 where
+  pub count : Text
+  pub cache : Option Text
+  pub tags : Option Text
+
 -- what a line asks for, a case for each subcommand
 pub data Request : Type 0 where
   run_asked : RunRequest → Request
   shell_asked : ShellRequest → Request
   assemble_asked : AssembleTask → Request
   disassemble_asked : DisassembleTask → Request
+  load_asked : LoadRequest → Request
 
 unfoldable pub run_in : List Row → Option RunRequest
 run_in rows = option_map (λ image. record {
@@ -61,13 +68,21 @@ assemble_in rows = option_and_then (λ source. option_map (λ image. record {
 unfoldable pub disassemble_in : List Row → Option DisassembleTask
 disassemble_in rows = option_map (λ image. record { image = image }) (first_of (codes "image") rows)
 
+unfoldable pub load_in : List Row → Option LoadRequest
+load_in rows = option_map (λ count. record {
+  count = count;
+  cache = first_of (codes "cache") rows;
+  tags = first_of (codes "tags") rows;
+}) (first_of (codes "count") rows)
+
 -- the request that a subcommand's name and rows make
 unfoldable pub request_by : Text → List Row → Option Request
 request_by name rows =
     if bytes_eq name (codes "run") then option_map run_asked (run_in rows)
     else (if bytes_eq name (codes "shell") then option_map shell_asked (shell_in rows)
     else (if bytes_eq name (codes "asm") then option_map assemble_asked (assemble_in rows)
-    else (if bytes_eq name (codes "dis") then option_map disassemble_asked (disassemble_in rows) else None)))
+    else (if bytes_eq name (codes "dis") then option_map disassemble_asked (disassemble_in rows)
+    else (if bytes_eq name (codes "load") then option_map load_asked (load_in rows) else None))))
 
 abbrev pub request_at : Option (Text × List Row) → Option Request
 request_at = option_and_then (λ found. request_by found.0 found.1)

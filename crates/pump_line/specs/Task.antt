@@ -6,8 +6,8 @@ use Rattle.std.specs.Str.Parse.{digits_value}
 use Rattle.clap.specs.Words.{Text}
 use Rattle.policy_choice.specs.Choice.{choice_of, no_policy}
 use Rattle.policy_choice.specs.declared.choice.Choice.{Choice}
-use Rattle.pump_line.specs.Request.{AssembleTask, DisassembleTask, Request, RunRequest, ShellRequest, assemble_asked}
-use Rattle.pump_line.specs.Request.{disassemble_asked, request_of, run_asked, shell_asked}
+use Rattle.pump_line.specs.Request.{AssembleTask, DisassembleTask, LoadRequest, Request, RunRequest, ShellRequest}
+use Rattle.pump_line.specs.Request.{assemble_asked, disassemble_asked, load_asked, request_of, run_asked, shell_asked}
 
 -- a `run`: the image's name, the policies that are chosen, and its limits
 pub record RunTask : Type 0 where
@@ -29,12 +29,21 @@ pub record ShellTask : Type 0 where
   -- the most tags that may have words
   pub tags : ℕ
 
+-- a `load`: how many blocks its workload has, and its limits; it runs under every policy
+pub record LoadTask : Type 0 where
+  pub count : ℕ
+  -- the most rules that are kept
+  pub cache : ℕ
+  -- the most tags that may have words
+  pub tags : ℕ
+
 -- what `pump` is asked to do, a case for each subcommand
 pub data Task : Type 0 where
   run : RunTask → Task
   shell : ShellTask → Task
   assemble : AssembleTask → Task
   disassemble : DisassembleTask → Task
+  load : LoadTask → Task
 
 -- some tag may have a word, of a task that starts an image
 abbrev pub AllowsTags : Task → Type 0
@@ -42,6 +51,7 @@ AllowsTags (run task) = 1 ≤ task.tags
 AllowsTags (shell task) = 1 ≤ task.tags
 AllowsTags (assemble task) = Unit {0}
 AllowsTags (disassemble task) = Unit {0}
+AllowsTags (load task) = 1 ≤ task.tags
 
 -- no policy where the option is not on the line
 abbrev pub choice_in : Option Text → Option Choice
@@ -98,6 +108,13 @@ most_turns = 1000000000
 abbrev pub turns_of : Option Text → Option ℕ
 turns_of = number_or default_turns 1 most_turns
 
+-- the most blocks that a workload has
+abbrev pub most_blocks : ℕ
+most_blocks = 1000
+
+abbrev pub count_of : Text → Option ℕ
+count_of = number_within 1 most_blocks
+
 -- the run with these values; `None` where one is bad
 abbrev pub run_with : Text → Option Choice → Option ℕ → Option ℕ → Option ℕ → Option RunTask
 run_with image choice cache tags turns =
@@ -129,11 +146,24 @@ unfoldable pub shell_task_in : ShellRequest → Option ShellTask
 shell_task_in request =
     shell_with request.image (choice_in request.policy) (cache_of request.cache) (tags_of request.tags)
 
+-- the workload with these values; `None` where one is bad
+abbrev pub load_with : Option ℕ → Option ℕ → Option ℕ → Option LoadTask
+load_with count cache tags =
+    option_and_then (λ blocks. option_and_then (λ rule_limit. option_map (λ tag_limit. record {
+      count = blocks;
+      cache = rule_limit;
+      tags = tag_limit;
+    }) tags) cache) count
+
+unfoldable pub load_task_in : LoadRequest → Option LoadTask
+load_task_in request = load_with (count_of request.count) (cache_of request.cache) (tags_of request.tags)
+
 abbrev pub task_in : Request → Option Task
 task_in (run_asked request) = option_map run (run_task_in request)
 task_in (shell_asked request) = option_map shell (shell_task_in request)
 task_in (assemble_asked task) = Some (assemble task)
 task_in (disassemble_asked task) = Some (disassemble task)
+task_in (load_asked request) = option_map load (load_task_in request)
 
 -- what the words ask `pump` to do; `None` where they are no command line of it
 unfoldable pub task_of : List Text → Option Task

@@ -2,13 +2,14 @@
 use Rattle.std.specs.Prelude.{ℕ, List, map, Option, option_map, String, string_bytes}
 use Rattle.std.specs.Borrow.{Bor}
 use Rattle.pump_line.specs.Request.{AssembleTask, DisassembleTask}
-use Rattle.pump_line.specs.Task.{RunTask, ShellTask, Task, assemble, disassemble, run, shell}
+use Rattle.pump_line.specs.Task.{LoadTask, RunTask, ShellTask, Task, assemble, disassemble, load, run, shell}
 use Rattle.pump_line.specs.declared.task.AssembleTask.{AssembleTask as AssembleWords}
 use Rattle.pump_line.specs.declared.task.DisassembleTask.{DisassembleTask as DisassembleWords}
+use Rattle.pump_line.specs.declared.task.LoadTask.{LoadTask as LoadWords}
 use Rattle.pump_line.specs.declared.task.RunTask.{RunTask as RunWords}
 use Rattle.pump_line.specs.declared.task.ShellTask.{ShellTask as ShellWords}
 use Rattle.pump_line.specs.declared.task.Task.{Task as TaskWords}
-use Rattle.pump_line.specs.declared.task.Task.TheVariants.{Assemble, Disassemble, Run, Shell}
+use Rattle.pump_line.specs.declared.task.Task.TheVariants.{Assemble, Disassemble, Load, Run, Shell}
 
 abbrev pub texts_of : {A : Type 0} → List (String A) → List (List ℕ)
 texts_of words = map string_bytes words
@@ -35,8 +36,12 @@ assemble_value task = record { source = task.source.now; image = task.image.now 
 abbrev pub disassemble_value : DisassembleWords → DisassembleTask
 disassemble_value task = record { image = task.image.now }
 
+abbrev pub load_value : LoadWords → LoadTask
+load_value task = record { count = task.count; cache = task.cache; tags = task.tags }
+
 abbrev pub task_value : TaskWords → Task
 task_value (Run task) = run (run_value task)
 task_value (Shell task) = shell (shell_value task)
 task_value (Assemble task) = assemble (assemble_value task)
 task_value (Disassemble task) = disassemble (disassemble_value task)
+task_value (Load task) = load (load_value task)

@@ -42,6 +42,7 @@ pub(crate) fn pump_command<'a>(alloc: Global) -> Result<Command<'a>, AllocError>
     let shell_leaf = leaf_command(alloc, "shell", &["image"], &["policy", "cache", "tags"])?;
     let asm_leaf = leaf_command(alloc, "asm", &["source", "image"], &[])?;
     let dis_leaf = leaf_command(alloc, "dis", &["image"], &[])?;
+    let load_leaf = leaf_command(alloc, "load", &["count"], &["cache", "tags"])?;
     let pump = Command::new(alloc, "pump")
         .disable_help_flag(true)
         .disable_help_subcommand(true)
@@ -49,5 +50,6 @@ pub(crate) fn pump_command<'a>(alloc: Global) -> Result<Command<'a>, AllocError>
     pump.subcommand(run_leaf)?
         .subcommand(shell_leaf)?
         .subcommand(asm_leaf)?
-        .subcommand(dis_leaf)
+        .subcommand(dis_leaf)?
+        .subcommand(load_leaf)
 }

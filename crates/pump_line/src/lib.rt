@@ -9,4 +9,6 @@ mod tests;
 mod values;
 
 pub use law::match_law;
-pub use task::{AssembleTask, DisassembleTask, RunTask, ShellTask, Task, WordsEnd, read_task};
+pub use task::{
+    AssembleTask, DisassembleTask, LoadTask, RunTask, ShellTask, Task, WordsEnd, read_task,
+};

@@ -2,12 +2,14 @@
 
 ghost use Rattle.std.specs.Prelude.{◌≡◌, ◌≢◌, Some, None, IfOk, IfErr, option_and_then, option_map};
 ghost use Rattle.clap.specs.Words.{first_of, found_of, kind_of, rows_of, subcommand_rows_of};
-ghost use Rattle.pump_line.specs.Request.{assemble_in, disassemble_in, request_at, request_by, run_in, shell_in};
-ghost use Rattle.pump_line.specs.Task.{AllowsTags, run_task_in, shell_task_in, task_in, task_of};
-ghost use Rattle.pump_line.specs.Told.{assemble_value, disassemble_value, text_value, run_value, shell_value, texts_of, task_value};
+ghost use Rattle.pump_line.specs.Request.{assemble_in, disassemble_in, load_in, request_at, request_by, run_in};
+ghost use Rattle.pump_line.specs.Request.{shell_in};
+ghost use Rattle.pump_line.specs.Task.{AllowsTags, load_task_in, run_task_in, shell_task_in, task_in, task_of};
+ghost use Rattle.pump_line.specs.Told.{assemble_value, disassemble_value, load_value, run_value, shell_value};
+ghost use Rattle.pump_line.specs.Told.{task_value, text_value, texts_of};
 
 use crate::command::pump_command;
-use crate::values::{choice_from, read_cache, read_tags, read_turns};
+use crate::values::{choice_from, read_cache, read_count, read_tags, read_turns};
 use clap::error::ErrorKind;
 use clap::{ArgMatches, Error};
 use policy_choice::Choice;
@@ -24,6 +26,8 @@ pub enum Task<'a> {
     Assemble(AssembleTask<'a>),
     /// `dis`
     Disassemble(DisassembleTask<'a>),
+    /// `load`
+    Load(LoadTask),
 }
 
 /// A run that the words ask for.
@@ -68,6 +72,17 @@ pub struct AssembleTask<'a> {
 pub struct DisassembleTask<'a> {
     /// The name of the image's file; it may be empty.
     pub image: &'a str,
+}
+
+/// A run of a workload, under every policy, that the words ask for.
+#[derive(Clone, Copy, Debug)]
+pub struct LoadTask {
+    /// How many blocks the workload has: 1 to 1,000.
+    pub count: u32,
+    /// The most rules that are kept: 0 to 65,536.
+    pub cache: u32,
+    /// The most tags that may have words: 1 to 1,048,576.
+    pub tags: u32,
 }
 
 /// Why words were not read.
@@ -154,6 +169,18 @@ fn disassemble_task<'a>(matches: &ArgMatches<'a>) -> Option<DisassembleTask<'a>>
     Some(DisassembleTask { image })
 }
 
+/// The run of a workload that a match of `load` asks for; `None` where a value is bad.
+#[tactic(auto, unfolding(crate::specs::Request::load_in, crate::specs::Task::load_task_in))]
+fn load_task(matches: &ArgMatches) -> Option<LoadTask>
+    ensures { option_map load_value result
+        ≡ option_and_then load_task_in (load_in (rows_of (found_of matches.now))) }
+{
+    let count = read_count(text_of(matches, "count")?)?;
+    let cache = read_cache(text_of(matches, "cache"))?;
+    let tags = read_tags(text_of(matches, "tags"))?;
+    Some(LoadTask { count, cache, tags })
+}
+
 /// What a match of the subcommand with this name asks for.
 #[tactic(auto, unfolding(crate::specs::Request::request_by))]
 fn task_named<'a>(name: &str, matches: &ArgMatches<'a>) -> Option<Task<'a>>
@@ -165,6 +192,7 @@ fn task_named<'a>(name: &str, matches: &ArgMatches<'a>) -> Option<Task<'a>>
         "shell" => Some(Task::Shell(shell_task(matches)?)),
         "asm" => Some(Task::Assemble(assemble_task(matches)?)),
         "dis" => Some(Task::Disassemble(disassemble_task(matches)?)),
+        "load" => Some(Task::Load(load_task(matches)?)),
         _ => None,
     }
 }
@@ -191,16 +219,18 @@ fn end_of(error: &Error) -> WordsEnd
 
 /// What the words ask for, the first being the program's name:
 /// `run IMAGE [--policy LIST] [--cache N] [--tags N] [--turns N]`, `shell IMAGE [--policy LIST] [--cache N] [--tags N]`,
-/// `asm SOURCE IMAGE` or `dis IMAGE`, the options in any order before or after the image, each at most once; `asm` and `dis`
-/// have none. LIST is `none`, or names among `seal`, `comp`, `flow` and `heap` with commas between, none twice; it is `none`
+/// `asm SOURCE IMAGE`, `dis IMAGE` or `load COUNT [--cache N] [--tags N]`, the options in any order before or after the
+/// operand, each at most once; `asm` and `dis` have none. LIST is `none`, or names among `seal`, `comp`, `flow` and `heap` with commas between, none twice; it is `none`
 /// where it isn't there. N is 1 to 10 decimal digits that write 0 to 65,536 for `--cache` (1,024 where it isn't there), 1 to
-/// 1,048,576 for `--tags` (65,536) and 1 to 1,000,000,000 for `--turns` (1,000,000). So some tag may have a word in every task
-/// that starts an image. SOURCE and IMAGE are names of files, of any text: no file is looked at. This is the project's own
+/// 1,048,576 for `--tags` (65,536) and 1 to 1,000,000,000 for `--turns` (1,000,000). COUNT is 1 to 10 decimal digits that write
+/// 1 to 1,000. So some tag may have a word in every task that starts an image. SOURCE and IMAGE are names of files, of any
+/// text: no file is looked at. This is the project's own
 /// command line; `clap` judges its form. Any other words are `Bad`. A line in want of memory may end as `Memory`.
 pub fn read_task<'a>(alloc: Global, words: &'a Vec<String>) -> Result<Task<'a>, WordsEnd>
     ensures task { IfOk result (λ t. task_of (texts_of words.now.items) ≡ Some (task_value t)) }
     ensures tags { IfOk result (λ t. AllowsTags (task_value t)) }
-    ensures bad { IfErr result (λ e. e ≡ WordsEnd.Bad → task_of (texts_of words.now.items) ≡ None) }
+    ensures bad { IfErr result (λ e. e ≡ WordsEnd.Bad
+        → task_of (texts_of words.now.items) ≡ None) }
 {
     let command = pump_command(alloc)?;
     match command.try_get_matches_from(words.as_slice()) {

@@ -285,6 +285,36 @@ fn each_line_asks_for_its_listing(rt: HostRuntime) -> Result<(), Fail> {
     Ok(())
 }
 
+/// The number of blocks, the most kept rules and the most tags with words.
+type LoadNumbers = (u32, u32, u32);
+
+fn is_load(read: Result<Task<'_>, WordsEnd>, numbers: LoadNumbers) -> bool {
+    match read {
+        Ok(Task::Load(task)) => (task.count, task.cache, task.tags) == numbers,
+        _ => false,
+    }
+}
+
+/// Lines as `load COUNT [--cache N] [--tags N]`, each with the numbers that it asks for.
+const LOAD_LINES: [(&[&str], LoadNumbers); 6] = [
+    (&["load", "1"], (1, 1_024, 65_536)),
+    (&["load", "1000"], (1_000, 1_024, 65_536)),
+    (&["load", "0000000025"], (25, 1_024, 65_536)),
+    (&["load", "2", "--cache", "0"], (2, 0, 65_536)),
+    (&["load", "--tags=6", "2"], (2, 1_024, 6)),
+    (&["load", "--cache", "5", "2", "--tags", "1"], (2, 5, 1)),
+];
+
+#[test]
+fn each_line_asks_for_its_workload(rt: HostRuntime) -> Result<(), Fail> {
+    for (words, want) in LOAD_LINES {
+        let line = words_of(rt.alloc(), words)?;
+        let read = read_task(rt.alloc(), &line);
+        assert!(rt; is_load(read, want), "{words:?}");
+    }
+    Ok(())
+}
+
 fn is_bad(read: Result<Task<'_>, WordsEnd>) -> bool {
     matches!(read, Err(WordsEnd::Bad))
 }
@@ -334,6 +364,28 @@ const BAD_LINES: [&[&str]; 37] = [
 fn every_other_line_is_bad(rt: HostRuntime) -> Result<(), Fail> {
     match_law();
     for words in BAD_LINES {
+        let line = words_of(rt.alloc(), words)?;
+        assert!(rt; is_bad(read_task(rt.alloc(), &line)), "{words:?}");
+    }
+    Ok(())
+}
+
+/// Lines of `load` that are none.
+const BAD_LOAD_LINES: [&[&str]; 9] = [
+    &["load"],
+    &["load", "0"],
+    &["load", "1001"],
+    &["load", "00000000001"],
+    &["load", "1", "2"],
+    &["load", "-1"],
+    &["load", "two"],
+    &["load", "1", "--policy", "none"],
+    &["load", "1", "--turns", "5"],
+];
+
+#[test]
+fn every_other_line_of_load_is_bad(rt: HostRuntime) -> Result<(), Fail> {
+    for words in BAD_LOAD_LINES {
         let line = words_of(rt.alloc(), words)?;
         assert!(rt; is_bad(read_task(rt.alloc(), &line)), "{words:?}");
     }

@@ -1,7 +1,7 @@
 //! The values of options.
 
 ghost use Rattle.std.specs.Prelude.{◌≡◌};
-ghost use Rattle.pump_line.specs.Task.{cache_of, choice_in, number_or, number_within, tags_of, turns_of};
+ghost use Rattle.pump_line.specs.Task.{cache_of, choice_in, count_of, number_or, number_within, tags_of, turns_of};
 ghost use Rattle.pump_line.specs.Told.{text_value};
 
 use policy_choice::{Choice, read_choice};
@@ -24,6 +24,9 @@ const DEFAULT_TURNS: u32 = 1_000_000;
 
 /// The most turns that a line can ask for.
 const MOST_TURNS: u32 = 1_000_000_000;
+
+/// The most blocks that a line can ask for.
+const MOST_BLOCKS: u32 = 1_000;
 
 /// The number from `least` to `most` that the text writes in 1 to 10 decimal digits; `None` for any other text.
 fn read_number_within(text: &str, least: u32, most: u32) -> Option<u32>
@@ -80,4 +83,11 @@ pub(crate) fn read_turns(text: Option<&str>) -> Option<u64>
     ensures { result ≡ turns_of (text_value text.entry) }
 {
     read_number_or(text, DEFAULT_TURNS, 1, MOST_TURNS).map(u64::from)
+}
+
+/// How many blocks a workload has, from the operand of `load`; `None` for a text that is no number from 1 to 1,000.
+pub(crate) fn read_count(text: &str) -> Option<u32>
+    ensures { result ≡ count_of text.now }
+{
+    read_number_within(text, 1, MOST_BLOCKS)
 }

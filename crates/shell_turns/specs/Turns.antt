@@ -44,7 +44,7 @@ module _ {S T : Type 0} where
 pub record Leaves {S T : Type 0} (turns : Turns S T) (e : Standing S T) (fed : List ℕ) (counted : ℕ) : Type 0 where
   pub standing : e ≡ turns.standing
   pub feed : fed ≡ turns.feed
-  pub count : counted_harts ≡ length turns.harts
+  pub count : counted ≡ length turns.harts
 
 module _ {S T : Type 0} (eq : T → T → Bool) (m : PolicyModel T S) (breaks : List ℕ) where
   -- At most so many turns, in this order. They end early at a break, where no turn is next, and where the engine runs out of

@@ -6,7 +6,7 @@ use Rattle.pump_cli.proofs.program.run_task.Goals as goal
 
 pub returns-in-Err : goal.returns-in-Err
 returns-in-Err g c =
-    file_ends (run (run_value c.args.task)) _ _ c.in-Err.end _ c.end_early.result c.in-Err.ensures.refused c.in-Err.ensures.of_file c.in-Err.ensures.faults c.in-Err.ensures.writes c.end_early.ensures refl refl refl c.in-Err.ensures.held c.in-Err.ensures.calls refl refl
+    file_ends (run (run_value c.args.task)) _ _ c.args.task.image.now refl c.in-Err.end _ c.end_early.result c.in-Err.ensures.refused c.in-Err.ensures.of_file c.in-Err.ensures.faults c.in-Err.ensures.writes c.end_early.ensures refl refl refl c.in-Err.ensures.held c.in-Err.ensures.calls refl refl
 
 pub returns-in-Err-read_input : goal.returns-in-Err-read_input
 returns-in-Err-read_input g c =

@@ -12,4 +12,4 @@ returns-in-Ok g c =
 
 pub returns-in-Err : goal.returns-in-Err
 returns-in-Err g c =
-    file_ends (shell (shell_value c.args.task)) _ _ c.in-Err.end _ c.end_early.result c.in-Err.ensures.refused c.in-Err.ensures.of_file c.in-Err.ensures.faults c.in-Err.ensures.writes c.end_early.ensures refl refl refl c.in-Err.ensures.held c.in-Err.ensures.calls refl refl
+    file_ends (shell (shell_value c.args.task)) _ _ c.args.task.image.now refl c.in-Err.end _ c.end_early.result c.in-Err.ensures.refused c.in-Err.ensures.of_file c.in-Err.ensures.faults c.in-Err.ensures.writes c.end_early.ensures refl refl refl c.in-Err.ensures.held c.in-Err.ensures.calls refl refl
