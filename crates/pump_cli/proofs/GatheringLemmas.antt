@@ -15,7 +15,7 @@ fits n limit within = grind (arith, nat_tests)
 exceeds : (n limit : ℕ) → limit < n → nat_le n limit ≡ false
 exceeds n limit past = grind (arith, nat_tests)
 
-within : (bytes : List ℕ) → length bytes ≤ 33554432 → within_limit file_limit bytes ≡ Ok bytes
+pub within : (bytes : List ℕ) → length bytes ≤ 33554432 → within_limit file_limit bytes ≡ Ok bytes
 unfolding file_limit
 within bytes is = ap (λ (short : Bool). if short then Ok bytes else Err TooLong) (fits (length bytes) 33554432 is)
 

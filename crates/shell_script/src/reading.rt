@@ -61,7 +61,7 @@ fn finish<L: Loader, K: Sink>(
 
 /// Obeys the lines of an input as their newlines come, up to `quit` or to the end of the input, which ends a last line that was
 /// begun. Of an input of more than `limit` bytes those lines are obeyed that end within them.
-#[tactic(auto, using(host_io::proofs::Reading::two_fronts))]
+#[tactic(auto, using(host_io::proofs::ReadingLemmas::two_fronts))]
 pub fn obey_input<L: Loader, S: Source, K: Sink>(
     session: &mut Session<L>,
     input: &mut S,

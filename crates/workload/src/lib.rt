@@ -2,8 +2,10 @@
 #![tactic(auto)]
 
 mod kinds;
+mod law;
 mod source;
 #[cfg(test)]
 mod tests;
 
+pub use law::length_law;
 pub use source::write_workload;
