@@ -2,6 +2,7 @@ pub mod AnswerLemmas
 pub mod BareLemmas
 pub mod EndLemmas
 pub mod GatheringLemmas
+pub mod LoadLemmas
 pub mod NoneRunLemmas
 mod OneTagLemmas
 mod OneTagRunLemmas

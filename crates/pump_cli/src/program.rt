@@ -1,11 +1,12 @@
 //! The program, from the words, the files, the input and the two sinks to its status.
 
-ghost use Rattle.std.specs.Prelude.{◌≤◌, Some};
-ghost use Rattle.pump_line.specs.Task.{AllowsTags, run, shell, task_of};
+ghost use Rattle.std.specs.Prelude.{◌≡◌, ◌≤◌, Some};
+ghost use Rattle.workload_laws.specs.Images.{image_of_workload};
+ghost use Rattle.pump_line.specs.Task.{AllowsTags, LoadTask, load, run, shell, task_of};
 ghost use Rattle.pump_line.specs.Told.{run_value, shell_value, texts_of, task_value};
 ghost use Rattle.pump_cli.specs.Facts.{status_in};
 ghost use Rattle.pump_cli.specs.Outsides.{outside};
-ghost use Rattle.pump_cli.specs.Program.{outcome_of_content, outcome_of_task, program};
+ghost use Rattle.pump_cli.specs.Program.{outcome_of_content, outcome_of_load, outcome_of_task, program};
 ghost use Rattle.pump_cli.specs.Runs.{EachRun, IsSafeRun, TellBytes};
 ghost use Rattle.pump_cli.specs.Theorem.{Answers};
 
@@ -148,9 +149,10 @@ fn run_words<F: Files, S: Source, K: Sink, L: Sink>(
 /// the whole promise, fact by fact.
 ///
 /// `load` makes the source of a workload itself, runs its image under every policy on no input, and tells in one line on standard
-/// output how many turns, hits and misses there were, and its status.
+/// output how many turns, hits and misses there were, and its status. What is due of it is that line alone, whatever files and
+/// input hold (`loads`): the source of each workload that words can ask for is assembled, so none is refused.
 ///
-/// In that run, and in each run that a session makes, the sentence of each chosen policy holds (`safe`): every unsealing used its
+/// In such a run, and in each run that a session makes, the sentence of each chosen policy holds (`safe`): every unsealing used its
 /// key, every indirect jump is a listed edge, every store lies in its compartment's permitted words, every heap access in its
 /// pointer's live block.
 pub fn pump<F: Files, S: Source, K: Sink, L: Sink>(
@@ -170,6 +172,9 @@ pub fn pump<F: Files, S: Source, K: Sink, L: Sink>(
         K.taken K.faults L.taken L.faults files.new input.new out.new err.new) }
     ensures safe { TellBytes (F.held files.old)
         → EachRun IsSafeRun (texts_of words.now.items) (F.held files.old) (S.left input.old) }
+    ensures loads { (task : LoadTask) → task_of (texts_of words.now.items) ≡ Some (load task)
+        → program (texts_of words.now.items) (F.held files.old) (S.left input.old)
+        ≡ Some (outcome_of_load task (image_of_workload task.count)) }
 {
     match run_words(alloc, words, files, input, out, err) {
         Ok(status) => status,
