@@ -165,7 +165,7 @@ fn run_uncached_workload<K: Sink>(
 ) -> Result<Status, Cut>
     requires { task.cache ≡ 0 }
     ensures does { (err : Option (List ℕ)) → Does
-        (outcome_of_load (load_value task.entry) image.now)
+        (outcome_of_load (load_value task) image.now)
         (record { out = K.taken out.old; err = err })
         (record { out = K.taken out.new; err = err }) result }
     ensures faults { (err : ℕ) → PutsFaultBy
@@ -187,7 +187,7 @@ fn run_cached_workload<K: Sink>(
     requires rules { 1 ≤ task.cache }
     requires tags { 1 ≤ task.tags }
     ensures does { (err : Option (List ℕ)) → Does
-        (outcome_of_load (load_value task.entry) image.now)
+        (outcome_of_load (load_value task) image.now)
         (record { out = K.taken out.old; err = err })
         (record { out = K.taken out.new; err = err }) result }
     ensures faults { (err : ℕ) → PutsFaultBy
@@ -208,7 +208,7 @@ pub(crate) fn run_workload<K: Sink>(
 ) -> Result<Status, Cut>
     requires { 1 ≤ task.tags }
     ensures does { (err : Option (List ℕ)) → Does
-        (outcome_of_load (load_value task.entry) image.now)
+        (outcome_of_load (load_value task) image.now)
         (record { out = K.taken out.old; err = err })
         (record { out = K.taken out.new; err = err }) result }
     ensures faults { (err : ℕ) → PutsFaultBy
