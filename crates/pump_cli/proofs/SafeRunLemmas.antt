@@ -45,7 +45,7 @@ file_is_image bytes g are_bytes e = (file_is_of bytes g are_bytes (read_within (
 
 -- ---- an image that was assembled
 
-picture_made : Picture → Result Picture AsmError
+abbrev picture_made : Picture → Result Picture AsmError
 picture_made picture = Ok picture
 
 ok_source : (read : Result Picture AsmError) (g : Picture) → source_or_refusal read ≡ Ok g → read ≡ Ok g
