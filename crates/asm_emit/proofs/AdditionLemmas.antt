@@ -9,7 +9,7 @@ use Rattle.asm_read.specs.declared.errors.AsmErrorKind.TheVariants as kinds
 use Rattle.asm_read.specs.declared.statements.Statement.{Statement}
 use Rattle.asm_read.specs.declared.statements.Statement.TheVariants as statements
 use Rattle.asm_read.specs.declared.statements.Target.{Target}
-use Rattle.asm_read.specs.Steps.{demand}
+use Rattle.shared_terms.specs.Steps.{demand}
 use Rattle.asm_words.specs.Emission.{Places, address_of, count_of, emission_of, words_of}
 use Rattle.asm_words.proofs.CountLemmas.{counted}
 use Rattle.asm_places.specs.Counts.{count_in}
@@ -19,7 +19,8 @@ use Rattle.asm_emit.specs.Kept.{IsAddition}
 use Rattle.asm_emit.specs.Values.{addition_in, addition_of, compartment_at, edge_at, entry_at, heap_at, id_at, label_at, number_within, words_at}
 use Rattle.asm_emit.proofs.RegisterLemmas.{HasRegisters}
 use Rattle.asm_emit.proofs.SourceLemmas.{HasRegistersIn}
-use Rattle.asm_emit.proofs.StepLemmas.{demanded, gives, passes}
+use Rattle.shared_terms.proofs.StepLemmas.{demanded, ok_is}
+use Rattle.asm_emit.proofs.StepLemmas.{passes}
 use Rattle.asm_emit.proofs.WordLemmas.{emits_small}
 
 -- ---- numbers
@@ -30,7 +31,7 @@ within_most most (pos m) n is = go (nat_le m most) refl is
     go : (t : Bool) → nat_le m most ≡ t → ◌≡◌ {A = Result ℕ AsmErrorKind} (if t then Ok m else Err kinds.Range) (Ok n) → n ≤ most
     go true e found =
         let below : m ≤ most = grind (arith, nat_tests, e) in
-        subst (λ (k : ℕ). k ≤ most) (gives m n found) below
+        subst (λ (k : ℕ). k ≤ most) (ok_is m n found) below
     go false e found = absurd cc
 within_most most (negsuc m) n is = absurd cc
 
@@ -46,7 +47,7 @@ abbrev AddsFitting : ℕ → ℕ → Option ℕ → Result Addition AsmErrorKind
 AddsFitting harts ram count result = (addition : Addition) → result ≡ Ok addition → IsAddition harts ram count addition
 
 done : (harts ram : ℕ) (count : Option ℕ) (x : Addition) → IsAddition harts ram count x → AddsFitting harts ram count (Ok x)
-done harts ram count x fits addition is = subst (IsAddition harts ram count) (gives x addition is) fits
+done harts ram count x fits addition is = subst (IsAddition harts ram count) (ok_is x addition is) fits
 
 heap_fits : (harts ram : ℕ) (count : Option ℕ) (base bytes : ℤ) → AddsFitting harts ram count (heap_at ram base bytes)
 unfolding heap_at

@@ -11,7 +11,7 @@ use Rattle.image_format.specs.Conditions.{is_heap_base, is_heap_bytes, is_place,
 use Rattle.asm_read.specs.declared.errors.AsmError.{AsmError}
 use Rattle.asm_read.specs.declared.statements.Line.{Line}
 use Rattle.asm_read.specs.Source.{at_line}
-use Rattle.asm_read.specs.Steps.{◌>>=◌}
+use Rattle.shared_terms.specs.Steps.{◌>>=◌}
 use Rattle.asm_words.specs.Emission.{Places, words_of}
 use Rattle.asm_emit.specs.declared.marks.Marks.{Marks}
 use Rattle.asm_emit.specs.declared.values.Addition.{Addition}

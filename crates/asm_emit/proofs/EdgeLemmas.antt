@@ -11,9 +11,9 @@ use Rattle.std.specs.Ordering.{is_lt}
 use Rattle.std.proofs.lemmas.List.{length-map}
 use Rattle.std.proofs.lemmas.List.Folds.{list_all-map}
 use Rattle.image_format.specs.Conditions.{are_rows, is_edge, is_edge_after, whole}
-use Rattle.asm_lists.specs.Edges.{edge_of}
+use Rattle.asm_lists.specs.Edges.{edge_of, pair_cmp}
 use Rattle.asm_lists.proofs.EdgeLemmas.{pair_cmp_total, rows}
-use Rattle.asm_emit.specs.Edges.{edges_in_order, pair_cmp, pair_map}
+use Rattle.asm_emit.specs.Edges.{edges_in_order, pair_map}
 
 abbrev Pair : Type 0
 Pair = ℕ × ℕ

@@ -2,7 +2,7 @@
 use Rattle.std.proofs.Common.{◌≡◌, ℕ, Bool, true, false, cond, ◌&&◌, ◌||◌, List, [], ◌∷◌, map, Contains, refl, sym, ap, subst, ◌∙◌, arith}
 use Rattle.std.specs.Prelude.{Option, Some, None, T}
 use Rattle.std.specs.declared.cmp.Ordering.TheVariants.{Less}
-use Rattle.std.specs.Cmp.{eq_by_cmp_equiv}
+use Rattle.std.specs.Cmp.{both_ways, eq_by_cmp_equiv}
 use Rattle.std.specs.FinMap.{IsAntisymmetric, entries-from_sorted, find, from_sorted, get-from_entries, get-from_sorted, is_sorted, keys, same_map}
 use Rattle.std.specs.FinMap.Entries.{below_all}
 use Rattle.std.specs.List.{list_any}
@@ -11,9 +11,9 @@ use Rattle.std.proofs.lemmas.Bool.Decides.{nat_tests}
 use Rattle.std.proofs.lemmas.Map.Views.{Contains-from_any, list_any-from_Contains}
 use Rattle.image_format.specs.Conditions.{are_rows, is_edge, is_edge_after, whole}
 use Rattle.image_format.specs.declared.rows.Edge.{Edge}
-use Rattle.asm_lists.specs.Edges.{AreEdgeRows, AreEdgesOf, edge_of, pair_of}
+use Rattle.asm_lists.specs.Edges.{AreEdgeRows, AreEdgesOf, edge_of, pair_cmp, pair_of}
 use Rattle.asm_lists.proofs.EdgeLemmas.{edge_from_pair, pair_cmp_total, pair_eq_exact, pair_from_edge, pairs_tied}
-use Rattle.asm_emit.specs.Edges.{bare, edges_in_order, pair_cmp, pair_map}
+use Rattle.asm_emit.specs.Edges.{bare, edges_in_order, pair_map}
 
 abbrev Pair : Type 0
 Pair = ℕ × ℕ
@@ -72,17 +72,11 @@ found_in q (pair ∷ pairs) = go (eq_by_cmp pair_cmp q pair) (found_in q pairs)
     go true others = refl
     go false others = others
 
--- two tests that imply each other
-alike : (a b : Bool) → (a ≡ true → b ≡ true) → (b ≡ true → a ≡ true) → a ≡ b
-alike true b to from = sym (to refl)
-alike false true to from = from refl
-alike false false to from = refl
-
 same_members : (pairs others : List Pair) → ((q : Pair) → Contains pairs q → Contains others q) → ((q : Pair) → Contains others q → Contains pairs q)
     → (q : Pair) → list_any (eq_by_cmp pair_cmp q) pairs ≡ list_any (eq_by_cmp pair_cmp q) others
 same_members pairs others to from q =
     let equivalence = eq_by_cmp_equiv pair_cmp_total in
-    alike (list_any (eq_by_cmp pair_cmp q) pairs) (list_any (eq_by_cmp pair_cmp q) others)
+    both_ways (list_any (eq_by_cmp pair_cmp q) pairs) (list_any (eq_by_cmp pair_cmp q) others)
     (λ any. list_any-from_Contains equivalence q others (to q (Contains-from_any exact q pairs any)))
     (λ any. list_any-from_Contains equivalence q pairs (from q (Contains-from_any exact q others any)))
 

@@ -8,6 +8,7 @@ use Rattle.std.proofs.lemmas.List.Folds.{list_all-append}
 use Rattle.image_format.specs.Conditions.{IsImage, IsList, is_edge, is_edge_after, is_harts, is_ram, whole}
 use Rattle.asm_read.specs.declared.statements.Line.{Line}
 use Rattle.asm_read.specs.Source.{at_line, source_of}
+use Rattle.asm_read.proofs.LineLemmas.{of_line}
 use Rattle.asm_words.specs.Emission.{Places}
 use Rattle.asm_places.specs.Counts.{count_in}
 use Rattle.asm_places.specs.Layouts.{Layout, layout_of}
@@ -31,14 +32,15 @@ use Rattle.asm_emit.proofs.EdgeLemmas.{edge_rows, few_edges, is_pair}
 use Rattle.asm_emit.proofs.EmittedLemmas.{made_of_words}
 use Rattle.asm_emit.proofs.PlaceLemmas.{are_placed}
 use Rattle.asm_emit.proofs.SourceLemmas.{HaveRegisters, source_read}
-use Rattle.asm_emit.proofs.StepLemmas.{gives, of_line, passes}
+use Rattle.shared_terms.proofs.StepLemmas.{ok_is}
+use Rattle.asm_emit.proofs.StepLemmas.{passes}
 
 -- ---- the draft of all lines
 
 all_kept : (harts ram : ℕ) (names : Places) (draft : Draft) (lines : List Line) (places : List ℕ) (all : List (ℕ × Addition)) → 1 ≤ harts → HaveRegisters lines → length places ≡ length lines
     → ArePlaced ram lines places → IsDraft ram (place_or ram places) draft → additions_of harts ram names lines places ≡ Ok all → IsDraft ram ram (with_additions draft all)
 unfolding additions_of
-all_kept harts ram names draft [] [] all some has same placed kept is = subst (λ (xs : List (ℕ × Addition)). IsDraft ram ram (with_additions draft xs)) (gives [] all is) kept
+all_kept harts ram names draft [] [] all some has same placed kept is = subst (λ (xs : List (ℕ × Addition)). IsDraft ram ram (with_additions draft xs)) (ok_is [] all is) kept
 all_kept harts ram names draft [] (place ∷ places) all some has same placed kept is = absurd (omega arith)
 all_kept harts ram names draft (line ∷ lines) [] all some has same placed kept is = absurd (omega arith)
 all_kept harts ram names draft (line ∷ lines) (place ∷ places) all some has same placed kept is =
@@ -48,7 +50,7 @@ all_kept harts ram names draft (line ∷ lines) (place ∷ places) all some has 
     let lengths : length places ≡ length lines = omega (arith, same) in
     let inside = first_inside ram lines places lengths placed.2 in
     let next = addition_kept harts ram place (place_or ram places) (count_in line.statement) draft added.value placed.0 placed.1 inside fits kept in
-    subst (λ (xs : List (ℕ × Addition)). IsDraft ram ram (with_additions draft xs)) (gives _ all others.rest)
+    subst (λ (xs : List (ℕ × Addition)). IsDraft ram ram (with_additions draft xs)) (ok_is _ all others.rest)
     (all_kept harts ram names (with_addition draft place added.value) lines places others.value some has.1 lengths placed.2 next others.first)
 
 all_entered : (draft : Draft) (all : List (ℕ × Addition)) → length (with_additions draft all).entries ≡ length draft.entries
@@ -99,15 +101,15 @@ one_more harts ram lines count place addition more is edges =
 all_edges : (harts ram : ℕ) (names : Places) (lines : List Line) (places : List ℕ) (all : List (ℕ × Addition)) → 1 ≤ harts → HaveRegisters lines
     → additions_of harts ram names lines places ≡ Ok all → AreEdges (length lines) all
 unfolding additions_of
-all_edges harts ram names [] places all some has is = subst (AreEdges 0) (gives [] all is) (no_edges 0)
-all_edges harts ram names (line ∷ lines) [] all some has is = subst (AreEdges (length (line ∷ lines))) (gives [] all is) (no_edges (length (line ∷ lines)))
+all_edges harts ram names [] places all some has is = subst (AreEdges 0) (ok_is [] all is) (no_edges 0)
+all_edges harts ram names (line ∷ lines) [] all some has is = subst (AreEdges (length (line ∷ lines))) (ok_is [] all is) (no_edges (length (line ∷ lines)))
 all_edges harts ram names (line ∷ lines) (place ∷ places) all some has is =
     let added = passes (at_line line.number (addition_in harts ram names place line.statement)) _ all is in
     let others = passes (additions_of harts ram names lines places) _ all added.rest in
     let fits = addition_fits harts ram names place line.statement added.value some has.0 (of_line line.number (addition_in harts ram names place line.statement) added.value added.first) in
     let more = one_more harts ram (length lines) (count_in line.statement) place added.value others.value fits (all_edges harts ram names lines places others.value some has.1 others.first) in
     let here : AreEdges (length (line ∷ lines)) ((place, added.value) ∷ others.value) = record { few = omega (arith, more.few); fit = more.fit } in
-    subst (AreEdges (length (line ∷ lines))) (gives _ all others.rest) here
+    subst (AreEdges (length (line ∷ lines))) (ok_is _ all others.rest) here
 
 -- ---- the layout
 
@@ -125,7 +127,7 @@ is_layout lines layout is =
     let found = passes (places_from ram.value [] 0 lines) _ layout ram.rest in
     let fits : IsLayout lines (record { harts = harts.value; ram = ram.value; places = found.value.0; end = found.value.1 }) =
     record { harts = harts_fit lines harts.value harts.first; ram = ram_fits lines ram.value ram.first; count = (all_placed ram.value lines found.value found.first).count } in
-    subst (IsLayout lines) (gives _ layout found.rest) fits
+    subst (IsLayout lines) (ok_is _ layout found.rest) fits
 
 -- ---- the image
 
@@ -177,4 +179,4 @@ are_images source g few is =
     let layout = passes (layout_of lines.value) _ g lines.rest in
     let added = passes (additions_of layout.value.harts layout.value.ram (place_of_name lines.value layout.value.places layout.value.end) lines.value layout.value.places) _ g layout.rest in
     let read = source_read source lines.value lines.first in
-    subst IsImage (gives _ g added.rest) (of_additions lines.value layout.value added.value (omega (arith, few, read.few)) read.small layout.first added.first)
+    subst IsImage (ok_is _ g added.rest) (of_additions lines.value layout.value added.value (omega (arith, few, read.few)) read.small layout.first added.first)

@@ -9,7 +9,8 @@ use Rattle.asm_read.specs.declared.statements.Line.{Line}
 use Rattle.asm_read.specs.declared.statements.Statement.{Statement}
 use Rattle.asm_read.specs.declared.statements.Statement.TheVariants as statements
 use Rattle.asm_read.specs.Source.{at_line}
-use Rattle.asm_read.specs.Steps.{demand}
+use Rattle.asm_read.proofs.LineLemmas.{of_line}
+use Rattle.shared_terms.specs.Steps.{demand}
 use Rattle.asm_places.specs.Layouts.{Layout, layout_of}
 use Rattle.asm_places.specs.Places.{goes_back, is_below, is_reached, place_after_line, next_place, origin_in, place_past, places_from}
 use Rattle.asm_places.specs.Seen.{is_again, is_named}
@@ -17,7 +18,8 @@ use Rattle.asm_places.specs.Sizes.{harts_of, natural_where, ram_of}
 use Rattle.asm_places.specs.Counts.{count_in}
 use Rattle.asm_words.specs.Emission.{count_of}
 use Rattle.asm_emit.specs.Kept.{ArePlaced, place_or}
-use Rattle.asm_emit.proofs.StepLemmas.{from_some, gives, of_line, passes, refuted}
+use Rattle.shared_terms.proofs.StepLemmas.{ok_is, refuted}
+use Rattle.asm_emit.proofs.StepLemmas.{from_some, passes}
 
 -- ---- one line
 
@@ -121,5 +123,5 @@ are_placed lines layout is =
     let harts = passes (harts_of lines) _ layout is in
     let ram = passes (ram_of lines) _ layout harts.rest in
     let found = passes (places_from ram.value [] 0 lines) _ layout ram.rest in
-    let same : record { harts = harts.value; ram = ram.value; places = found.value.0; end = found.value.1 } ≡ layout = gives _ layout found.rest in
+    let same : record { harts = harts.value; ram = ram.value; places = found.value.0; end = found.value.1 } ≡ layout = ok_is _ layout found.rest in
     subst (λ (l : Layout). ArePlaced l.ram lines l.places) same (all_placed ram.value [] 0 lines found.value refl found.first)

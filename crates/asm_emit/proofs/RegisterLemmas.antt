@@ -28,7 +28,8 @@ use Rattle.asm_read.specs.Lines.{statement_of}
 use Rattle.asm_read.specs.Operands.{Text, no_operand, one_operand, three_operands, two_operands}
 use Rattle.asm_read.specs.Pseudo.{jump_alone, load_address, load_number, move_register, no_operation, return_jump}
 use Rattle.asm_read.specs.Values.{number_at, register_at, target_at}
-use Rattle.asm_emit.proofs.StepLemmas.{from_some, gives, passes}
+use Rattle.shared_terms.proofs.StepLemmas.{ok_is}
+use Rattle.asm_emit.proofs.StepLemmas.{from_some, passes}
 
 -- ---- registers
 
@@ -89,7 +90,7 @@ registers_read operation text s is =
     let rd = passes (register_at texts.value.0) _ s texts.rest in
     let rs1 = passes (register_at texts.value.1) _ s rd.rest in
     let rs2 = passes (register_at texts.value.2) _ s rs1.rest in
-    subst HasRegisters (gives _ s rs2.rest) (register_small _ rd.value rd.first, register_small _ rs1.value rs1.first, register_small _ rs2.value rs2.first)
+    subst HasRegisters (ok_is _ s rs2.rest) (register_small _ rd.value rd.first, register_small _ rs1.value rs1.first, register_small _ rs2.value rs2.first)
 
 immediate_read : (operation : ImmediateOperation) (text : Text) (s : Statement) → immediate operation text ≡ Ok s → HasRegisters s
 unfolding immediate
@@ -98,7 +99,7 @@ immediate_read operation text s is =
     let rd = passes (register_at texts.value.0) _ s texts.rest in
     let rs1 = passes (register_at texts.value.1) _ s rd.rest in
     let n = passes (number_at texts.value.2) _ s rs1.rest in
-    subst HasRegisters (gives _ s n.rest) (register_small _ rd.value rd.first, register_small _ rs1.value rs1.first)
+    subst HasRegisters (ok_is _ s n.rest) (register_small _ rd.value rd.first, register_small _ rs1.value rs1.first)
 
 shift_read : (operation : ShiftOperation) (text : Text) (s : Statement) → shift operation text ≡ Ok s → HasRegisters s
 unfolding shift
@@ -107,7 +108,7 @@ shift_read operation text s is =
     let rd = passes (register_at texts.value.0) _ s texts.rest in
     let rs1 = passes (register_at texts.value.1) _ s rd.rest in
     let n = passes (number_at texts.value.2) _ s rs1.rest in
-    subst HasRegisters (gives _ s n.rest) (register_small _ rd.value rd.first, register_small _ rs1.value rs1.first)
+    subst HasRegisters (ok_is _ s n.rest) (register_small _ rd.value rd.first, register_small _ rs1.value rs1.first)
 
 upper_read : (operation : UpperOperation) (text : Text) (s : Statement) → upper operation text ≡ Ok s → HasRegisters s
 unfolding upper
@@ -115,7 +116,7 @@ upper_read operation text s is =
     let texts = passes (two_operands text) _ s is in
     let rd = passes (register_at texts.value.0) _ s texts.rest in
     let n = passes (number_at texts.value.1) _ s rd.rest in
-    subst HasRegisters (gives _ s n.rest) (register_small _ rd.value rd.first)
+    subst HasRegisters (ok_is _ s n.rest) (register_small _ rd.value rd.first)
 
 branch_read : (operation : BranchOperation) (text : Text) (s : Statement) → branch operation text ≡ Ok s → HasRegisters s
 unfolding branch
@@ -124,7 +125,7 @@ branch_read operation text s is =
     let rs1 = passes (register_at texts.value.0) _ s texts.rest in
     let rs2 = passes (register_at texts.value.1) _ s rs1.rest in
     let target = passes (target_at texts.value.2) _ s rs2.rest in
-    subst HasRegisters (gives _ s target.rest) (register_small _ rs1.value rs1.first, register_small _ rs2.value rs2.first)
+    subst HasRegisters (ok_is _ s target.rest) (register_small _ rs1.value rs1.first, register_small _ rs2.value rs2.first)
 
 jump_read : (text : Text) (s : Statement) → jump text ≡ Ok s → HasRegisters s
 unfolding jump
@@ -132,7 +133,7 @@ jump_read text s is =
     let texts = passes (two_operands text) _ s is in
     let rd = passes (register_at texts.value.0) _ s texts.rest in
     let target = passes (target_at texts.value.1) _ s rd.rest in
-    subst HasRegisters (gives _ s target.rest) (register_small _ rd.value rd.first)
+    subst HasRegisters (ok_is _ s target.rest) (register_small _ rd.value rd.first)
 
 -- both registers of `r1, n(r2)`
 access_small : (text : Text) (place : ℕ × ℕ × ℤ) → access text ≡ Ok place → (place.0 < 32) × (place.1 < 32)
@@ -143,25 +144,25 @@ access_small text place is =
     let first = passes (register_at texts.value.0) _ place parts.rest in
     let base = passes (register_at parts.value.1) _ place first.rest in
     let offset = passes (number_at parts.value.0) _ place base.rest in
-    subst (λ (p : ℕ × ℕ × ℤ). (p.0 < 32) × (p.1 < 32)) (gives _ place offset.rest) (register_small _ first.value first.first, register_small _ base.value base.first)
+    subst (λ (p : ℕ × ℕ × ℤ). (p.0 < 32) × (p.1 < 32)) (ok_is _ place offset.rest) (register_small _ first.value first.first, register_small _ base.value base.first)
 
 load_read : (operation : LoadOperation) (text : Text) (s : Statement) → load operation text ≡ Ok s → HasRegisters s
 unfolding load
 load_read operation text s is =
     let place = passes (access text) _ s is in
-    subst HasRegisters (gives _ s place.rest) (access_small text place.value place.first)
+    subst HasRegisters (ok_is _ s place.rest) (access_small text place.value place.first)
 
 store_read : (operation : StoreOperation) (text : Text) (s : Statement) → store operation text ≡ Ok s → HasRegisters s
 unfolding store
 store_read operation text s is =
     let place = passes (access text) _ s is in
-    subst HasRegisters (gives _ s place.rest) (access_small text place.value place.first)
+    subst HasRegisters (ok_is _ s place.rest) (access_small text place.value place.first)
 
 jump_register_read : (text : Text) (s : Statement) → jump_register text ≡ Ok s → HasRegisters s
 unfolding jump_register
 jump_register_read text s is =
     let place = passes (access text) _ s is in
-    subst HasRegisters (gives _ s place.rest) (access_small text place.value place.first)
+    subst HasRegisters (ok_is _ s place.rest) (access_small text place.value place.first)
 
 -- ---- forms that stand for instructions
 
@@ -171,7 +172,7 @@ load_number_read text s is =
     let texts = passes (two_operands text) _ s is in
     let rd = passes (register_at texts.value.0) _ s texts.rest in
     let n = passes (number_at texts.value.1) _ s rd.rest in
-    subst HasRegisters (gives _ s n.rest) (register_small _ rd.value rd.first)
+    subst HasRegisters (ok_is _ s n.rest) (register_small _ rd.value rd.first)
 
 load_address_read : (text : Text) (s : Statement) → load_address text ≡ Ok s → HasRegisters s
 unfolding load_address
@@ -179,7 +180,7 @@ load_address_read text s is =
     let texts = passes (two_operands text) _ s is in
     let rd = passes (register_at texts.value.0) _ s texts.rest in
     let target = passes (target_at texts.value.1) _ s rd.rest in
-    subst HasRegisters (gives _ s target.rest) (register_small _ rd.value rd.first)
+    subst HasRegisters (ok_is _ s target.rest) (register_small _ rd.value rd.first)
 
 move_register_read : (text : Text) (s : Statement) → move_register text ≡ Ok s → HasRegisters s
 unfolding move_register
@@ -187,7 +188,7 @@ move_register_read text s is =
     let texts = passes (two_operands text) _ s is in
     let rd = passes (register_at texts.value.0) _ s texts.rest in
     let rs = passes (register_at texts.value.1) _ s rd.rest in
-    subst HasRegisters (gives _ s rs.rest) (register_small _ rd.value rd.first, register_small _ rs.value rs.first)
+    subst HasRegisters (ok_is _ s rs.rest) (register_small _ rd.value rd.first, register_small _ rs.value rs.first)
 
 zero_small : 0 < 32
 zero_small = omega arith
@@ -197,36 +198,36 @@ unfolding jump_alone
 jump_alone_read text s is =
     let only = passes (one_operand text) _ s is in
     let target = passes (target_at only.value) _ s only.rest in
-    subst HasRegisters (gives _ s target.rest) zero_small
+    subst HasRegisters (ok_is _ s target.rest) zero_small
 
 no_operation_read : (text : Text) (s : Statement) → no_operation text ≡ Ok s → HasRegisters s
 unfolding no_operation
 no_operation_read text s is =
     let end = passes (no_operand text) _ s is in
-    subst HasRegisters (gives _ s end.rest) (zero_small, zero_small)
+    subst HasRegisters (ok_is _ s end.rest) (zero_small, zero_small)
 
 return_jump_read : (text : Text) (s : Statement) → return_jump text ≡ Ok s → HasRegisters s
 unfolding return_jump
 return_jump_read text s is =
     let end = passes (no_operand text) _ s is in
-    subst HasRegisters (gives _ s end.rest) (zero_small, omega arith)
+    subst HasRegisters (ok_is _ s end.rest) (zero_small, omega arith)
 
 -- ---- statements without registers
 
 alone_read : (statement : Statement) (text : Text) (s : Statement) → HasRegisters statement → alone statement text ≡ Ok s → HasRegisters s
 alone_read statement text s has is =
     let end = passes (no_operand text) _ s is in
-    subst HasRegisters (gives statement s end.rest) has
+    subst HasRegisters (ok_is statement s end.rest) has
 
 of_number_read : (statement : ℤ → Statement) (text : Text) (s : Statement) → ((n : ℤ) → HasRegisters (statement n)) → of_number statement text ≡ Ok s → HasRegisters s
 of_number_read statement text s has is =
     let n = passes (one_number text) _ s is in
-    subst HasRegisters (gives _ s n.rest) (has n.value)
+    subst HasRegisters (ok_is _ s n.rest) (has n.value)
 
 of_numbers_read : (statement : ℤ → ℤ → Statement) (text : Text) (s : Statement) → ((m n : ℤ) → HasRegisters (statement m n)) → of_numbers statement text ≡ Ok s → HasRegisters s
 of_numbers_read statement text s has is =
     let n = passes (two_numbers text) _ s is in
-    subst HasRegisters (gives _ s n.rest) (has n.value.0 n.value.1)
+    subst HasRegisters (ok_is _ s n.rest) (has n.value.0 n.value.1)
 
 entry_read : (text : Text) (s : Statement) → entry text ≡ Ok s → HasRegisters s
 unfolding entry
@@ -234,14 +235,14 @@ entry_read text s is =
     let texts = passes (two_operands text) _ s is in
     let hart = passes (number_at texts.value.0) _ s texts.rest in
     let target = passes (target_at texts.value.1) _ s hart.rest in
-    subst HasRegisters (gives _ s target.rest) tt
+    subst HasRegisters (ok_is _ s target.rest) tt
 
 word_read : (text : Text) (s : Statement) → word text ≡ Ok s → HasRegisters s
 unfolding word
 word_read text s is =
     let only = passes (one_operand text) _ s is in
     let target = passes (target_at only.value) _ s only.rest in
-    subst HasRegisters (gives _ s target.rest) tt
+    subst HasRegisters (ok_is _ s target.rest) tt
 
 compartment_read : (text : Text) (s : Statement) → compartment text ≡ Ok s → HasRegisters s
 unfolding compartment
@@ -250,7 +251,7 @@ compartment_read text s is =
     let owner = passes (number_at texts.value.0) _ s texts.rest in
     let into = passes (number_at texts.value.1) _ s owner.rest in
     let write = passes (number_at texts.value.2) _ s into.rest in
-    subst HasRegisters (gives _ s write.rest) tt
+    subst HasRegisters (ok_is _ s write.rest) tt
 
 directive_read : (directive : Directive) (text : Text) (s : Statement) → directive_of directive text ≡ Ok s → HasRegisters s
 unfolding directive_of

@@ -2,6 +2,7 @@
 use Rattle.std.proofs.Common.{◌≡◌, ℕ, ◌+◌, ◌%◌, ◌≤◌, Bool, true, false, ◌==◌, List, [], ◌∷◌, ◌++◌, length, refl, sym, ap, subst, ◌∙◌, arith}
 use Rattle.std.specs.Prelude.{nat_le, if◌then◌else◌, Option, Some, None}
 use Rattle.std.specs.List.{list_all}
+use Rattle.std.proofs.lemmas.Bool.{le-leb, leb-true}
 use Rattle.std.proofs.lemmas.Bool.Decides.{nat_tests}
 use Rattle.std.proofs.lemmas.List.{length-append}
 use Rattle.std.proofs.lemmas.List.Folds.{list_all-append}
@@ -14,12 +15,6 @@ use Rattle.image_format.specs.Picture.{Segment}
 use Rattle.asm_emit.specs.declared.marks.Protection.{Protection}
 use Rattle.asm_emit.specs.Kept.{AreUpTo, compartment_end, is_label_id, is_protection, label_end}
 use Rattle.asm_emit.specs.Runs.{is_same_protection, joined_compartment, joined_range, no_protection, one_word_range, protected_as, protected_range, protection_of, range_end, run_or_both, with_code, with_label, with_protected, with_run}
-
-le_from : (a b : ℕ) → nat_le a b ≡ true → a ≤ b
-le_from a b is = grind (arith, nat_tests)
-
-le_to : (a b : ℕ) → a ≤ b → nat_le a b ≡ true
-le_to a b is = grind (arith, nat_tests)
 
 -- ---- any rows
 
@@ -44,7 +39,7 @@ module _ {A B : Type 0} (part : B → A) (fits : B → Bool) (follows : A → A 
   weaker place later (row ∷ rows) le below =
       let first : ends_by place row ≡ true = grind (arith, below) in
       let others : list_all (ends_by place) rows ≡ true = grind (arith, below) in
-      let here : ends_by later row ≡ true = le_to (end (part row)) later (omega (arith, le_from (end (part row)) place first, le)) in
+      let here : ends_by later row ≡ true = le-leb (end (part row)) later (omega (arith, leb-true (end (part row)) place first, le)) in
       rw here (weaker place later rows le others)
 
   -- the rows of a place are those of a later one
@@ -70,21 +65,21 @@ module _ {A B : Type 0} (part : B → A) (fits : B → Bool) (follows : A → A 
         let fits_last : fits last ≡ true = grind (arith, fit) in
         let ordered : in_order follows before (part last) ≡ true = grind (arith, fit) in
         let ends : ends_by address last ≡ true = grind (arith, below) in
-        last_with before last (joined last next) refl fits_last ordered (le_from (end (part last)) address ends)
+        last_with before last (joined last next) refl fits_last ordered (leb-true (end (part last)) address ends)
     rows_with before (row ∷ second ∷ rows) first fit below =
         let fits_row : fits row ≡ true = grind (arith, fit) in
         let ordered : in_order follows before (part row) ≡ true = grind (arith, fit) in
         let others : rows_from (Some (part row)) (second ∷ rows) ≡ true = grind (arith, fit) in
         let ends : ends_by address row ≡ true = grind (arith, below) in
         let more : list_all (ends_by address) (second ∷ rows) ≡ true = grind (arith, below) in
-        rw (fits_row, ordered) (rows_with (Some (part row)) (second ∷ rows) (l.behind (part row) (le_from (end (part row)) address ends)) others more)
+        rw (fits_row, ordered) (rows_with (Some (part row)) (second ∷ rows) (l.behind (part row) (leb-true (end (part row)) address ends)) others more)
 
     next_ends : ends_by (address + 4) next ≡ true
-    next_ends = le_to (end (part next)) (address + 4) l.ends_next
+    next_ends = le-leb (end (part next)) (address + 4) l.ends_next
 
     last_below : (last : B) (r : Option B) → joined last next ≡ r → ends_by (address + 4) last ≡ true → list_all (ends_by (address + 4)) (run_or_both r last next) ≡ true
     last_below last None e ends = rw (ends, next_ends) refl
-    last_below last (Some run) e ends = rw (le_to (end (part run)) (address + 4) (l.ends_run last run e)) refl
+    last_below last (Some run) e ends = rw (le-leb (end (part run)) (address + 4) (l.ends_run last run e)) refl
 
     below_with : (rows : List B) → list_all (ends_by (address + 4)) rows ≡ true → list_all (ends_by (address + 4)) (with_run joined rows next) ≡ true
     below_with [] below = rw next_ends refl
@@ -138,7 +133,7 @@ code_extends : (ram address : ℕ) → address % 4 ≡ 0 → address + 4 ≤ ram
 code_extends ram address aligned inside = record {
   fits_next = word_fits ram address aligned inside;
   ends_next = omega arith;
-  behind = λ before le. le_to (range_end before) address le;
+  behind = λ before le. le-leb (range_end before) address le;
   fits_run = λ last run fit e. let j = is_joined last (one_word_range address) run e in subst (λ (r : WordRange). is_range ram r ≡ true) (sym j.is) (joined_fits ram address last fit j.ends inside);
   ends_run = λ last run e. let j = is_joined last (one_word_range address) run e in subst (λ (r : WordRange). range_end r ≤ address + 4) (sym j.is) (omega (arith, j.ends));
   begins = λ before last run e. let j = is_joined last (one_word_range address) run e in ap (is_clear_of before) j.is;
@@ -185,7 +180,7 @@ compartment_extends ram address protection protected aligned inside =
     record {
       fits_next = protected_fits ram protection word protected (word_fits ram address aligned inside);
       ends_next = omega arith;
-      behind = λ before le. le_to (compartment_end before) address le;
+      behind = λ before le. le-leb (compartment_end before) address le;
       fits_run = λ last run fit e. let j = are_joined last next run e in subst (λ (r : CompartmentRange). is_compartment ram r ≡ true) (sym j.is) (compartment_fits ram last j.range fit (code.fits_run last.range j.range (range_fits ram last fit) j.joined));
       ends_run = λ last run e. let j = are_joined last next run e in subst (λ (r : CompartmentRange). compartment_end r ≤ address + 4) (sym j.is) (code.ends_run last.range j.range j.joined);
       begins = λ before last run e. let j = are_joined last next run e in ap (is_compartment_after before) j.is ∙ code.begins before.range last.range j.range j.joined;
@@ -280,7 +275,7 @@ segment_extends ram address word aligned inside small =
     record {
       fits_next = word_segment_fits ram address word aligned inside small;
       ends_next = omega arith;
-      behind = λ before le. le_to (range_end before) address le;
+      behind = λ before le. le-leb (range_end before) address le;
       fits_run = λ last run fit e. let j = is_longer address word last next run e in subst (λ (r : Segment). is_segment ram r ≡ true) (sym j.is) (longer_fits ram address word last fit j.ends inside small);
       ends_run = λ last run e. let j = is_longer address word last next run e in subst (λ (r : Segment). range_end (extent_of r) ≤ address + 4) (sym j.is) (omega (arith, j.ends, length-append last.words (word ∷ [])));
       begins = λ before last run e. let j = is_longer address word last next run e in ap (λ (r : Segment). is_clear_of before (extent_of r)) j.is;

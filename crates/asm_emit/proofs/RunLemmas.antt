@@ -1,17 +1,8 @@
 -- The next word behind runs that are kept in a list.
-use Rattle.std.proofs.Common.{◌≡◌, ℕ, suc, ◌-◌, ◌<◌, List, [], ◌∷◌, ◌++◌, length, get_or, set, take, refl, sym, ap, subst, ◌∙◌, append_assoc, arith}
+use Rattle.std.proofs.Common.{◌≡◌, ℕ, ◌-◌, ◌<◌, List, [], ◌∷◌, ◌++◌, length, get_or, set, take, refl, sym, ap, subst, ◌∙◌, append_assoc, arith}
 use Rattle.std.specs.Prelude.{Option, Some, None}
-use Rattle.std.proofs.lemmas.List.{drop_all, set-get_or, set_split}
+use Rattle.shared_terms.proofs.ListLemmas.{last_set, last_split}
 use Rattle.asm_emit.specs.Runs.{run_or_both, with_run}
-
-last_set : {A : Type 0} (xs : List A) (x : A) → 0 < length xs → set xs (length xs - 1) x ≡ take (length xs - 1) xs ++ x ∷ []
-last_set {A} xs x some =
-    let i = length xs - 1 in
-    set_split xs i x (omega arith) ∙ ap (λ (ys : List A). take i xs ++ x ∷ ys) (drop_all (suc i) xs (omega arith))
-
--- a list that is not empty ends with its last
-last_split : {A : Type 0} (xs : List A) (none : A) → 0 < length xs → xs ≡ take (length xs - 1) xs ++ get_or xs (length xs - 1) none ∷ []
-last_split xs none some = sym (set-get_or xs (length xs - 1) none) ∙ last_set xs (get_or xs (length xs - 1) none) some
 
 -- the last run alone decides
 run_after : {A : Type 0} (joined : A → A → Option A) (front : List A) (last next : A) → with_run joined (front ++ last ∷ []) next ≡ front ++ run_or_both (joined last next) last next

@@ -12,9 +12,11 @@ use Rattle.asm_read.specs.declared.statements.Statement.{Statement}
 use Rattle.asm_read.specs.Lines.{form_at, hash, label_in, line_of, statement_in, statement_of}
 use Rattle.asm_read.specs.Operands.{Text}
 use Rattle.asm_read.specs.Source.{at_line, is_said, lines_of, line_if_said, source_of}
-use Rattle.asm_read.specs.Steps.{demand}
+use Rattle.asm_read.proofs.LineLemmas.{of_line}
+use Rattle.shared_terms.specs.Steps.{demand}
 use Rattle.asm_emit.proofs.RegisterLemmas.{HasRegisters, statement_read}
-use Rattle.asm_emit.proofs.StepLemmas.{gives, of_line, passes}
+use Rattle.shared_terms.proofs.StepLemmas.{ok_is}
+use Rattle.asm_emit.proofs.StepLemmas.{passes}
 
 -- ---- lines
 
@@ -25,11 +27,11 @@ HasRegistersIn (Some statement) = HasRegisters statement
 
 in_text : (text : Text) (statement : Option Statement) → statement_in text ≡ Ok statement → HasRegistersIn statement
 unfolding statement_in
-in_text [] statement is = subst HasRegistersIn (gives None statement is) tt
+in_text [] statement is = subst HasRegistersIn (ok_is None statement is) tt
 in_text (byte ∷ more) statement is =
     let form = passes (form_at (first_word (byte ∷ more))) _ statement is in
     let read = passes (statement_of form.value (after_word (byte ∷ more))) _ statement form.rest in
-    subst HasRegistersIn (gives (Some read.value) statement read.rest) (statement_read form.value (after_word (byte ∷ more)) read.value read.first)
+    subst HasRegistersIn (ok_is (Some read.value) statement read.rest) (statement_read form.value (after_word (byte ∷ more)) read.value read.first)
 
 line_read : (number : ℕ) (text : Text) (line : Line) → line_of number text ≡ Ok line → HasRegistersIn line.statement
 unfolding line_of
@@ -37,7 +39,7 @@ line_read number text line is =
     let allowed = passes (demand (list_all is_allowed text) kinds.Byte) _ line is in
     let label = passes (label_in (before hash text)) _ line allowed.rest in
     let statement = passes (statement_in (without_blanks label.value.1)) _ line label.rest in
-    subst (λ (l : Line). HasRegistersIn l.statement) (gives _ line statement.rest) (in_text (without_blanks label.value.1) statement.value statement.first)
+    subst (λ (l : Line). HasRegistersIn l.statement) (ok_is _ line statement.rest) (in_text (without_blanks label.value.1) statement.value statement.first)
 
 -- those of all lines
 abbrev pub HaveRegisters : List Line → Type 0
@@ -58,14 +60,14 @@ one_more texts line lines has read = go (is_said line)
 
 all_read : (number : ℕ) (texts : List Text) (read : List Line) → lines_of number texts ≡ Ok read → AreRead (length texts) read
 unfolding lines_of
-all_read number [] read is = subst (AreRead 0) (gives [] read is) (record { few = omega arith; small = tt })
+all_read number [] read is = subst (AreRead 0) (ok_is [] read is) (record { few = omega arith; small = tt })
 all_read number (text ∷ texts) read is =
     let line = passes (at_line number (line_of number text)) _ read is in
     let others = passes (lines_of (number + 1) texts) _ read line.rest in
     let has = line_read number text line.value (of_line number (line_of number text) line.value line.first) in
     let more = one_more (length texts) line.value others.value has (all_read (number + 1) texts others.value others.first) in
     let all : AreRead (length (text ∷ texts)) (line_if_said line.value ++ others.value) = record { few = omega (arith, more.few); small = more.small } in
-    subst (AreRead (length (text ∷ texts))) (gives _ read others.rest) all
+    subst (AreRead (length (text ∷ texts))) (ok_is _ read others.rest) all
 
 -- ---- how many lines there are
 

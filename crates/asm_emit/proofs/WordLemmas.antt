@@ -21,7 +21,7 @@ use Rattle.asm_read.specs.declared.errors.AsmErrorKind.{AsmErrorKind}
 use Rattle.asm_read.specs.declared.statements.Statement.{Statement}
 use Rattle.asm_read.specs.declared.statements.Statement.TheVariants as statements
 use Rattle.asm_read.specs.declared.statements.Target.{Target}
-use Rattle.asm_read.specs.Steps.{result_view}
+use Rattle.shared_terms.specs.Steps.{result_view}
 use Rattle.asm_words.specs.declared.emissions.Emission.{Emission}
 use Rattle.asm_words.specs.declared.emissions.Emission.TheVariants as emissions
 use Rattle.asm_words.specs.Emission.{Places, address_of, both_parts, branch, emission_of, fence, immediate, jump, jump_register, load, load_address, load_number, one, shift, store, upper, value_of, word, words_of, zeros}
@@ -30,7 +30,8 @@ use Rattle.asm_words.specs.Instructions.{branch_of, load_of, store_of, with_amou
 use Rattle.asm_words.specs.Ranges.{amount_at, branch_offset, high_part, immediate_at, is_short, jump_offset, low_part, upper_at, word_modulo}
 use Rattle.asm_words.proofs.RangeLemmas.{amount_kept}
 use Rattle.asm_emit.proofs.RegisterLemmas.{HasRegisters}
-use Rattle.asm_emit.proofs.StepLemmas.{gives, passes}
+use Rattle.shared_terms.proofs.StepLemmas.{ok_is}
+use Rattle.asm_emit.proofs.StepLemmas.{passes}
 
 -- ---- the formats
 
@@ -137,7 +138,7 @@ abbrev EmitsSmall : Result Emission AsmErrorKind → Type 0
 EmitsSmall result = (emission : Emission) → result ≡ Ok emission → AreSmall emission
 
 done : (x : Emission) → AreSmall x → EmitsSmall (Ok x)
-done x small emission is = subst AreSmall (gives x emission is) small
+done x small emission is = subst AreSmall (ok_is x emission is) small
 
 nothing_small : EmitsSmall (Ok emissions.Nothing)
 nothing_small = done emissions.Nothing tt
@@ -151,7 +152,7 @@ unfolding address_of
 address_small places target address is = go (value_of places target) is
   where
     go : (r : Result ℤ AsmErrorKind) → result_view word_modulo r ≡ Ok address → address < 2 ^ 32
-    go (Ok n) found = subst (λ (w : ℕ). w < 2 ^ 32) (gives (word_modulo n) address found) (wrapped_small n)
+    go (Ok n) found = subst (λ (w : ℕ). w < 2 ^ 32) (ok_is (word_modulo n) address found) (wrapped_small n)
     go (Err kind) found = absurd cc
 
 immediate_emits : (operation : ImmediateOperation) (rd rs1 : ℕ) (n : ℤ) → rd < 32 → rs1 < 32 → EmitsSmall (immediate operation rd rs1 n)

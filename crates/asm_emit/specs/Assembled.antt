@@ -4,7 +4,7 @@ use Rattle.image_format.specs.Picture.{Picture}
 use Rattle.asm_read.specs.declared.errors.AsmError.{AsmError}
 use Rattle.asm_read.specs.declared.statements.Line.{Line}
 use Rattle.asm_read.specs.Source.{at_line, source_of}
-use Rattle.asm_read.specs.Steps.{◌>>=◌, result_view}
+use Rattle.shared_terms.specs.Steps.{◌>>=◌, result_view}
 use Rattle.asm_words.specs.Emission.{Places}
 use Rattle.asm_places.specs.Layouts.{Layout, layout_of}
 use Rattle.asm_places.specs.Names.{place_of_name}

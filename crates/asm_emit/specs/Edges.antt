@@ -1,14 +1,8 @@
 -- Edges in the order of an image.
 use Rattle.std.specs.Prelude.{ℕ, List, map}
-use Rattle.std.specs.declared.cmp.Ordering.{Ordering}
 use Rattle.std.specs.FinMap.{FinMap, from_entries, keys}
-use Rattle.std.specs.Ordering.{nat_cmp, ordering_then}
 use Rattle.image_format.specs.declared.rows.Edge.{Edge}
-use Rattle.asm_lists.specs.Edges.{edge_of}
-
--- by source, and then by target
-abbrev pub pair_cmp : ℕ × ℕ → ℕ × ℕ → Ordering
-pair_cmp a b = ordering_then (nat_cmp a.0 b.0) (nat_cmp a.1 b.1)
+use Rattle.asm_lists.specs.Edges.{edge_of, pair_cmp}
 
 -- pairs of a source and a target, each with nothing beside it
 abbrev pub bare : List (ℕ × ℕ) → List ((ℕ × ℕ) × Unit {0})

@@ -6,7 +6,7 @@ use Rattle.asm_read.specs.declared.errors.AsmErrorKind.TheVariants as kinds
 use Rattle.asm_read.specs.declared.statements.Statement.{Statement}
 use Rattle.asm_read.specs.declared.statements.Statement.TheVariants as statements
 use Rattle.asm_read.specs.declared.statements.Target.{Target}
-use Rattle.asm_read.specs.Steps.{◌>>=◌, demand}
+use Rattle.shared_terms.specs.Steps.{◌>>=◌, demand}
 use Rattle.asm_words.specs.Emission.{Places, address_of, emission_of}
 use Rattle.asm_emit.specs.declared.values.Addition.{Addition}
 use Rattle.asm_emit.specs.declared.values.Addition.TheVariants.{Nothing, Words, Heap, Entry, Code, Data, Label, Edge, Compartment}

@@ -2,13 +2,14 @@
 use Rattle.std.proofs.Common.{◌≡◌, ℕ, true, false, [], ◌∷◌, ◌++◌, refl, ap, ◌∙◌}
 use Rattle.std.specs.Prelude.{◌==◌, not, Some, None, Ok}
 use Rattle.std.specs.List.{list_all}
+use Rattle.std.proofs.lemmas.Bool.{and_parts}
 use Rattle.asm_table.specs.declared.forms.Form.{Form}
 use Rattle.asm_table.specs.Words.{form_named}
 use Rattle.asm_read.specs.declared.statements.Statement.{Statement}
 use Rattle.asm_read.specs.Addresses.{is_plain, parts_at}
 use Rattle.asm_read.specs.Lines.{label_in, line_of, statement_in, statement_of}
 use Rattle.asm_read.specs.Operands.{Text, next_operand, nonempty, one_operand, three_operands, two_operands}
-use Rattle.asm_laws.proofs.PieceLemmas.{Piece, after_at, after_colon, after_comma, after_end, after_word_at, all_allowed, and_left, and_right, avoids, before_at, before_comma, before_end, before_hash, clean_piece, ends, ends_after, ends_joined, ends_piece, first_word_at, is_clean, is_filled, is_solid, joined, starts, starts_joined, starts_piece, trimmed_is, trimmed_piece, weaken}
+use Rattle.asm_laws.proofs.PieceLemmas.{Piece, after_at, after_colon, after_comma, after_end, after_word_at, all_allowed, avoids, before_at, before_comma, before_end, before_hash, clean_piece, ends, ends_after, ends_joined, ends_piece, first_word_at, is_clean, is_filled, is_solid, joined, starts, starts_joined, starts_piece, trimmed_is, trimmed_piece, weaken}
 
 -- ---- operands
 
@@ -42,10 +43,10 @@ three a b c first second third =
 -- ---- `n(r)`
 
 opening_of_plain : (byte : ℕ) → is_plain byte ≡ true → avoids 40 byte ≡ true
-opening_of_plain byte e = and_left (not (byte == 40)) (not (byte == 41)) e
+opening_of_plain byte e = (and_parts (not (byte == 40)) (not (byte == 41)) e).0
 
 closing_of_plain : (byte : ℕ) → is_plain byte ≡ true → avoids 41 byte ≡ true
-closing_of_plain byte e = and_right (not (byte == 40)) (not (byte == 41)) e
+closing_of_plain byte e = (and_parts (not (byte == 40)) (not (byte == 41)) e).1
 
 pub parts : (offset base : Text) → list_all is_plain offset ≡ true → list_all is_plain base ≡ true → parts_at (offset ++ 40 ∷ (base ++ 41 ∷ [])) ≡ Ok (offset, base)
 unfolding parts_at

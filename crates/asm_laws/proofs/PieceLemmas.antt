@@ -1,31 +1,14 @@
 -- Texts of bytes that end nothing, and where texts that are put together of them are cut.
-use Rattle.std.proofs.Common.{◌≡◌, ℕ, Bool, true, false, [], ◌∷◌, ◌++◌, refl, sym, ap, ◌∙◌, arith}
+use Rattle.std.proofs.Common.{◌≡◌, ℕ, Bool, true, false, [], ◌∷◌, ◌++◌, refl, ap, ◌∙◌, arith}
 use Rattle.std.specs.Prelude.{◌==◌, ◌&&◌, not, reverse, Some, None}
 use Rattle.std.specs.List.{list_all}
 use Rattle.std.proofs.lemmas.List.{reverse-append, reverse-reverse}
 use Rattle.std.proofs.lemmas.List.Folds.{list_all-append}
+use Rattle.std.proofs.lemmas.Bool.{and_from, and_parts, not-true}
 use Rattle.std.proofs.lemmas.Bool.Decides.{nat_tests}
 use Rattle.asm_text.specs.Bytes.{is_allowed, is_blank}
 use Rattle.asm_text.specs.Cuts.{after, after_word, before, first_word, without_blanks, without_end, without_front}
 use Rattle.asm_read.specs.Operands.{Text}
-
--- ---- tests
-
-pub and_left : (a b : Bool) → (a && b) ≡ true → a ≡ true
-and_left true b e = refl
-and_left false b e = e
-
-pub and_right : (a b : Bool) → (a && b) ≡ true → b ≡ true
-and_right true b e = e
-and_right false b e = absurd cc
-
-pub both : (a b : Bool) → a ≡ true → b ≡ true → (a && b) ≡ true
-both true b x y = y
-both false b x y = x
-
-not_true : (a : Bool) → not a ≡ true → a ≡ false
-not_true true e = sym e
-not_true false e = refl
 
 -- ---- bytes
 
@@ -42,32 +25,32 @@ abbrev pub avoids : ℕ → ℕ → Bool
 avoids byte here = not (here == byte)
 
 clean_of_solid : (byte : ℕ) → is_solid byte ≡ true → is_clean byte ≡ true
-clean_of_solid byte e = and_left (is_clean byte) (not (is_blank byte) && not (byte == 44)) e
+clean_of_solid byte e = (and_parts (is_clean byte) (not (is_blank byte) && not (byte == 44)) e).0
 
 comma_of_solid : (byte : ℕ) → is_solid byte ≡ true → avoids 44 byte ≡ true
-comma_of_solid byte e = and_right (not (is_blank byte)) (not (byte == 44)) (and_right (is_clean byte) (not (is_blank byte) && not (byte == 44)) e)
+comma_of_solid byte e = (and_parts (not (is_blank byte)) (not (byte == 44)) (and_parts (is_clean byte) (not (is_blank byte) && not (byte == 44)) e).1).1
 
 blank_of_solid : (byte : ℕ) → is_solid byte ≡ true → not (is_blank byte) ≡ true
-blank_of_solid byte e = and_left (not (is_blank byte)) (not (byte == 44)) (and_right (is_clean byte) (not (is_blank byte) && not (byte == 44)) e)
+blank_of_solid byte e = (and_parts (not (is_blank byte)) (not (byte == 44)) (and_parts (is_clean byte) (not (is_blank byte) && not (byte == 44)) e).1).0
 
 allowed_of_clean : (byte : ℕ) → is_clean byte ≡ true → is_allowed byte ≡ true
-allowed_of_clean byte e = and_left (is_allowed byte) (not (byte == 35) && not (byte == 58)) e
+allowed_of_clean byte e = (and_parts (is_allowed byte) (not (byte == 35) && not (byte == 58)) e).0
 
 hash_of_clean : (byte : ℕ) → is_clean byte ≡ true → avoids 35 byte ≡ true
-hash_of_clean byte e = and_left (not (byte == 35)) (not (byte == 58)) (and_right (is_allowed byte) (not (byte == 35) && not (byte == 58)) e)
+hash_of_clean byte e = (and_parts (not (byte == 35)) (not (byte == 58)) (and_parts (is_allowed byte) (not (byte == 35) && not (byte == 58)) e).1).0
 
 colon_of_clean : (byte : ℕ) → is_clean byte ≡ true → avoids 58 byte ≡ true
-colon_of_clean byte e = and_right (not (byte == 35)) (not (byte == 58)) (and_right (is_allowed byte) (not (byte == 35) && not (byte == 58)) e)
+colon_of_clean byte e = (and_parts (not (byte == 35)) (not (byte == 58)) (and_parts (is_allowed byte) (not (byte == 35) && not (byte == 58)) e).1).1
 
 -- ---- texts of such bytes
 
 pub weaken : (p q : ℕ → Bool) → ((byte : ℕ) → p byte ≡ true → q byte ≡ true) → (text : Text) → list_all p text ≡ true → list_all q text ≡ true
 weaken p q each [] all = refl
 weaken p q each (b ∷ text) all =
-    both (q b) (list_all q text) (each b (and_left (p b) (list_all p text) all)) (weaken p q each text (and_right (p b) (list_all p text) all))
+    and_from (q b) (list_all q text) (each b (and_parts (p b) (list_all p text) all).0) (weaken p q each text (and_parts (p b) (list_all p text) all).1)
 
 pub joined : (p : ℕ → Bool) (front text : Text) → list_all p front ≡ true → list_all p text ≡ true → list_all p (front ++ text) ≡ true
-joined p front text x y = list_all-append p front text ∙ both (list_all p front) (list_all p text) x y
+joined p front text x y = list_all-append p front text ∙ and_from (list_all p front) (list_all p text) x y
 
 abbrev pub is_filled : Text → Bool
 is_filled [] = false
@@ -89,26 +72,26 @@ comma_piece text piece = weaken is_solid (avoids 44) comma_of_solid text piece.s
 before_all : (b : ℕ) (text : Text) → list_all (avoids b) text ≡ true → before b text ≡ text
 before_all b [] all = refl
 before_all b (x ∷ text) all =
-    let here : (x == b) ≡ false = not_true (x == b) (and_left (avoids b x) (list_all (avoids b) text) all) in
-    rw (here, before_all b text (and_right (avoids b x) (list_all (avoids b) text) all)) refl
+    let here : (x == b) ≡ false = not-true (x == b) (and_parts (avoids b x) (list_all (avoids b) text) all).0 in
+    rw (here, before_all b text (and_parts (avoids b x) (list_all (avoids b) text) all).1) refl
 
 after_none : (b : ℕ) (text : Text) → list_all (avoids b) text ≡ true → after b text ≡ None
 after_none b [] all = refl
 after_none b (x ∷ text) all =
-    let here : (x == b) ≡ false = not_true (x == b) (and_left (avoids b x) (list_all (avoids b) text) all) in
-    rw here (after_none b text (and_right (avoids b x) (list_all (avoids b) text) all))
+    let here : (x == b) ≡ false = not-true (x == b) (and_parts (avoids b x) (list_all (avoids b) text) all).0 in
+    rw here (after_none b text (and_parts (avoids b x) (list_all (avoids b) text) all).1)
 
 pub before_at : (b : ℕ) (text rest : Text) → list_all (avoids b) text ≡ true → before b (text ++ b ∷ rest) ≡ text
 before_at b [] rest all = let here : (b == b) ≡ true = grind (arith, nat_tests) in rw here refl
 before_at b (x ∷ text) rest all =
-    let here : (x == b) ≡ false = not_true (x == b) (and_left (avoids b x) (list_all (avoids b) text) all) in
-    rw (here, before_at b text rest (and_right (avoids b x) (list_all (avoids b) text) all)) refl
+    let here : (x == b) ≡ false = not-true (x == b) (and_parts (avoids b x) (list_all (avoids b) text) all).0 in
+    rw (here, before_at b text rest (and_parts (avoids b x) (list_all (avoids b) text) all).1) refl
 
 pub after_at : (b : ℕ) (text rest : Text) → list_all (avoids b) text ≡ true → after b (text ++ b ∷ rest) ≡ Some rest
 after_at b [] rest all = let here : (b == b) ≡ true = grind (arith, nat_tests) in rw here refl
 after_at b (x ∷ text) rest all =
-    let here : (x == b) ≡ false = not_true (x == b) (and_left (avoids b x) (list_all (avoids b) text) all) in
-    rw here (after_at b text rest (and_right (avoids b x) (list_all (avoids b) text) all))
+    let here : (x == b) ≡ false = not-true (x == b) (and_parts (avoids b x) (list_all (avoids b) text) all).0 in
+    rw here (after_at b text rest (and_parts (avoids b x) (list_all (avoids b) text) all).1)
 
 pub before_hash : (text : Text) → list_all is_clean text ≡ true → before 35 text ≡ text
 before_hash text clean = before_all 35 text (weaken is_clean (avoids 35) hash_of_clean text clean)
@@ -134,14 +117,14 @@ after_end text piece = after_none 44 text (comma_piece text piece)
 pub first_word_at : (name rest : Text) → list_all is_solid name ≡ true → first_word (name ++ 32 ∷ rest) ≡ name
 first_word_at [] rest solid = refl
 first_word_at (b ∷ name) rest solid =
-    let here : is_blank b ≡ false = not_true (is_blank b) (blank_of_solid b (and_left (is_solid b) (list_all is_solid name) solid)) in
-    rw (here, first_word_at name rest (and_right (is_solid b) (list_all is_solid name) solid)) refl
+    let here : is_blank b ≡ false = not-true (is_blank b) (blank_of_solid b (and_parts (is_solid b) (list_all is_solid name) solid).0) in
+    rw (here, first_word_at name rest (and_parts (is_solid b) (list_all is_solid name) solid).1) refl
 
 pub after_word_at : (name rest : Text) → list_all is_solid name ≡ true → after_word (name ++ 32 ∷ rest) ≡ 32 ∷ rest
 after_word_at [] rest solid = refl
 after_word_at (b ∷ name) rest solid =
-    let here : is_blank b ≡ false = not_true (is_blank b) (blank_of_solid b (and_left (is_solid b) (list_all is_solid name) solid)) in
-    rw here (after_word_at name rest (and_right (is_solid b) (list_all is_solid name) solid))
+    let here : is_blank b ≡ false = not-true (is_blank b) (blank_of_solid b (and_parts (is_solid b) (list_all is_solid name) solid).0) in
+    rw here (after_word_at name rest (and_parts (is_solid b) (list_all is_solid name) solid).1)
 
 -- ---- ends
 
@@ -170,11 +153,11 @@ ends_joined (b ∷ front) text e = ends_after b (front ++ text) (ends_joined fro
 
 pub starts_piece : (text : Text) → Piece text → starts text ≡ true
 starts_piece [] piece = let no : false ≡ true = piece.filled in absurd cc
-starts_piece (b ∷ text) piece = blank_of_solid b (and_left (is_solid b) (list_all is_solid text) piece.solid)
+starts_piece (b ∷ text) piece = blank_of_solid b (and_parts (is_solid b) (list_all is_solid text) piece.solid).0
 
 ends_solid : (b : ℕ) (text : Text) → list_all is_solid (b ∷ text) ≡ true → ends (b ∷ text) ≡ true
-ends_solid b [] solid = blank_of_solid b (and_left (is_solid b) true solid)
-ends_solid b (c ∷ text) solid = ends_solid c text (and_right (is_solid b) (list_all is_solid (c ∷ text)) solid)
+ends_solid b [] solid = blank_of_solid b (and_parts (is_solid b) true solid).0
+ends_solid b (c ∷ text) solid = ends_solid c text (and_parts (is_solid b) (list_all is_solid (c ∷ text)) solid).1
 
 pub ends_piece : (text : Text) → Piece text → ends text ≡ true
 ends_piece [] piece = let no : false ≡ true = piece.filled in absurd cc
@@ -188,7 +171,7 @@ starts_reversed (b ∷ c ∷ text) e =
 
 front_kept : (text : Text) → starts text ≡ true → without_front text ≡ text
 front_kept [] e = refl
-front_kept (b ∷ text) e = let here : is_blank b ≡ false = not_true (is_blank b) e in rw here refl
+front_kept (b ∷ text) e = let here : is_blank b ≡ false = not-true (is_blank b) e in rw here refl
 
 end_kept : (text : Text) → ends text ≡ true → without_end text ≡ text
 end_kept text e = ap (λ (t : Text). reverse t) (front_kept (reverse text) (starts_reversed text e)) ∙ reverse-reverse text

@@ -1,12 +1,12 @@
 -- The operands that are shown of fields, read again. Where there are few of them all are tried.
-use Rattle.std.proofs.Common.{◌≡◌, ◌⊎◌, ◌≢◌, ℕ, zero, suc, ◌+◌, ◌-◌, ◌*◌, ◌/◌, ◌%◌, ◌^◌, ◌<◌, ◌≤◌, Bool, true, false, List, [], ◌∷◌, length, inl, inr, ⊎_elim, refl, ap, ◌∙◌, arith}
+use Rattle.std.proofs.Common.{◌≡◌, ◌⊎◌, ℕ, ◌+◌, ◌-◌, ◌*◌, ◌/◌, ◌%◌, ◌^◌, ◌<◌, ◌≤◌, Bool, true, false, List, [], ◌∷◌, length, inl, inr, refl, ap, ◌∙◌, arith}
 use Rattle.std.proofs.Common.{ltb}
 use Rattle.std.specs.Prelude.{◌==◌, ◌&&◌, nat_le, ℤ, pos, negsuc, neg_ℤ, Option, Some, None, Result, Ok, Err}
 use Rattle.std.specs.Char.{digit_value, is_digit}
 use Rattle.std.specs.Fmt.{digits}
 use Rattle.std.specs.List.{list_all, range_with_len}
 use Rattle.std.specs.Str.Parse.{digits_value}
-use Rattle.std.proofs.lemmas.Bool.{cases_eq, cond_both, eqb-true}
+use Rattle.std.proofs.lemmas.Bool.{agree_below, agree_below_at, and_from, and_parts, cond_both, eqb-true}
 use Rattle.std.proofs.lemmas.Bool.Decides.{nat_tests}
 use Rattle.std.proofs.lemmas.List.Folds.{list_all-map}
 use Rattle.pump_words.specs.TextLaws.{hex8_text_value}
@@ -18,21 +18,11 @@ use Rattle.asm_table.specs.Registers.{number_named, purpose_named, register_name
 use Rattle.asm_read.specs.declared.errors.AsmErrorKind.{AsmErrorKind}
 use Rattle.asm_read.specs.Addresses.{is_plain}
 use Rattle.asm_read.specs.Operands.{Text}
-use Rattle.asm_words.specs.Ranges.{amount_at, branch_offset, distance, even_within, immediate_at, is_within, jump_offset, upper_at, within}
-use Rattle.asm_words.proofs.RangeLemmas.{signed_by}
-use Rattle.asm_laws.proofs.PieceLemmas.{Piece, and_left, and_right, both, is_filled, is_solid}
+use Rattle.asm_words.specs.Ranges.{amount_at, branch_offset, distance, even_within, immediate_at, jump_offset, upper_at, within}
+use Rattle.asm_words.proofs.OffsetLemmas.{branch_within, jump_within}
+use Rattle.asm_laws.proofs.PieceLemmas.{Piece, is_filled, is_solid}
 
--- ---- tests of all numbers below another
-
-abbrev holds_below : (ℕ → Bool) → ℕ → Bool
-holds_below p zero = true
-holds_below p (suc k) = p k && holds_below p k
-
-below : (p : ℕ → Bool) (n k : ℕ) → holds_below p n ≡ true → k < n → p k ≡ true
-below p zero k all lt = absurd (omega arith)
-below p (suc n) k all lt =
-    ⊎_elim (λ (e : k ≡ n). ap p e ∙ and_left (p n) (holds_below p n) all)
-    (λ (apart : k ≢ n). below p n k (and_right (p n) (holds_below p n) all) (omega arith)) (cases_eq k n)
+-- ---- tests that two values are the same
 
 abbrev same_number : ℤ → ℤ → Bool
 same_number (pos m) (pos n) = m == n
@@ -76,12 +66,12 @@ is_piece text = is_filled text && (list_all is_solid text && list_all is_plain t
 
 piece_of : (text : Text) → is_piece text ≡ true → Piece text
 piece_of text e = record {
-  filled = and_left (is_filled text) (list_all is_solid text && list_all is_plain text) e;
-  solid = and_left (list_all is_solid text) (list_all is_plain text) (and_right (is_filled text) (list_all is_solid text && list_all is_plain text) e);
+  filled = (and_parts (is_filled text) (list_all is_solid text && list_all is_plain text) e).0;
+  solid = (and_parts (list_all is_solid text) (list_all is_plain text) (and_parts (is_filled text) (list_all is_solid text && list_all is_plain text) e).1).0;
 }
 
 plain_of : (text : Text) → is_piece text ≡ true → list_all is_plain text ≡ true
-plain_of text e = and_right (list_all is_solid text) (list_all is_plain text) (and_right (is_filled text) (list_all is_solid text && list_all is_plain text) e)
+plain_of text e = (and_parts (list_all is_solid text) (list_all is_plain text) (and_parts (is_filled text) (list_all is_solid text && list_all is_plain text) e).1).1
 
 -- ---- registers
 
@@ -93,18 +83,18 @@ pub record Register (r : ℕ) : Type 0 where
 abbrev good_register : ℕ → Bool
 good_register r = is_piece (shown.register r) && place_is (register_named (shown.register r)) r
 
-good_registers : holds_below good_register 32 ≡ true
+good_registers : agree_below good_register (λ n. true) 32 ≡ true
 unfolding digits number_named purpose_named
 good_registers = refl
 
 pub register : (r : ℕ) → r < 2 ^ 5 → Register r
 register r fits =
-    let good : good_register r ≡ true = below good_register 32 r good_registers fits in
-    let piece : is_piece (shown.register r) ≡ true = and_left (is_piece (shown.register r)) (place_is (register_named (shown.register r)) r) good in
+    let good : good_register r ≡ true = agree_below_at good_register (λ n. true) 32 r good_registers fits in
+    let piece : is_piece (shown.register r) ≡ true = (and_parts (is_piece (shown.register r)) (place_is (register_named (shown.register r)) r) good).0 in
     record {
       piece = piece_of (shown.register r) piece;
       plain = plain_of (shown.register r) piece;
-      value = place_some (register_named (shown.register r)) r (and_right (is_piece (shown.register r)) (place_is (register_named (shown.register r)) r) good);
+      value = place_some (register_named (shown.register r)) r (and_parts (is_piece (shown.register r)) (place_is (register_named (shown.register r)) r) good).1;
     }
 
 -- ---- immediates
@@ -118,24 +108,24 @@ pub record Immediate (imm : ℕ) : Type 0 where
 abbrev good_immediate : ℕ → Bool
 good_immediate imm = is_piece (shown.immediate imm) && (number_is (number_of (shown.immediate imm)) (signed imm) && word_is (immediate_at (signed imm)) imm)
 
-good_immediates : holds_below (λ n. good_immediate (sign_extended 12 n)) 4096 ≡ true
+good_immediates : agree_below (λ n. good_immediate (sign_extended 12 n)) (λ n. true) 4096 ≡ true
 unfolding digits number_of unsigned_of numeral within
 good_immediates = refl
 
 immediate_tested : (imm : ℕ) → good_immediate imm ≡ true → Immediate imm
 immediate_tested imm good =
-    let piece : is_piece (shown.immediate imm) ≡ true = and_left (is_piece (shown.immediate imm)) (number_is (number_of (shown.immediate imm)) (signed imm) && word_is (immediate_at (signed imm)) imm) good in
-    let rest : (number_is (number_of (shown.immediate imm)) (signed imm) && word_is (immediate_at (signed imm)) imm) ≡ true = and_right (is_piece (shown.immediate imm)) (number_is (number_of (shown.immediate imm)) (signed imm) && word_is (immediate_at (signed imm)) imm) good in
+    let piece : is_piece (shown.immediate imm) ≡ true = (and_parts (is_piece (shown.immediate imm)) (number_is (number_of (shown.immediate imm)) (signed imm) && word_is (immediate_at (signed imm)) imm) good).0 in
+    let rest : (number_is (number_of (shown.immediate imm)) (signed imm) && word_is (immediate_at (signed imm)) imm) ≡ true = (and_parts (is_piece (shown.immediate imm)) (number_is (number_of (shown.immediate imm)) (signed imm) && word_is (immediate_at (signed imm)) imm) good).1 in
     record {
       piece = piece_of (shown.immediate imm) piece;
       plain = plain_of (shown.immediate imm) piece;
-      value = number_some (number_of (shown.immediate imm)) (signed imm) (and_left (number_is (number_of (shown.immediate imm)) (signed imm)) (word_is (immediate_at (signed imm)) imm) rest);
-      back = word_ok (immediate_at (signed imm)) imm (and_right (number_is (number_of (shown.immediate imm)) (signed imm)) (word_is (immediate_at (signed imm)) imm) rest);
+      value = number_some (number_of (shown.immediate imm)) (signed imm) (and_parts (number_is (number_of (shown.immediate imm)) (signed imm)) (word_is (immediate_at (signed imm)) imm) rest).0;
+      back = word_ok (immediate_at (signed imm)) imm (and_parts (number_is (number_of (shown.immediate imm)) (signed imm)) (word_is (immediate_at (signed imm)) imm) rest).1;
     }
 
 pub immediate : (imm bits : ℕ) → bits < 2 ^ 12 → imm ≡ sign_extended 12 bits → Immediate imm
 immediate imm bits fits is =
-    immediate_tested imm (ap good_immediate is ∙ below (λ n. good_immediate (sign_extended 12 n)) 4096 bits good_immediates fits)
+    immediate_tested imm (ap good_immediate is ∙ agree_below_at (λ n. good_immediate (sign_extended 12 n)) (λ n. true) 4096 bits good_immediates fits)
 
 -- ---- amounts of shifts
 
@@ -147,18 +137,18 @@ pub record Amount (count : ℕ) : Type 0 where
 abbrev good_amount : ℕ → Bool
 good_amount count = is_piece (shown.amount count) && (number_is (number_of (shown.amount count)) (pos count) && word_is (amount_at (pos count)) count)
 
-good_amounts : holds_below good_amount 32 ≡ true
+good_amounts : agree_below good_amount (λ n. true) 32 ≡ true
 unfolding digits number_of unsigned_of numeral within
 good_amounts = refl
 
 pub amount : (count : ℕ) → count < 2 ^ 5 → Amount count
 amount count fits =
-    let good : good_amount count ≡ true = below good_amount 32 count good_amounts fits in
-    let rest : (number_is (number_of (shown.amount count)) (pos count) && word_is (amount_at (pos count)) count) ≡ true = and_right (is_piece (shown.amount count)) (number_is (number_of (shown.amount count)) (pos count) && word_is (amount_at (pos count)) count) good in
+    let good : good_amount count ≡ true = agree_below_at good_amount (λ n. true) 32 count good_amounts fits in
+    let rest : (number_is (number_of (shown.amount count)) (pos count) && word_is (amount_at (pos count)) count) ≡ true = (and_parts (is_piece (shown.amount count)) (number_is (number_of (shown.amount count)) (pos count) && word_is (amount_at (pos count)) count) good).1 in
     record {
-      piece = piece_of (shown.amount count) (and_left (is_piece (shown.amount count)) (number_is (number_of (shown.amount count)) (pos count) && word_is (amount_at (pos count)) count) good);
-      value = number_some (number_of (shown.amount count)) (pos count) (and_left (number_is (number_of (shown.amount count)) (pos count)) (word_is (amount_at (pos count)) count) rest);
-      back = word_ok (amount_at (pos count)) count (and_right (number_is (number_of (shown.amount count)) (pos count)) (word_is (amount_at (pos count)) count) rest);
+      piece = piece_of (shown.amount count) (and_parts (is_piece (shown.amount count)) (number_is (number_of (shown.amount count)) (pos count) && word_is (amount_at (pos count)) count) good).0;
+      value = number_some (number_of (shown.amount count)) (pos count) (and_parts (number_is (number_of (shown.amount count)) (pos count)) (word_is (amount_at (pos count)) count) rest).0;
+      back = word_ok (amount_at (pos count)) count (and_parts (number_is (number_of (shown.amount count)) (pos count)) (word_is (amount_at (pos count)) count) rest).1;
     }
 
 -- ---- hexadecimal digits
@@ -166,24 +156,24 @@ amount count fits =
 abbrev good_digit : ℕ → Bool
 good_digit d = is_solid (hex_digit d) && (is_digit (hex_digit d) 16 && (digit_value (hex_digit d) == d))
 
-good_digits : holds_below good_digit 16 ≡ true
+good_digits : agree_below good_digit (λ n. true) 16 ≡ true
 good_digits = refl
 
 digit_here : (word k : ℕ) → good_digit (word / 2 ^ (28 - 4 * k) % 16) ≡ true
-digit_here word k = below good_digit 16 (word / 2 ^ (28 - 4 * k) % 16) good_digits (omega arith)
+digit_here word k = agree_below_at good_digit (λ n. true) 16 (word / 2 ^ (28 - 4 * k) % 16) good_digits (omega arith)
 
 solid_digit : (d : ℕ) → good_digit d ≡ true → is_solid (hex_digit d) ≡ true
-solid_digit d good = and_left (is_solid (hex_digit d)) (is_digit (hex_digit d) 16 && (digit_value (hex_digit d) == d)) good
+solid_digit d good = (and_parts (is_solid (hex_digit d)) (is_digit (hex_digit d) 16 && (digit_value (hex_digit d) == d)) good).0
 
 digit_digit : (d : ℕ) → good_digit d ≡ true → is_digit (hex_digit d) 16 ≡ true
-digit_digit d good = and_left (is_digit (hex_digit d) 16) (digit_value (hex_digit d) == d) (and_right (is_solid (hex_digit d)) (is_digit (hex_digit d) 16 && (digit_value (hex_digit d) == d)) good)
+digit_digit d good = (and_parts (is_digit (hex_digit d) 16) (digit_value (hex_digit d) == d) (and_parts (is_solid (hex_digit d)) (is_digit (hex_digit d) 16 && (digit_value (hex_digit d) == d)) good).1).0
 
 value_digit : (d : ℕ) → good_digit d ≡ true → digit_value (hex_digit d) ≡ d
-value_digit d good = eqb-true (digit_value (hex_digit d)) d (and_right (is_digit (hex_digit d) 16) (digit_value (hex_digit d) == d) (and_right (is_solid (hex_digit d)) (is_digit (hex_digit d) 16 && (digit_value (hex_digit d) == d)) good))
+value_digit d good = eqb-true (digit_value (hex_digit d)) d (and_parts (is_digit (hex_digit d) 16) (digit_value (hex_digit d) == d) (and_parts (is_solid (hex_digit d)) (is_digit (hex_digit d) 16 && (digit_value (hex_digit d) == d)) good).1).1
 
 everywhere : (p : ℕ → Bool) → ((k : ℕ) → p k ≡ true) → (ks : List ℕ) → list_all p ks ≡ true
 everywhere p each [] = refl
-everywhere p each (k ∷ ks) = both (p k) (list_all p ks) (each k) (everywhere p each ks)
+everywhere p each (k ∷ ks) = and_from (p k) (list_all p ks) (each k) (everywhere p each ks)
 
 solid_digits : (word count : ℕ) → list_all is_solid (first_digits word count) ≡ true
 solid_digits word count =
@@ -266,15 +256,6 @@ branch_even bits fits even =
     cond_both (ltb (bits % 2 ^ 13) (2 ^ 12)) (bits % 2 ^ 13) (2 ^ 32 - 2 ^ 13 + bits % 2 ^ 13) (λ m. (m < 2 ^ 32) × (m % 2 ≡ 0))
     (λ e. (omega arith, omega arith)) (λ e. (omega arith, omega arith))
 
-branch_test : (w : ℕ) → (w ≤ 4094) ⊎ (2 ^ 32 ≤ w + 4096) → w < 2 ^ 32 → w % 2 ≡ 0 → (is_within (neg_ℤ (pos 4096)) (pos 4094) (signed w) && (w % 2 == 0)) ≡ true
-branch_test w near fits even =
-    signed_by (λ z. (is_within (neg_ℤ (pos 4096)) (pos 4094) z && (w % 2 == 0)) ≡ true) w
-    (λ low. grind (arith, nat_tests)) (λ high. grind (arith, nat_tests))
-
-branch_within : (w : ℕ) → (w ≤ 4094) ⊎ (2 ^ 32 ≤ w + 4096) → w < 2 ^ 32 → w % 2 ≡ 0 → even_within (neg_ℤ (pos 4096)) (pos 4094) w ≡ Ok w
-unfolding even_within
-branch_within w near fits even = rw (branch_test w near fits even) refl
-
 branch_kept : (pc offset : ℕ) → pc < 2 ^ 32 → (offset ≤ 4094) ⊎ (2 ^ 32 ≤ offset + 4096) → (offset < 2 ^ 32) × (offset % 2 ≡ 0) → branch_offset pc ((pc + offset) % 2 ^ 32) ≡ Ok offset
 branch_kept pc offset pc_fits near fits =
     ap (λ (w : ℕ). even_within (neg_ℤ (pos 4096)) (pos 4094) w) (distance_is pc offset pc_fits fits.0) ∙ branch_within offset near fits.0 fits.1
@@ -293,15 +274,6 @@ jump_even : (bits : ℕ) → bits < 2 ^ 21 → bits % 2 ≡ 0 → (sign_extended
 jump_even bits fits even =
     cond_both (ltb (bits % 2 ^ 21) (2 ^ 20)) (bits % 2 ^ 21) (2 ^ 32 - 2 ^ 21 + bits % 2 ^ 21) (λ m. (m < 2 ^ 32) × (m % 2 ≡ 0))
     (λ e. (omega arith, omega arith)) (λ e. (omega arith, omega arith))
-
-jump_test : (w : ℕ) → (w ≤ 1048574) ⊎ (2 ^ 32 ≤ w + 1048576) → w < 2 ^ 32 → w % 2 ≡ 0 → (is_within (neg_ℤ (pos 1048576)) (pos 1048574) (signed w) && (w % 2 == 0)) ≡ true
-jump_test w near fits even =
-    signed_by (λ z. (is_within (neg_ℤ (pos 1048576)) (pos 1048574) z && (w % 2 == 0)) ≡ true) w
-    (λ low. grind (arith, nat_tests)) (λ high. grind (arith, nat_tests))
-
-jump_within : (w : ℕ) → (w ≤ 1048574) ⊎ (2 ^ 32 ≤ w + 1048576) → w < 2 ^ 32 → w % 2 ≡ 0 → even_within (neg_ℤ (pos 1048576)) (pos 1048574) w ≡ Ok w
-unfolding even_within
-jump_within w near fits even = rw (jump_test w near fits even) refl
 
 jump_kept : (pc offset : ℕ) → pc < 2 ^ 32 → (offset ≤ 1048574) ⊎ (2 ^ 32 ≤ offset + 1048576) → (offset < 2 ^ 32) × (offset % 2 ≡ 0) → jump_offset pc ((pc + offset) % 2 ^ 32) ≡ Ok offset
 jump_kept pc offset pc_fits near fits =

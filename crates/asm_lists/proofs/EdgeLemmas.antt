@@ -1,6 +1,5 @@
 -- The order of pairs, and of edges made of them.
 use Rattle.std.proofs.Common.{◌≡◌, ℕ, ◌≤◌, Bool, true, ◌==◌, ◌&&◌, List, [], ◌∷◌, length, map, take, Some, None, Contains, refl, ap, ◌∙◌, arith}
-use Rattle.std.specs.declared.cmp.Ordering.{Ordering}
 use Rattle.std.specs.declared.cmp.Ordering.TheVariants.{Less}
 use Rattle.std.proofs.lemmas.Bool.Decides.{nat_tests}
 use Rattle.std.proofs.lemmas.Cmp.{nat_cmp_total, nat_eq_equiv, and_equiv, on_equiv, on_total, then_total}
@@ -10,14 +9,10 @@ use Rattle.std.proofs.lemmas.List.Folds.{list_all-append}
 use Rattle.std.specs.Cmp.{IsEquivalence, IsTotalOrder}
 use Rattle.std.specs.List.{list_all}
 use Rattle.std.specs.List.Sorted.{IsStrictlySortedBy}
-use Rattle.std.specs.Ordering.{nat_cmp, ordering_then, eq_by_cmp}
+use Rattle.std.specs.Ordering.{eq_by_cmp}
 use Rattle.image_format.specs.Conditions.{are_rows, is_edge, is_edge_after, whole}
 use Rattle.image_format.specs.declared.rows.Edge.{Edge}
-use Rattle.asm_lists.specs.Edges.{edge_of, pair_of}
-
--- the first number decides, then the second
-abbrev pub pair_cmp : ℕ × ℕ → ℕ × ℕ → Ordering
-pair_cmp a b = ordering_then (nat_cmp a.0 b.0) (nat_cmp a.1 b.1)
+use Rattle.asm_lists.specs.Edges.{edge_of, pair_cmp, pair_of}
 
 abbrev pub pair_eq : ℕ × ℕ → ℕ × ℕ → Bool
 pair_eq a b = a.0 == b.0 && a.1 == b.1

@@ -10,7 +10,8 @@ use Rattle.asm_read.specs.declared.errors.AsmErrorKind.{AsmErrorKind}
 use Rattle.asm_read.specs.declared.errors.AsmErrorKind.TheVariants as kinds
 use Rattle.asm_read.specs.declared.statements.Line.{Line}
 use Rattle.asm_read.specs.Source.{at_line}
-use Rattle.asm_read.specs.Steps.{◌>>=◌, demand}
+use Rattle.asm_read.proofs.LineLemmas.{of_line}
+use Rattle.shared_terms.specs.Steps.{◌>>=◌, demand}
 use Rattle.asm_places.specs.Counts.{count_in}
 use Rattle.asm_places.specs.Places.{IsReached, goes_back, is_reached, place_after_line, next_place, origin_in, places_from}
 use Rattle.asm_places.specs.Seen.{is_again, is_named}
@@ -102,17 +103,13 @@ demanded false true c r behind is = refused kinds.Order behind is
 demanded false false true r behind is = refused kinds.Order behind is
 demanded false false false r behind is = is
 
-at_line_ok : (number : ℕ) (r : Result ℕ AsmErrorKind) (behind : ℕ) → at_line number r ≡ Ok behind → r ≡ Ok behind
-at_line_ok number (Ok n) behind is = let same : n ≡ behind = cc in ap (λ (m : ℕ). Ok m) same
-at_line_ok number (Err kind) behind is = refused _ behind is
-
 -- the place behind a line is reached from its own
 pub next-reached : (ram : ℕ) (before : List Line) (place : ℕ) (line : Line) (behind : ℕ) → IsReached ram place → at_line line.number (next_place ram before place line) ≡ Ok behind → IsReached ram behind
 unfolding next_place
 next-reached ram before place line behind here is =
     moved-reached ram place (origin_in line.statement) (count_in line.statement) behind here
     (demanded (is_named line.label before) (is_again line.statement before) (goes_back place line.statement) (ok_or (place_after_line ram place (origin_in line.statement) (count_in line.statement)) kinds.Range) behind
-    (at_line_ok line.number (next_place ram before place line) behind is))
+    (of_line line.number (next_place ram before place line) behind is))
 
 pub zero_reached : (ram : ℕ) → IsReached ram 0
 zero_reached ram = record { aligned = refl; inside = omega arith }

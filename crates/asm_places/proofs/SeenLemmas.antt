@@ -6,6 +6,7 @@ use Rattle.std.specs.Cmp.Lexicographic.{nat_list_cmp_total}
 use Rattle.std.specs.FinMap.{get, get-insert}
 use Rattle.std.specs.List.{list_any}
 use Rattle.std.specs.Ordering.{int_cmp}
+use Rattle.std.proofs.lemmas.Bool.{or_right}
 use Rattle.std.proofs.lemmas.Map.Text.{is_eq-slice_cmp}
 use Rattle.asm_names.specs.Places.{Places}
 use Rattle.asm_read.specs.declared.statements.Line.{Line}
@@ -13,7 +14,7 @@ use Rattle.asm_places.specs.declared.seen.Seen.{Seen}
 use Rattle.asm_places.specs.Names.{names_with_label}
 use Rattle.asm_places.specs.Seen.{IsSeen, enters, is_label, sets_heap}
 use Rattle.asm_places.specs.Sizes.{harts_in, ram_in}
-use Rattle.asm_places.proofs.BooleanLemmas.{any_more, or_false, or_true}
+use Rattle.asm_places.proofs.BooleanLemmas.{any_more, or_false}
 
 -- a label stands for its place, and the other names as before
 pub get-labelled : (names : Places) (label : Option (List ℕ)) (place : ℕ) (name : List ℕ)
@@ -23,7 +24,7 @@ get-labelled names (Some label) place name =
     get-insert nat_list_cmp_total names label place name ∙ ap (λ b. cond b (Some place) (get names name)) (is_eq-slice_cmp name label)
 
 some_cond : (t : Bool) (place : ℕ) (was : Option ℕ) → is_some (cond t (Some place) was) ≡ (is_some was || t)
-some_cond true place was = sym (or_true (is_some was))
+some_cond true place was = sym (or_right (is_some was) true refl)
 some_cond false place was = sym (or_false (is_some was))
 
 has-labelled : (names : Places) (label : Option (List ℕ)) (place : ℕ) (name : List ℕ)

@@ -2,7 +2,7 @@
 use Rattle.std.specs.Prelude.{ℕ, List, [], Result, Ok}
 use Rattle.asm_read.specs.declared.errors.AsmError.{AsmError}
 use Rattle.asm_read.specs.declared.statements.Line.{Line}
-use Rattle.asm_read.specs.Steps.{◌>>=◌}
+use Rattle.shared_terms.specs.Steps.{◌>>=◌}
 use Rattle.asm_places.specs.declared.layout.Layout as declared
 use Rattle.asm_places.specs.Places.{places_from}
 use Rattle.asm_places.specs.Sizes.{harts_of, ram_of}

@@ -9,7 +9,7 @@ use Rattle.asm_read.specs.declared.statements.Line.{Line}
 use Rattle.asm_read.specs.declared.statements.Statement.{Statement}
 use Rattle.asm_read.specs.declared.statements.Statement.TheVariants as statements
 use Rattle.asm_read.specs.Source.{at_line}
-use Rattle.asm_read.specs.Steps.{◌>>=◌, demand}
+use Rattle.shared_terms.specs.Steps.{◌>>=◌, demand}
 use Rattle.asm_places.specs.Counts.{count_in}
 use Rattle.asm_places.specs.Seen.{is_again, is_named}
 use Rattle.asm_places.specs.Sizes.{natural_where}

@@ -11,7 +11,7 @@ use Rattle.asm_read.specs.declared.statements.Line.{Line}
 use Rattle.asm_read.specs.Lines.{line_of}
 use Rattle.asm_read.specs.Operands.{Text}
 use Rattle.asm_read.specs.Source.{at_line, lines_of, line_if_said, source_of}
-use Rattle.asm_read.specs.Steps.{◌>>=◌}
+use Rattle.shared_terms.specs.Steps.{◌>>=◌}
 
 -- ---- one line
 

@@ -6,7 +6,7 @@ use Rattle.asm_text.specs.Cuts.{after, before}
 use Rattle.asm_read.specs.declared.errors.AsmErrorKind.{AsmErrorKind}
 use Rattle.asm_read.specs.declared.errors.AsmErrorKind.TheVariants as kinds
 use Rattle.asm_read.specs.Operands.{Text, two_operands}
-use Rattle.asm_read.specs.Steps.{◌>>=◌, demand}
+use Rattle.shared_terms.specs.Steps.{◌>>=◌, demand}
 use Rattle.asm_read.specs.Values.{number_at, register_at}
 
 abbrev pub opening : ℕ

@@ -6,7 +6,7 @@ use Rattle.asm_read.specs.declared.errors.AsmErrorKind.{AsmErrorKind}
 use Rattle.asm_read.specs.declared.statements.Statement.{Statement}
 use Rattle.asm_read.specs.declared.statements.Statement.TheVariants as statements
 use Rattle.asm_read.specs.Operands.{Text, no_operand, one_operand, three_operands, two_operands}
-use Rattle.asm_read.specs.Steps.{◌>>=◌}
+use Rattle.shared_terms.specs.Steps.{◌>>=◌}
 use Rattle.asm_read.specs.Values.{number_at, target_at}
 
 unfoldable pub one_number : Text → Result ℤ AsmErrorKind

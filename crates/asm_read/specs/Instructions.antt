@@ -12,7 +12,7 @@ use Rattle.asm_read.specs.declared.statements.Statement.{Statement}
 use Rattle.asm_read.specs.declared.statements.Statement.TheVariants as statements
 use Rattle.asm_read.specs.Addresses.{access}
 use Rattle.asm_read.specs.Operands.{Text, three_operands, two_operands}
-use Rattle.asm_read.specs.Steps.{◌>>=◌}
+use Rattle.shared_terms.specs.Steps.{◌>>=◌}
 use Rattle.asm_read.specs.Values.{number_at, register_at, target_at}
 
 -- `add rd, rs1, rs2` and its like

@@ -5,5 +5,4 @@ pub mod Lines
 pub mod Operands
 pub mod Pseudo
 pub mod Source
-pub mod Steps
 pub mod Values

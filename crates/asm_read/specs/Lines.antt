@@ -16,7 +16,7 @@ use Rattle.asm_read.specs.Directives.{alone, directive_of}
 use Rattle.asm_read.specs.Instructions.{branch, immediate, jump, jump_register, load, registers, shift, store, upper}
 use Rattle.asm_read.specs.Operands.{Text}
 use Rattle.asm_read.specs.Pseudo.{jump_alone, load_address, load_number, move_register, no_operation, return_jump}
-use Rattle.asm_read.specs.Steps.{◌>>=◌, demand}
+use Rattle.shared_terms.specs.Steps.{◌>>=◌, demand}
 
 -- the statement of the form, by the text behind its first word
 unfoldable pub statement_of : Form → Text → Result Statement AsmErrorKind

@@ -3,7 +3,7 @@ use Rattle.std.specs.Prelude.{ℕ, List, [], ◌∷◌, Option, Some, None, Resu
 use Rattle.asm_text.specs.Cuts.{after, before, without_blanks}
 use Rattle.asm_read.specs.declared.errors.AsmErrorKind.{AsmErrorKind}
 use Rattle.asm_read.specs.declared.errors.AsmErrorKind.TheVariants as kinds
-use Rattle.asm_read.specs.Steps.{◌>>=◌}
+use Rattle.shared_terms.specs.Steps.{◌>>=◌}
 
 -- the bytes of a line or of a part of it
 abbrev pub Text : Type 0

@@ -8,7 +8,7 @@ use Rattle.asm_read.specs.declared.errors.AsmErrorKind.{AsmErrorKind}
 use Rattle.asm_read.specs.declared.statements.Line.{Line}
 use Rattle.asm_read.specs.Lines.{line_of}
 use Rattle.asm_read.specs.Operands.{Text}
-use Rattle.asm_read.specs.Steps.{◌>>=◌}
+use Rattle.shared_terms.specs.Steps.{◌>>=◌}
 
 -- an error of a line is told with the line's number
 abbrev pub at_line : {A : Type 0} → ℕ → Result A AsmErrorKind → Result A AsmError

@@ -3,7 +3,7 @@
 ghost use Rattle.std.specs.Prelude.{◌≡◌};
 ghost use Rattle.std.specs.List.{list_all};
 ghost use Rattle.asm_read.specs.Addresses.{access, is_plain, parts_at};
-ghost use Rattle.asm_read.specs.Steps.{result_view};
+ghost use Rattle.shared_terms.specs.Steps.{result_view};
 
 use crate::errors::AsmErrorKind;
 use crate::operands::two_operands;

@@ -2,7 +2,7 @@
 
 ghost use Rattle.std.specs.Prelude.{◌≡◌};
 ghost use Rattle.asm_read.specs.Lines.{form_at, label_in, line_of, statement_in, statement_of, unknown};
-ghost use Rattle.asm_read.specs.Steps.{result_view};
+ghost use Rattle.shared_terms.specs.Steps.{result_view};
 
 use crate::directives::directive_of;
 use crate::errors::AsmErrorKind;

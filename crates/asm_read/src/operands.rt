@@ -3,7 +3,7 @@
 ghost use Rattle.std.specs.Prelude.{◌≡◌};
 ghost use Rattle.std.specs.Option.{option_copied};
 ghost use Rattle.asm_read.specs.Operands.{next_operand, no_more, no_operand, one_operand, three_operands, two_operands};
-ghost use Rattle.asm_read.specs.Steps.{result_view};
+ghost use Rattle.shared_terms.specs.Steps.{result_view};
 
 use crate::errors::AsmErrorKind;
 use asm_text::{cut, trim};

@@ -6,7 +6,7 @@ use Rattle.rv_decode.specs.declared.instructions.Instr.TheVariants.{Lui, Jal, Ja
 use Rattle.asm_read.specs.declared.errors.AsmErrorKind.{AsmErrorKind}
 use Rattle.asm_read.specs.declared.errors.AsmErrorKind.TheVariants as kinds
 use Rattle.asm_read.specs.declared.statements.Statement.TheVariants as statements
-use Rattle.asm_read.specs.Steps.{◌>>=◌}
+use Rattle.shared_terms.specs.Steps.{◌>>=◌}
 use Rattle.asm_words.specs.declared.emissions.Emission.{Emission}
 use Rattle.asm_words.specs.declared.emissions.Emission.TheVariants as emissions
 use Rattle.asm_words.specs.Emission.{address_of, both_parts, branch, count_of, emission_of, fence, immediate, jump, jump_register, load, load_address, load_number, load_word, one, shift, store, upper, word, word_load_count, words_of, zero_count, zeros}

@@ -1,3 +1,4 @@
 pub mod CountLemmas
 pub mod EncodingLemmas
+pub mod OffsetLemmas
 pub mod RangeLemmas

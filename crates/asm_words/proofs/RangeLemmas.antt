@@ -3,7 +3,7 @@ use Rattle.std.proofs.Common.{◌≡◌, ℕ, ◌+◌, ◌-◌, ◌%◌, ◌^◌
 use Rattle.std.proofs.Common.{leb, ltb}
 use Rattle.std.specs.Prelude.{◌==◌, ◌&&◌, ℤ, pos, negsuc, neg_ℤ, Option, Some, None, SomeIff, Result, Ok, Err, if◌then◌else◌}
 use Rattle.std.specs.Option.{ok_or}
-use Rattle.std.proofs.lemmas.Bool.{cond_both}
+use Rattle.std.proofs.lemmas.Bool.{cond_both, false_from_ne_true}
 use Rattle.std.proofs.lemmas.Bool.Decides.{nat_tests}
 use Rattle.pump_words.specs.Words.{sign_extended, signed}
 use Rattle.asm_read.specs.declared.errors.AsmErrorKind.{AsmErrorKind}
@@ -50,10 +50,6 @@ upper_kept (negsuc m) w is = absurd cc
 
 -- ---- words as signed numbers
 
-is_false : {P : Type 0} (t : Bool) → (t ≡ true → P) → ¬ P → t ≡ false
-is_false true h isnt = absurd (isnt (h refl))
-is_false false h isnt = refl
-
 -- what holds of a word's signed number, by cases on its sign
 pub signed_by : (P : ℤ → Type 0) (w : ℕ) → (w < 2 ^ 31 → P (pos w)) → (2 ^ 31 ≤ w → P (negsuc (2 ^ 32 - suc w))) → P (signed w)
 signed_by P w low high = go (ltb w (2 ^ 31)) refl
@@ -80,7 +76,7 @@ jump_test w fits =
 -- two tests decide two facts
 decide : (w s : ℕ) (o : Option ℕ) → SomeIff o ((w ≡ s) × (w % 2 ≡ 0)) w → o ≡ (if w == s && (w % 2 == 0) then Some w else None)
 decide w s None isnt =
-    let no : (w == s && (w % 2 == 0)) ≡ false = is_false {P = (w ≡ s) × (w % 2 ≡ 0)} _ (λ e. (grind (arith, nat_tests, e), grind (arith, nat_tests, e))) isnt in
+    let no : (w == s && (w % 2 == 0)) ≡ false = false_from_ne_true _ (λ e. isnt (grind (arith, nat_tests, e), grind (arith, nat_tests, e))) in
     rw no refl
 decide w s (Some x) is =
     let same : w ≡ s = is.0.0 in
@@ -104,7 +100,7 @@ jump_kept w o fits is = rw (decide w (sign_extended 21 w) o is, ← jump_test w 
 
 pub short_kept : (w : ℕ) (o : Option ℕ) → w < 2 ^ 32 → SomeIff o (w ≡ sign_extended 12 w) w → o ≡ (if is_short w then Some w else None)
 short_kept w None fits isnt =
-    let no : (w == sign_extended 12 w) ≡ false = is_false {P = w ≡ sign_extended 12 w} _ (λ e. grind (arith, nat_tests, e)) isnt in
+    let no : (w == sign_extended 12 w) ≡ false = false_from_ne_true _ (λ e. isnt (grind (arith, nat_tests, e))) in
     rw (short_test w fits, no) refl
 short_kept w (Some x) fits is =
     let same : w ≡ sign_extended 12 w = is.0 in

@@ -15,7 +15,7 @@ use Rattle.asm_read.specs.declared.statements.Statement.{Statement}
 use Rattle.asm_read.specs.declared.statements.Statement.TheVariants as statements
 use Rattle.asm_read.specs.declared.statements.Target.{Target}
 use Rattle.asm_read.specs.declared.statements.Target.TheVariants as targets
-use Rattle.asm_read.specs.Steps.{◌>>=◌, result_view}
+use Rattle.shared_terms.specs.Steps.{◌>>=◌, result_view}
 use Rattle.asm_words.specs.declared.emissions.Emission.{Emission}
 use Rattle.asm_words.specs.declared.emissions.Emission.TheVariants as emissions
 use Rattle.asm_words.specs.Encoding.{word_of_instr}

@@ -4,7 +4,7 @@ use Rattle.std.specs.Int.{int_rem_euclid}
 use Rattle.pump_words.specs.Words.{signed}
 use Rattle.asm_read.specs.declared.errors.AsmErrorKind.{AsmErrorKind}
 use Rattle.asm_read.specs.declared.errors.AsmErrorKind.TheVariants as kinds
-use Rattle.asm_read.specs.Steps.{result_view}
+use Rattle.shared_terms.specs.Steps.{result_view}
 
 -- the word that is the number modulo 2 ^ 32
 abbrev pub word_modulo : ℤ → ℕ

@@ -1,12 +1,13 @@
 -- What an instruction stores: in a word of memory, whose tag the rule was asked with, and which stays if the rule leaves it.
-use Rattle.std.proofs.Common.{◌≡◌, ℕ, ◌/◌, ◌<◌, ◌≤◌, Bool, true, false, length, Some, refl, sym, ap, ◌∙◌, subst, arith}
+use Rattle.std.proofs.Common.{◌≡◌, ℕ, ◌/◌, ◌<◌, Bool, true, false, length, Some, refl, sym, ap, ◌∙◌, subst, arith}
 use Rattle.std.proofs.lemmas.List.{length-set, set-get_or}
+use Rattle.std.proofs.lemmas.Option.{same_Some}
 use Rattle.std.specs.Prelude.{slice_set}
 use Rattle.rv_step.specs.Accesses.{EndsWithin, bytes_of}
 use Rattle.rv_step.specs.declared.accesses.Access.{Access}
 use Rattle.rv_step.specs.declared.accesses.Access.TheVariants as access
 use Rattle.rv_step.specs.declared.accesses.Width.{Width}
-use Rattle.rv_step.specs.declared.accesses.Width.TheVariants.{Byte, Full, Half}
+use Rattle.rv_step.specs.declared.accesses.Width.TheVariants.{Full}
 use Rattle.tag_memory.specs.Hart.{HartState, reg_value}
 use Rattle.tag_memory.specs.Ram.{RamState, ram_bytes, ram_tag}
 use Rattle.turn_steps.specs.Effects.{with_store}
@@ -14,6 +15,7 @@ use Rattle.turn_steps.specs.declared.look.Look.{Look}
 use Rattle.engine_trait.specs.Events.{Touch, touch_of}
 use Rattle.compartment_policy.specs.Compartments.{is_store}
 use Rattle.part_turns.specs.Turns.{Does, computes, loads, loads_part, moves, stores, stores_part}
+use Rattle.part_turns.proofs.PlaceLemmas.{some_bytes}
 
 -- ---- tags
 
@@ -57,14 +59,6 @@ pub record Stores {T : Type 0} (ram : RamState T) (look : Look T) (touch : Touch
   pub tag : look.inputs.tm ≡ ram_tag ram touch.address
   pub within : touch.address / 4 < length ram.words
 
-some_bytes : (width : Width) → 1 ≤ bytes_of width
-some_bytes Byte = omega arith
-some_bytes Half = omega arith
-some_bytes Full = omega arith
-
-same_touch : (x y : Touch) → Some x ≡ Some y → x ≡ y
-same_touch x y e = cc
-
 module _ {T : Type 0} (hart : HartState T) (ram : RamState T) (look : Look T) (register value : ℕ) (touch : Touch) where
   abbrev StoresBy : Access → Type 0
   StoresBy access = EndsWithin (ram_bytes ram) access → touch_of access ≡ Some touch → touch.stores ≡ true → Stores ram look touch
@@ -74,13 +68,13 @@ module _ {T : Type 0} (hart : HartState T) (ram : RamState T) (look : Look T) (r
 
   only_loads : (place : ℕ) (width : Width) (signed : Bool) → StoresBy (access.Load place width signed)
   only_loads place width signed ends e storing =
-      let not_storing = ap (λ (x : Touch). x.stores) (same_touch (record { address = place; bytes = bytes_of width; stores = false }) touch e) in
+      let not_storing = ap (λ (x : Touch). x.stores) (same_Some (record { address = place; bytes = bytes_of width; stores = false }) touch e) in
       absurd cc
 
   storing_at : (place : ℕ) (width : Width) (stored : ℕ) → is_store look.group ≡ true → look.inputs.tm ≡ ram_tag ram place
       → StoresBy (access.Store place width stored)
   storing_at place width stored is tag ends e storing =
-      let same = same_touch (record { address = place; bytes = bytes_of width; stores = true }) touch e in
+      let same = same_Some (record { address = place; bytes = bytes_of width; stores = true }) touch e in
       let address : place ≡ touch.address = ap (λ (x : Touch). x.address) same in
       record {
         is_storing = is;

@@ -1,14 +1,12 @@
 -- What a service makes of a word's tag is what the owner book makes of the word.
-use Rattle.std.proofs.Common.{◌≡◌, ℕ, ◌+◌, ◌<◌, ◌==◌, Bool, true, false, ◌||◌, Option, None, Result, Ok, Err, refl, sym, ap, ◌∙◌, subst, arith, if◌then◌else◌, nat_lt}
+use Rattle.std.proofs.Common.{◌≡◌, ℕ, ◌+◌, ◌<◌, ◌==◌, Bool, true, false, ◌||◌, Option, None, Ok, Err, refl, sym, ap, ◌∙◌, subst, arith, if◌then◌else◌, nat_lt}
 use Rattle.std.proofs.lemmas.Bool.{eqb-true}
 use Rattle.policy_trait.specs.Sets.{set_of, set_with}
-use Rattle.policy_trait.specs.declared.rules.Refused.{Refused}
 use Rattle.policy_trait.specs.declared.rules.Why.{Why}
 use Rattle.policy_trait.specs.declared.rules.Why.TheVariants as why
 use Rattle.policy_trait.specs.declared.services.Answer.{Answer}
 use Rattle.policy_trait.specs.declared.services.Args.{Args}
 use Rattle.policy_trait.specs.declared.services.Plan.{Plan}
-use Rattle.policy_trait.specs.declared.services.PlanEnd.{PlanEnd}
 use Rattle.policy_trait.specs.declared.services.PlanEnd.TheVariants as plan_end
 use Rattle.compartment_policy.specs.Compartments.{compartment_knows, compartment_limit, compartment_plan, compartments, given_by, is_range, is_writer, let_plan, letting, refused_for, refused_plan, new_place, split_plan, splitting, words_of}
 use Rattle.compartment_policy.specs.declared.tag.CompartmentTag.{CompartmentTag}
@@ -16,16 +14,11 @@ use Rattle.compartment_policy.specs.declared.tag.CompartmentTag.TheVariants.{Pc,
 use Rattle.policy_product.specs.Both.{tag_beside}
 use Rattle.policy_parts.specs.Part.{Planned, value_after, others, own, word_tag}
 use Rattle.part_turns.specs.Moments.{Service}
+use Rattle.shared_terms.proofs.StepLemmas.{ok_is}
 use Rattle.comp_runs.specs.CompLine.{place_of}
 use Rattle.comp_runs.specs.OwnerBook.{Owned, owned_after, split_off}
 
 -- ---- the policy's own plans
-
-abbrev planning : Plan CompartmentTag → Result (Plan CompartmentTag) PlanEnd
-planning plan = Ok plan
-
-same_plan : (x y : Plan CompartmentTag) → planning x ≡ planning y → x ≡ y
-same_plan x y e = cc
 
 -- words are split off as the compartment of the number `count`, or a2 is let into words or let write them
 data IsOwn (count number : ℕ) (a : Args CompartmentTag) (pc : CompartmentTag) (p : Plan CompartmentTag) : Type 0 where
@@ -36,14 +29,14 @@ module _ (count number : ℕ) (a : Args CompartmentTag) (pc : CompartmentTag) (p
   split_by : (fits few : Bool) → (number == 32) ≡ true
       → (if fits then (if few then Ok (splitting count (words_of a) pc) else Err plan_end.Spent) else refused_plan why.Range) ≡ Ok p
       → IsOwn count number a pc p
-  split_by true true is e = splits is (sym (same_plan (splitting count (words_of a) pc) p e))
+  split_by true true is e = splits is (sym (ok_is (splitting count (words_of a) pc) p e))
   split_by true false is e = absurd cc
   split_by false few is e = absurd cc
 
   let_by : (fits known : Bool) → (number == 32) ≡ false
       → (if fits then (if known then Ok (letting number a.a2 (words_of a) pc) else refused_plan why.Args) else refused_plan why.Range) ≡ Ok p
       → IsOwn count number a pc p
-  let_by true true is e = lets is (sym (same_plan (letting number a.a2 (words_of a) pc) p e))
+  let_by true true is e = lets is (sym (ok_is (letting number a.a2 (words_of a) pc) p e))
   let_by true false is e = absurd cc
   let_by false known is e = absurd cc
 
@@ -61,12 +54,6 @@ module _ (count number : ℕ) (a : Args CompartmentTag) (pc : CompartmentTag) (p
 
 -- ---- a word of an own service's range
 
-abbrev tagging : CompartmentTag → Result CompartmentTag Refused
-tagging tag = Ok tag
-
-same_tag : (x y : CompartmentTag) → tagging x ≡ tagging y → x ≡ y
-same_tag x y e = cc
-
 -- a tag that a test allows
 record IsAllowed (test : Bool) (tag new : CompartmentTag) : Type 0 where
   allows : test ≡ true
@@ -74,7 +61,7 @@ record IsAllowed (test : Bool) (tag new : CompartmentTag) : Type 0 where
 
 allowed_tag : (test : Bool) (reason : Why) (tag new : CompartmentTag) → (if test then Ok tag else Err (refused_for reason)) ≡ Ok new
     → IsAllowed test tag new
-allowed_tag true reason tag new e = record { allows = refl; same = sym (same_tag tag new e) }
+allowed_tag true reason tag new e = record { allows = refl; same = sym (ok_is tag new e) }
 allowed_tag false reason tag new e = absurd cc
 
 given_tag : (number other : ℕ) (pc : CompartmentTag) (owned : Owned) (new : CompartmentTag) → new_place number other pc (place_of owned) ≡ Ok new
@@ -131,7 +118,7 @@ module _ (count number : ℕ) (a : Args CompartmentTag) (pc : CompartmentTag) (o
 
 -- a word is as before, whether it was zeroed or not
 kept_tag : (count : ℕ) (zeroed : Bool) (pc tag new : CompartmentTag) → tag_beside compartments count zeroed pc tag ≡ Ok new → new ≡ tag
-kept_tag count false pc tag new e = sym (same_tag tag new e)
+kept_tag count false pc tag new e = sym (ok_is tag new e)
 kept_tag count true pc tag new e = (allowed_tag (is_writer pc tag) why.Consent tag new e).same
 
 -- the book has no service with another number

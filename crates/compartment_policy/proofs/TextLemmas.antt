@@ -5,25 +5,21 @@ use Rattle.std.specs.Fmt.{decimal}
 use Rattle.std.proofs.lemmas.List.{append_cancel_left}
 use Rattle.pump_words.specs.TextLaws.{hex8_text_injective}
 use Rattle.pump_words.specs.Texts.{hex8_text}
+use Rattle.policy_trait.proofs.TextLemmas.{cut_number}
 use Rattle.policy_trait.specs.Sets.{set_of}
 use Rattle.policy_trait.specs.declared.sets.CompartmentSet.{CompartmentSet}
-use Rattle.compartment_policy.proofs.CutLemmas.{cut_number}
 use Rattle.compartment_policy.specs.Compartments.{IsOfWords, compartment_text}
 use Rattle.compartment_policy.specs.declared.tag.CompartmentTag.{CompartmentTag}
 use Rattle.compartment_policy.specs.declared.tag.CompartmentTag.TheVariants.{Plain, Pc, Place}
 
--- the text of an owner, and what follows the comma behind it
-owner_is : (m n : ℕ) (ys vs : List ℕ) → m < 2 ^ 32 → n < 2 ^ 32 → decimal m ++ 44 ∷ ys ≡ decimal n ++ 44 ∷ vs → (m ≡ n) × (ys ≡ vs)
-owner_is m n ys vs m_fits n_fits e = cut_number 44 m n ys vs (omega arith) (omega (arith, m_fits)) (omega (arith, n_fits)) e
-
 pc_apart : (m n : ℕ) (i j : Bool) → m < 2 ^ 32 → n < 2 ^ 32
     → decimal m ++ (if i then codes ",j)" else codes ",-)") ≡ decimal n ++ (if j then codes ",j)" else codes ",-)") → Pc m i ≡ Pc n j
-pc_apart m n true true m_fits n_fits e = ap (λ o. Pc o true) (owner_is m n (codes "j)") (codes "j)") m_fits n_fits e).0
-pc_apart m n false false m_fits n_fits e = ap (λ o. Pc o false) (owner_is m n (codes "-)") (codes "-)") m_fits n_fits e).0
+pc_apart m n true true m_fits n_fits e = ap (λ o. Pc o true) (cut_number m n (codes "j)") (codes "j)") m_fits n_fits e).0
+pc_apart m n false false m_fits n_fits e = ap (λ o. Pc o false) (cut_number m n (codes "-)") (codes "-)") m_fits n_fits e).0
 pc_apart m n true false m_fits n_fits e =
-    let h = ap (λ (l : List ℕ). get_or l 0 0) (owner_is m n (codes "j)") (codes "-)") m_fits n_fits e).1 in absurd (omega (arith, h))
+    let h = ap (λ (l : List ℕ). get_or l 0 0) (cut_number m n (codes "j)") (codes "-)") m_fits n_fits e).1 in absurd (omega (arith, h))
 pc_apart m n false true m_fits n_fits e =
-    let h = ap (λ (l : List ℕ). get_or l 0 0) (owner_is m n (codes "-)") (codes "j)") m_fits n_fits e).1 in absurd (omega (arith, h))
+    let h = ap (λ (l : List ℕ). get_or l 0 0) (cut_number m n (codes "-)") (codes "j)") m_fits n_fits e).1 in absurd (omega (arith, h))
 
 -- what follows an owner's comma: two sets
 abbrev sets : CompartmentSet → CompartmentSet → List ℕ
@@ -41,7 +37,7 @@ places m n i j v w owner into write = cc
 place_apart : (m n : ℕ) (i j v w : CompartmentSet) → IsOfWords (Place m i v) → IsOfWords (Place n j w)
     → compartment_text (Place m i v) ≡ compartment_text (Place n j w) → Place m i v ≡ Place n j w
 place_apart m n i j v w left right e =
-    let parts = owner_is m n (sets i v) (sets j w) left.0 right.0 (append_cancel_left (codes "place(") _ _ (sym (place_text m i v) ∙ e ∙ place_text n j w)) in
+    let parts = cut_number m n (sets i v) (sets j w) left.0 right.0 (append_cancel_left (codes "place(") _ _ (sym (place_text m i v) ∙ e ∙ place_text n j w)) in
     places m n i j v w parts.0
     (same_set i j left.1 right.1 (ap (λ (l : List ℕ). take 8 l) parts.1))
     (same_set v w left.2 right.2 (ap (λ (l : List ℕ). take 8 (drop 9 l)) parts.1))

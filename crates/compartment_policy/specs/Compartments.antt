@@ -86,13 +86,25 @@ is_writer (Place owner into write) word = false
 abbrev pub compartment_wipe : CompartmentTag → CompartmentTag → Result CompartmentTag Refused
 compartment_wipe pc old = if is_writer pc old then Ok old else Err (refused_for why.Consent)
 
--- ---- the services: 32 splits words off as a new compartment, 33 lets a compartment jump to words, 34 write them
+-- ---- the services, by their numbers
+
+-- splits words off as a new compartment
+abbrev pub split_service : ℕ
+split_service = 32
+
+-- lets a compartment jump to words
+abbrev pub let_in_service : ℕ
+let_in_service = 33
+
+-- lets a compartment write words
+abbrev pub let_write_service : ℕ
+let_write_service = 34
 
 abbrev pub compartment_knows : ℕ → Bool
-compartment_knows number = (number == 32) || (number == 33) || (number == 34)
+compartment_knows number = (number == split_service) || (number == let_in_service) || (number == let_write_service)
 
 abbrev pub compartment_uses : ℕ → ℕ
-compartment_uses number = if number == 32 then 2 else 3
+compartment_uses number = if number == split_service then 2 else 3
 
 -- a0 is the base of the words, a1 their count
 abbrev pub words_of : Args CompartmentTag → Words
@@ -108,7 +120,7 @@ refused_plan reason = Err (plan_end.Refused (refused_for reason))
 -- the words as the next compartment, and its number as the answer
 abbrev pub splitting : ℕ → Words → CompartmentTag → Plan CompartmentTag
 splitting count words pc = record {
-  service = 32;
+  service = split_service;
   pc = pc;
   note = count;
   range = Some words;
@@ -134,13 +146,13 @@ let_plan number count a pc =
     else refused_plan why.Range
 
 abbrev pub compartment_plan : ℕ → ℕ → Args CompartmentTag → CompartmentTag → Result (Plan CompartmentTag) PlanEnd
-compartment_plan count number a pc = if number == 32 then split_plan count a pc else let_plan number count a pc
+compartment_plan count number a pc = if number == split_service then split_plan count a pc else let_plan number count a pc
 
 -- what the service makes of an owner's word, where `other` is the compartment that it names
 abbrev pub given_by : ℕ → ℕ → ℕ → CompartmentSet → CompartmentSet → CompartmentTag
 given_by number other owner into write =
-    if number == 32 then Place other (set_of 0) (set_of 0) else
-    if number == 33 then Place owner (set_with into other) write else
+    if number == split_service then Place other (set_of 0) (set_of 0) else
+    if number == let_in_service then Place owner (set_with into other) write else
     Place owner into (set_with write other)
 
 -- the caller owns the ECALL's word, and has to own each word of the range
@@ -154,7 +166,7 @@ new_place number other (Place owner into write) old = Err (refused_for why.NotOw
 
 -- a number that was given is never given again
 abbrev pub compartment_commit : ℕ → Plan CompartmentTag → ℕ
-compartment_commit count plan = if plan.service == 32 then count + 1 else count
+compartment_commit count plan = if plan.service == split_service then count + 1 else count
 
 -- ---- the texts
 

@@ -1,7 +1,7 @@
 //! What engines count, and how often their policy is asked.
 
-use crate::counting::Counting;
 use crate::images::{image_of, keeping, turn_of};
+use crate::toy::Toy;
 use engine_trait::{Counts, Engine, Feed};
 use std::alloc::Global;
 use std::test::Fail;
@@ -61,11 +61,7 @@ const COUNT_ROWS: [CountRow; 4] = [
 ];
 
 /// The counts after so many turns of hart 0, and how often the policy was asked.
-fn counts_after<E: Engine<P = Counting>>(
-    engine: &mut E,
-    feed: &mut Feed,
-    turns: u32,
-) -> (Counts, u64) {
+fn counts_after<E: Engine<P = Toy>>(engine: &mut E, feed: &mut Feed, turns: u32) -> (Counts, u64) {
     for _ in 0..turns {
         turn_of(engine, feed, 0);
     }
@@ -75,12 +71,15 @@ fn counts_after<E: Engine<P = Counting>>(
 /// The counts after the turns of the row, and how often the policy was asked.
 fn counts_of(alloc: Global, row: &CountRow) -> Result<(Counts, u64), Fail> {
     let image = image_of(alloc, 256, &[0], row.words)?;
+    if image.ram() < 12 {
+        return Err("no room")?;
+    }
     let mut feed = Feed::new(alloc);
     if row.cache == 0 {
-        let mut engine = start_under(alloc, Counting::new(), &image)?;
+        let mut engine = start_under(alloc, Toy::new(0), &image)?;
         return Ok(counts_after(&mut engine, &mut feed, row.turns));
     }
-    let mut engine = keeping(alloc, Counting::new(), &image, row.cache, 1)?;
+    let mut engine = keeping(alloc, Toy::new(0), &image, row.cache, 8)?;
     Ok(counts_after(&mut engine, &mut feed, row.turns))
 }
 

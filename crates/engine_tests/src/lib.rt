@@ -1,11 +1,11 @@
 //! Tests of the engine that keeps rules beside the one that asks its policy at every turn: what they count, how tags run out,
-//! random programs, which both run alike, and a policy that neither was written for.
+//! random programs, which both run alike, a policy that neither was written for, and a toy policy with what uses it.
 #![tactic(auto)]
 
 #[cfg(test)]
 mod alike;
 #[cfg(test)]
-mod counting;
+mod asking;
 #[cfg(test)]
 mod counts;
 #[cfg(test)]
@@ -13,6 +13,12 @@ mod images;
 #[cfg(test)]
 mod limits;
 #[cfg(test)]
+mod products;
+#[cfg(test)]
 mod programs;
 #[cfg(test)]
+mod serving;
+#[cfg(test)]
 mod tainting;
+#[cfg(test)]
+mod toy;

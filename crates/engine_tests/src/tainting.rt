@@ -104,7 +104,7 @@ const TAINT_ROWS: [TaintRow; 7] = [
 /// The pc and the stop of hart 0 that the row says.
 fn end_of(row: &TaintRow) -> (u32, Option<Stop>) {
     let stop = row.refusal.map(|group| Stop::Violation {
-        part: Part::Flow,
+        part: Part::Own,
         why: Why::Rule(group),
         pc: row.pc,
     });

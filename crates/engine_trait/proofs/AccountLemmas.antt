@@ -1,16 +1,22 @@
 -- What a turn leaves of the account.
-use Rattle.std.proofs.Common.{◌≡◌, ℕ, ◌==◌, Bool, true, false, List, [], ◌∷◌, Option, Some, None, Result, Ok, Err, filter, not, take, refl, ap, sym, ◌∙◌, length, if◌then◌else◌, arith}
+use Rattle.std.proofs.Common.{◌≡◌, ℕ, ◌≤◌, ◌==◌, Bool, true, false, List, [], ◌∷◌, Option, Some, None, Result, Ok, Err, filter, not, take, refl, ap, sym, ◌∙◌, length, if◌then◌else◌, arith}
 use Rattle.std.proofs.lemmas.Bool.{le-ltb}
+use Rattle.std.proofs.lemmas.Bool.Decides.{nat_tests}
 use Rattle.std.specs.List.{list_any}
 use Rattle.policy_trait.specs.Model.{PolicyModel}
 use Rattle.policy_trait.specs.declared.rules.Outs.{Outs}
 use Rattle.monitor_calls.specs.Service.{Job}
 use Rattle.turn_steps.specs.declared.look.Look.{Look}
 use Rattle.turn_steps.specs.declared.stop.Stop.{Stop}
-use Rattle.engine_trait.specs.Accounts.{Account, IsUncached, Key, account_after_turn, after_look, after_rule, after_service, next_count, is_kept, is_over, keeping, key_of, look_counted, looked_up, rule_counted, rule_kept, same_key, seeing, with_tags, written_tags}
+use Rattle.engine_trait.specs.Accounts.{Account, IsUncached, Key, account_after_turn, after_look, after_rule, after_service, is_kept, is_over, keeping, key_of, look_counted, looked_up, rule_counted, rule_kept, same_key, seeing, with_tags, written_tags}
+use Rattle.shared_terms.specs.Counts.{next_count}
 use Rattle.engine_trait.specs.Machine.{Machine}
 use Rattle.engine_trait.specs.Turn.{rule_answer, job_at, preparation}
 use Rattle.engine_trait.specs.declared.ends.Halt.{Halt}
+
+-- room for some rules is not room for none
+pub keeps_some : (rules : ℕ) → 1 ≤ rules → (rules == 0) ≡ false
+keeps_some rules some = grind (arith, nat_tests)
 
 -- ---- the account of an engine that keeps no rules: each look-up is a miss, and no tag has a word
 

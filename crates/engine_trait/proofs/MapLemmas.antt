@@ -1,7 +1,8 @@
 -- A change of each tag goes through the core of a machine, and through what a service is asked with and writes.
-use Rattle.std.proofs.Common.{◌≡◌, ℕ, List, [], ◌∷◌, Option, Some, None, option_map, refl, ap, sym, ◌∙◌}
+use Rattle.std.proofs.Common.{◌≡◌, ℕ, List, [], ◌∷◌, map, Option, Some, None, option_map, refl, ap, sym, ◌∙◌}
 use Rattle.std.proofs.Math.ListN.{get_or-map}
 use Rattle.std.proofs.lemmas.List.{map-set}
+use Rattle.std.proofs.lemmas.Simd.{map-map}
 use Rattle.rv_decode.specs.Groups.{a0}
 use Rattle.policy_trait.specs.Maps.{answer_by, args_by, outs_by}
 use Rattle.policy_trait.specs.declared.rules.Outs.{Outs}
@@ -21,6 +22,21 @@ use Rattle.turn_steps.proofs.MapLemmas.{carried_out_by}
 use Rattle.engine_trait.specs.Machine.{CoreState, hart_at, stopping, with_hart}
 use Rattle.engine_trait.specs.Maps.{core_by, words_by}
 use Rattle.engine_trait.specs.Turn.{carried_at, core_effected, core_ended, core_served}
+
+-- ---- two changes of each tag in a row are one
+
+module _ {A B C : Type 0} (f : A → B) (g : B → C) where
+  hart_on : (hart : HartState A) → hart_by g (hart_by f hart) ≡ hart_by (λ x. g (f x)) hart
+  hart_on hart = ap (λ tags. record (hart_by (λ x. g (f x)) hart) { tags = tags }) (map-map g f hart.tags)
+
+  ram_on : (ram : RamState A) → ram_by g (ram_by f ram) ≡ ram_by (λ x. g (f x)) ram
+  ram_on ram = ap (λ tags. record (ram_by (λ x. g (f x)) ram) { tags = tags }) (map-map g f ram.tags)
+
+  pub harts_on : (harts : List (HartState A)) → map (hart_by g) (map (hart_by f) harts) ≡ map (hart_by (λ x. g (f x))) harts
+  harts_on harts = map-map (hart_by g) (hart_by f) harts ∙ (λ j. map (λ hart. hart_on hart j) harts)
+
+  pub core_on : (core : CoreState A) → core_by g (core_by f core) ≡ core_by (λ x. g (f x)) core
+  core_on core = λ j. record { harts = harts_on core.harts j; stops = core.stops; ram = ram_on core.ram j }
 
 module _ {T U : Type 0} (f : T → U) where
   -- ---- the core

@@ -5,7 +5,7 @@ use Rattle.std.proofs.lemmas.List.{length-map, map-set}
 use Rattle.policy_trait.specs.Maps.{ins_by, ok_by, outs_by}
 use Rattle.policy_trait.specs.Mirrors.{Mirrors}
 use Rattle.policy_trait.specs.Model.{PolicyModel}
-use Rattle.policy_trait.specs.Steps.{◌>>=◌}
+use Rattle.shared_terms.specs.Steps.{◌>>=◌}
 use Rattle.policy_trait.specs.declared.rules.Outs.{Outs}
 use Rattle.policy_trait.specs.declared.rules.Refused.{Refused}
 use Rattle.monitor_calls.specs.Service.{Job}
@@ -28,12 +28,12 @@ use Rattle.engine_trait.specs.Machine.{CoreState, Machine, has_no_stop, hart_at,
 use Rattle.engine_trait.specs.Maps.{core_by, machine_by, turned_by}
 use Rattle.engine_trait.specs.Mirrored.{IsMirrored, StepsMirrored}
 use Rattle.engine_trait.specs.Standing.{Standing, Stepped, idle, is_ready, is_running, made_step, step}
-use Rattle.engine_trait.specs.Turn.{Turned, rule_answer, attempt, carried_at, core_effected, core_ended, turn_effect, end_of, is_offered, service_look, or_fault, or_unserved, or_violation, turn_job, preparation, service_on, settlement, turn_by, turn_of}
+use Rattle.engine_trait.specs.Turn.{Turned, rule_answer, attempt, carried_at, core_effected, core_ended, turn_effect, end_of, is_offered, service_look, or_fault, or_violation, preparation, settlement, turn_by, turn_of}
 use Rattle.engine_trait.specs.declared.ends.Halt.{Halt}
 use Rattle.engine_trait.proofs.AccountLemmas.{accounted_halt}
 use Rattle.engine_trait.proofs.MapLemmas.{carried_at_by, core_effected_by, hart_at_by}
 use Rattle.engine_trait.proofs.StepLemmas.{plain_stays, plain_step, step_idle}
-use Rattle.engine_trait.proofs.TurnLemmas.{allowed_turn, planned_turn}
+use Rattle.engine_trait.proofs.TurnLemmas.{allowed_turn, planned_own, planned_turn}
 
 -- ---- steps in a row
 
@@ -69,14 +69,9 @@ module _ {S T : Type 0} (m : PolicyModel T S) (s : Machine S T) (none : (k : ℕ
   first_own (Err why) look e = absurd cc
 
   -- a turn that comes to its rule calls no service of the policy
-  prepared_own : (h : ℕ) (look : Look T) → preparation m s h ≡ Ok look → is_call look.group ≡ false
+  pub prepared_own : (h : ℕ) (look : Look T) → preparation m s h ≡ Ok look → is_call look.group ≡ false
   unfolding preparation
   prepared_own h look e = first_own (or_fault (look_result (hart_at s.core h) s.core.ram)) look e
-
-planned_own : {S T : Type 0} (m : PolicyModel T S) (s : Machine S T) (h : ℕ) (look : Look T) (outs : Outs T) → is_call look.group ≡ false → turn_job m s h look outs ≡ Ok None
-unfolding turn_job
-planned_own m s h look outs own =
-    ap (λ call. if call then or_unserved (hart_at s.core h).pc look.service (service_on m s h look outs) else Ok None) own
 
 module _ {S T : Type 0} (m : PolicyModel T S) (s : Machine S T) (feed : List ℕ) (h : ℕ) (none : (k : ℕ) → m.knows s.policy k ≡ false) where
   abbrev KeepsPolicy : Result (Turned S T) Stop → Type 0

@@ -2,7 +2,8 @@
 use Rattle.std.proofs.Common.{◌≡◌, ℕ, Bool, true, false, List, Option, Some, None, ◌≢◌, refl, ap, sym, ◌∙◌, subst, ◌&&◌}
 use Rattle.std.proofs.lemmas.Bool.{false≢true}
 use Rattle.policy_trait.specs.Model.{PolicyModel}
-use Rattle.engine_trait.specs.Accounts.{IsUncached, account_after_turn, next_count, is_over}
+use Rattle.engine_trait.specs.Accounts.{IsUncached, account_after_turn, is_over}
+use Rattle.shared_terms.specs.Counts.{next_count}
 use Rattle.engine_trait.specs.EngineLaws.{FollowsTurn, RunsOut, StaysIdle, is_made}
 use Rattle.engine_trait.specs.Machine.{is_ready_in}
 use Rattle.engine_trait.specs.Standing.{Standing, idle, is_ready, is_running, made_step, out_of_words, step, step_by}

@@ -1,18 +1,19 @@
 -- The turn that ends at each of its steps.
-use Rattle.std.proofs.Common.{◌≡◌, ℕ, ◌≤◌, true, false, List, Option, Some, None, Result, Ok, Err, length, refl, ap, ◌∙◌, ◌&&◌}
+use Rattle.std.proofs.Common.{◌≡◌, ℕ, ◌≤◌, Bool, true, false, List, Option, Some, None, Result, Ok, Err, length, refl, ap, ◌∙◌, ◌&&◌, if◌then◌else◌}
 use Rattle.std.proofs.lemmas.Bool.{le-ltb}
 use Rattle.policy_trait.specs.Model.{PolicyModel}
-use Rattle.policy_trait.specs.Steps.{◌>>=◌}
+use Rattle.shared_terms.specs.Steps.{◌>>=◌}
 use Rattle.policy_trait.specs.declared.rules.Outs.{Outs}
 use Rattle.monitor_calls.specs.Service.{Job}
+use Rattle.turn_steps.specs.Looks.{is_call}
 use Rattle.turn_steps.specs.declared.effects.Done.{Done}
 use Rattle.turn_steps.specs.declared.effects.Done.TheVariants as done
 use Rattle.turn_steps.specs.declared.look.Look.{Look}
 use Rattle.turn_steps.specs.declared.stop.Stop.{Stop}
 use Rattle.engine_trait.specs.Events.{event_by, event_of, is_retiring, is_retirement}
 use Rattle.engine_trait.specs.EngineLaws.{is_made}
-use Rattle.engine_trait.specs.Machine.{CoreState, Machine, has_no_stop, is_ready_in, stop_at}
-use Rattle.engine_trait.specs.Turn.{Turned, rule_answer, attempt, carried_at, turn_effect, end_of, job_at, turn_job, preparation, settlement, turn_by, turn_of}
+use Rattle.engine_trait.specs.Machine.{CoreState, Machine, has_no_stop, hart_at, is_ready_in, stop_at}
+use Rattle.engine_trait.specs.Turn.{Turned, rule_answer, attempt, carried_at, turn_effect, end_of, job_at, or_unserved, turn_job, preparation, service_on, settlement, turn_by, turn_of}
 use Rattle.engine_trait.specs.declared.ends.TurnEnd.TheVariants as ends
 
 pub absent_waits : {T : Type 0} (core : CoreState T) (h : ℕ) → length core.harts ≤ h → is_ready_in core h ≡ false
@@ -25,7 +26,31 @@ unfolding job_at
 job_ruled m s h look outs looked ruled =
     ap (λ found. found >>= λ l. rule_answer m s h l >>= λ o. turn_job m s h l o) looked ∙ ap (λ answer. answer >>= λ o. turn_job m s h look o) ruled
 
+-- an instruction that calls no service has no work of one
+pub planned_own : {S T : Type 0} (m : PolicyModel T S) (s : Machine S T) (h : ℕ) (look : Look T) (outs : Outs T) → is_call look.group ≡ false → turn_job m s h look outs ≡ Ok None
+unfolding turn_job
+planned_own m s h look outs own =
+    ap (λ call. if call then or_unserved (hart_at s.core h).pc look.service (service_on m s h look outs) else Ok None) own
+
 module _ {S T : Type 0} (m : PolicyModel T S) (s : Machine S T) (feed : List ℕ) (h : ℕ) where
+  -- ---- what the event of a turn tells
+
+  hart_by : (ready : Bool) → (event_by m s feed h ready).hart ≡ h
+  hart_by true = refl
+  hart_by false = refl
+
+  ended_by : (ready : Bool) → (event_by m s feed h ready).ended ≡ (turn_of m s feed h).ended
+  ended_by true = refl
+  ended_by false = refl
+
+  pub event_of-hart : (event_of m s feed h).hart ≡ h
+  unfolding event_of
+  event_of-hart = hart_by (is_ready_in s.core h)
+
+  pub event_of-ended : (event_of m s feed h).ended ≡ (turn_of m s feed h).ended
+  unfolding event_of
+  event_of-ended = ended_by (is_ready_in s.core h)
+
   -- ---- a hart that is not there or has stopped
 
   pub turn_idle : is_ready_in s.core h ≡ false → turn_of m s feed h ≡ record { machine = s; feed = feed; ended = ends.Idle }

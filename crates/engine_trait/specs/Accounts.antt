@@ -1,5 +1,5 @@
 -- The account of an engine: the tags that have words, the keys of kept rules, the counts, and why it is stopped as a whole.
-use Rattle.std.specs.Prelude.{◌≡◌, ℕ, ◌+◌, ◌-◌, ◌^◌, ◌==◌, Bool, ◌&&◌, not, min, nat_lt, List, [], ◌∷◌, ◌++◌, filter, length, map, take, Option, Some, None, Result, Ok, Err, if◌then◌else◌}
+use Rattle.std.specs.Prelude.{◌≡◌, ℕ, ◌==◌, Bool, ◌&&◌, not, nat_lt, List, [], ◌∷◌, ◌++◌, filter, length, map, take, Option, Some, None, Result, Ok, Err, if◌then◌else◌}
 use Rattle.std.specs.List.{list_any}
 use Rattle.rv_decode.specs.contracts.groups.GroupPartialEq.TheImpl.{eq-value}
 use Rattle.rv_decode.specs.declared.groups.Group.{Group}
@@ -10,6 +10,7 @@ use Rattle.policy_trait.specs.declared.services.Answer.{Answer}
 use Rattle.monitor_calls.specs.Service.{Job}
 use Rattle.turn_steps.specs.declared.look.Look.{Look}
 use Rattle.turn_steps.specs.declared.stop.Stop.{Stop}
+use Rattle.shared_terms.specs.Counts.{next_count}
 use Rattle.engine_trait.specs.Machine.{Machine}
 use Rattle.engine_trait.specs.Turn.{rule_answer, job_at, preparation}
 use Rattle.engine_trait.specs.declared.ends.Counts.{Counts}
@@ -47,10 +48,6 @@ pub record IsUncached {T : Type 0} (account : Account T) : Type 0 where
 -- what an engine tells of its counts
 abbrev pub counts_of : {T : Type 0} → Account T → Counts
 counts_of account = record { turns = account.turns; hits = account.hits; misses = account.misses }
-
--- a count that stands still at its type's end
-abbrev pub next_count : ℕ → ℕ
-next_count n = min (n + 1) (2 ^ 64 - 1)
 
 -- an engine that keeps no rules, at the start
 abbrev pub plain_account : {T : Type 0} → Account T

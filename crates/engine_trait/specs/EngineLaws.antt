@@ -3,7 +3,8 @@ use Rattle.std.specs.Prelude.{◌≡◌, ℕ, ◌%◌, Bool, true, false, List, 
 use Rattle.policy_trait.specs.Model.{PolicyModel}
 use Rattle.tag_memory.specs.Hart.{reg_tag, reg_value}
 use Rattle.tag_memory.specs.Ram.{ram_bytes}
-use Rattle.engine_trait.specs.Accounts.{account_after_turn, next_count, is_over}
+use Rattle.engine_trait.specs.Accounts.{account_after_turn, is_over}
+use Rattle.shared_terms.specs.Counts.{next_count}
 use Rattle.engine_trait.specs.Machine.{IsMachine, Machine, hart_at}
 use Rattle.engine_trait.specs.Standing.{Standing, Stepped, is_ready, out_of_words}
 use Rattle.engine_trait.specs.Turn.{turn_of}

@@ -1,5 +1,6 @@
 -- Each input that a rule does not ignore changes an answer: where all is allowed, a tag in its place that is not.
-use Rattle.std.proofs.Common.{◌≡◌, ℕ, true, false, List, Some, Result, Ok, Err}
+use Rattle.std.proofs.Common.{◌≡◌, ℕ, true, false, List, Some, Result, true≢false}
+use Rattle.shared_terms.proofs.CaseLemmas.{not_refused}
 use Rattle.rv_decode.specs.declared.groups.Group.{Group}
 use Rattle.policy_trait.specs.UseLaws.{ignored_input}
 use Rattle.policy_trait.specs.Uses.{Input, Pc, Instruction, First, Second, Word, UsesExactly, is_ignored, with_input}
@@ -17,32 +18,23 @@ use Rattle.flow_policy.specs.declared.tag.FlowTag.TheVariants.{Plain, Still, Cod
 abbrev allowed : Ins FlowTag
 allowed = record { pc = Still; ci = Code (Some 0); t1 = Plain; t2 = Plain; tm = Data }
 
-unignored : {P : Type 0} → true ≡ false → P
-unignored e = cc
-
-abbrev refusal : Refused → Result (Outs FlowTag) Refused
-refusal refused = Err refused
-
-not_refused : {P : Type 0} (refused : Refused) (outs : Outs FlowTag) → refusal refused ≡ Ok outs → P
-not_refused refused outs e = cc
-
 abbrev rule_at : List (ℕ × ℕ) → Effect → Group → Ins FlowTag → Result (Outs FlowTag) Refused
 rule_at edges effect g x = rule_by effect g (entry_label edges x.pc x.ci) x.tm
 
 -- the plain tag is allowed at none of the three
 differs : (edges : List (ℕ × ℕ)) (g : Group) (effect : Effect) (i : Input) → is_ignored (ignores_by effect) i ≡ false
     → ¬ (rule_at edges effect g (with_input i Plain allowed) ≡ rule_at edges effect g allowed)
-differs edges g Jumps Pc is e = not_refused _ _ e
-differs edges g Stores Pc is e = not_refused _ _ e
-differs edges g GoesOn Pc is e = not_refused _ _ e
-differs edges g Jumps Instruction is e = not_refused _ _ e
-differs edges g Stores Instruction is e = not_refused _ _ e
-differs edges g GoesOn Instruction is e = not_refused _ _ e
-differs edges g Stores Word is e = not_refused _ _ e
-differs edges g Jumps Word is e = unignored is
-differs edges g GoesOn Word is e = unignored is
-differs edges g effect First is e = unignored is
-differs edges g effect Second is e = unignored is
+differs edges g Jumps Pc is e = not_refused e
+differs edges g Stores Pc is e = not_refused e
+differs edges g GoesOn Pc is e = not_refused e
+differs edges g Jumps Instruction is e = not_refused e
+differs edges g Stores Instruction is e = not_refused e
+differs edges g GoesOn Instruction is e = not_refused e
+differs edges g Stores Word is e = not_refused e
+differs edges g Jumps Word is e = absurd (true≢false is)
+differs edges g GoesOn Word is e = absurd (true≢false is)
+differs edges g effect First is e = absurd (true≢false is)
+differs edges g effect Second is e = absurd (true≢false is)
 
 pub flow_uses_exactly : (edges : List (ℕ × ℕ)) → UsesExactly flow edges
 flow_uses_exactly edges = record {

@@ -1,5 +1,6 @@
 -- Flow keeps the laws of a policy.
-use Rattle.std.proofs.Common.{◌≡◌, ℕ, false, Option, Some, None, List, IsTrue, refl}
+use Rattle.std.proofs.Common.{◌≡◌, ℕ, false, Option, Some, None, List, refl}
+use Rattle.std.proofs.lemmas.Bool.{false≢true}
 use Rattle.rv_decode.specs.declared.groups.Group.{Group}
 use Rattle.policy_trait.specs.PolicyLaws.{KeepsLaws}
 use Rattle.policy_trait.specs.Model.{masked_inputs}
@@ -25,10 +26,6 @@ word_masked GoesOn g (Some label) word = refl
 rule_masked : (edges : List (ℕ × ℕ)) (g : Group) (x : Ins FlowTag) → flow_rule edges g x ≡ flow_rule edges g (masked_inputs (flow_ignores g) Plain x)
 rule_masked edges g x = word_masked (effect_of g) g (entry_label edges x.pc x.ci) x.tm
 
--- no service is known
-unknown : {P : Type 0} → IsTrue false → P
-unknown known = cc
-
 pub flow_laws : KeepsLaws flow HoldsAlways
 flow_laws = record {
   masks = rule_masked;
@@ -46,8 +43,8 @@ flow_laws = record {
     text = λ t. refl;
   };
   stays = λ edges p given held. held;
-  ranges = λ edges k a pc p can held given. unknown can.known;
-  few = λ edges k known. unknown known;
-  service = λ edges k a pc p known given. unknown known;
-  value = λ edges k a pc p known given. unknown known;
+  ranges = λ edges k a pc p can held given. absurd (false≢true can.known);
+  few = λ edges k known. absurd (false≢true known);
+  service = λ edges k a pc p known given. absurd (false≢true known);
+  value = λ edges k a pc p known given. absurd (false≢true known);
 }

@@ -1,11 +1,10 @@
 -- Each input that a rule does not ignore changes an answer: where all is allowed, the tag of a free word is not.
-use Rattle.std.proofs.Common.{◌≡◌, true, false, Result, Ok, Err}
+use Rattle.std.proofs.Common.{◌≡◌, true, false, true≢false}
+use Rattle.shared_terms.proofs.CaseLemmas.{not_refused}
 use Rattle.rv_decode.specs.declared.groups.Group.{Group}
 use Rattle.policy_trait.specs.UseLaws.{ignored_input}
 use Rattle.policy_trait.specs.Uses.{Input, Pc, Instruction, First, Second, Word, UsesExactly, is_ignored, with_input}
 use Rattle.policy_trait.specs.declared.rules.Ins.{Ins}
-use Rattle.policy_trait.specs.declared.rules.Outs.{Outs}
-use Rattle.policy_trait.specs.declared.rules.Refused.{Refused}
 use Rattle.heap_policy.specs.Heap.{HeapState, IsHeap, effect_of, heap, ignores_by, rule_by}
 use Rattle.heap_policy.specs.HeapLaws.{heap_laws}
 use Rattle.heap_policy.specs.declared.table.Effect.{Effect}
@@ -18,74 +17,65 @@ use Rattle.heap_policy.specs.declared.tag.HeapTag.TheVariants.{Val, Static, Free
 abbrev allowed : Ins HeapTag
 allowed = record { pc = Val; ci = Static contents.Val; t1 = Val; t2 = Val; tm = Static contents.Val }
 
-unignored : {P : Type 0} → true ≡ false → P
-unignored e = cc
-
-abbrev refusal : Refused → Result (Outs HeapTag) Refused
-refusal refused = Err refused
-
-not_refused : {P : Type 0} (refused : Refused) (outs : Outs HeapTag) → refusal refused ≡ Ok outs → P
-not_refused refused outs e = cc
-
 abbrev Differs : Effect → Input → Type 0
 Differs effect i =
     (g : Group) → is_ignored (ignores_by effect) i ≡ false
     → ¬ (rule_by effect g (with_input i Free allowed) ≡ rule_by effect g allowed)
 
 instruction_used : (effect : Effect) → Differs effect Instruction
-instruction_used GoesOn g is e = not_refused _ _ e
-instruction_used TakesFirst g is e = not_refused _ _ e
-instruction_used TakesSecond g is e = not_refused _ _ e
-instruction_used TakesBoth g is e = not_refused _ _ e
-instruction_used Moves g is e = not_refused _ _ e
-instruction_used Loads g is e = not_refused _ _ e
-instruction_used LoadsPart g is e = not_refused _ _ e
-instruction_used Stores g is e = not_refused _ _ e
-instruction_used StoresPart g is e = not_refused _ _ e
-instruction_used Adds g is e = not_refused _ _ e
-instruction_used Subtracts g is e = not_refused _ _ e
+instruction_used GoesOn g is e = not_refused e
+instruction_used TakesFirst g is e = not_refused e
+instruction_used TakesSecond g is e = not_refused e
+instruction_used TakesBoth g is e = not_refused e
+instruction_used Moves g is e = not_refused e
+instruction_used Loads g is e = not_refused e
+instruction_used LoadsPart g is e = not_refused e
+instruction_used Stores g is e = not_refused e
+instruction_used StoresPart g is e = not_refused e
+instruction_used Adds g is e = not_refused e
+instruction_used Subtracts g is e = not_refused e
 
 first_used : (effect : Effect) → Differs effect First
-first_used GoesOn g is e = unignored is
-first_used TakesSecond g is e = unignored is
-first_used TakesFirst g is e = not_refused _ _ e
-first_used TakesBoth g is e = not_refused _ _ e
-first_used Moves g is e = not_refused _ _ e
-first_used Loads g is e = not_refused _ _ e
-first_used LoadsPart g is e = not_refused _ _ e
-first_used Stores g is e = not_refused _ _ e
-first_used StoresPart g is e = not_refused _ _ e
-first_used Adds g is e = not_refused _ _ e
-first_used Subtracts g is e = not_refused _ _ e
+first_used GoesOn g is e = absurd (true≢false is)
+first_used TakesSecond g is e = absurd (true≢false is)
+first_used TakesFirst g is e = not_refused e
+first_used TakesBoth g is e = not_refused e
+first_used Moves g is e = not_refused e
+first_used Loads g is e = not_refused e
+first_used LoadsPart g is e = not_refused e
+first_used Stores g is e = not_refused e
+first_used StoresPart g is e = not_refused e
+first_used Adds g is e = not_refused e
+first_used Subtracts g is e = not_refused e
 
 second_used : (effect : Effect) → Differs effect Second
-second_used TakesSecond g is e = not_refused _ _ e
-second_used TakesBoth g is e = not_refused _ _ e
-second_used Stores g is e = not_refused _ _ e
-second_used Adds g is e = not_refused _ _ e
-second_used Subtracts g is e = not_refused _ _ e
-second_used GoesOn g is e = unignored is
-second_used TakesFirst g is e = unignored is
-second_used Moves g is e = unignored is
-second_used Loads g is e = unignored is
-second_used LoadsPart g is e = unignored is
-second_used StoresPart g is e = unignored is
+second_used TakesSecond g is e = not_refused e
+second_used TakesBoth g is e = not_refused e
+second_used Stores g is e = not_refused e
+second_used Adds g is e = not_refused e
+second_used Subtracts g is e = not_refused e
+second_used GoesOn g is e = absurd (true≢false is)
+second_used TakesFirst g is e = absurd (true≢false is)
+second_used Moves g is e = absurd (true≢false is)
+second_used Loads g is e = absurd (true≢false is)
+second_used LoadsPart g is e = absurd (true≢false is)
+second_used StoresPart g is e = absurd (true≢false is)
 
 word_used : (effect : Effect) → Differs effect Word
-word_used Loads g is e = not_refused _ _ e
-word_used LoadsPart g is e = not_refused _ _ e
-word_used Stores g is e = not_refused _ _ e
-word_used StoresPart g is e = not_refused _ _ e
-word_used GoesOn g is e = unignored is
-word_used TakesFirst g is e = unignored is
-word_used TakesSecond g is e = unignored is
-word_used TakesBoth g is e = unignored is
-word_used Moves g is e = unignored is
-word_used Adds g is e = unignored is
-word_used Subtracts g is e = unignored is
+word_used Loads g is e = not_refused e
+word_used LoadsPart g is e = not_refused e
+word_used Stores g is e = not_refused e
+word_used StoresPart g is e = not_refused e
+word_used GoesOn g is e = absurd (true≢false is)
+word_used TakesFirst g is e = absurd (true≢false is)
+word_used TakesSecond g is e = absurd (true≢false is)
+word_used TakesBoth g is e = absurd (true≢false is)
+word_used Moves g is e = absurd (true≢false is)
+word_used Adds g is e = absurd (true≢false is)
+word_used Subtracts g is e = absurd (true≢false is)
 
 differs : (effect : Effect) (i : Input) → Differs effect i
-differs effect Pc = λ g is. unignored is
+differs effect Pc = λ g is. absurd (true≢false is)
 differs effect Instruction = instruction_used effect
 differs effect First = first_used effect
 differs effect Second = second_used effect

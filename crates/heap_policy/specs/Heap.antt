@@ -221,10 +221,18 @@ wipe_tag Free = Ok Free
 abbrev pub heap_start_word : Birth → HeapTag
 heap_start_word birth = if birth.heap then Free else Static contents.Val
 
--- ---- the services: 48 hands out a block, 49 takes one back
+-- ---- the services, by their numbers
+
+-- hands out a block of a0 bytes
+abbrev pub malloc_service : ℕ
+malloc_service = 48
+
+-- takes back the block at a0
+abbrev pub free_service : ℕ
+free_service = 49
 
 abbrev pub heap_knows : ℕ → Bool
-heap_knows number = (number == 48) || (number == 49)
+heap_knows number = (number == malloc_service) || (number == free_service)
 
 abbrev pub refused_plan : Why → Result (Plan HeapTag) PlanEnd
 refused_plan reason = Err (plan_end.Refused (refused_for reason))
@@ -236,7 +244,7 @@ words_of bytes = max 1 ((bytes + 3) / 4)
 -- the words zeroed as the block of this number, and a pointer to it as the answer
 abbrev pub handing_out : ℕ → Words → HeapTag → Plan HeapTag
 handing_out number words pc = record {
-  service = 48;
+  service = malloc_service;
   pc = pc;
   note = number;
   range = Some words;
@@ -247,7 +255,7 @@ handing_out number words pc = record {
 -- no block of that size fits: 0 as the answer
 abbrev pub none_fits : HeapTag → Plan HeapTag
 none_fits pc = record {
-  service = 48;
+  service = malloc_service;
   pc = pc;
   note = 0;
   range = None;
@@ -277,7 +285,7 @@ pointed_to space _ = None
 -- the words of the block zeroed, and no answer
 abbrev pub freeing : Block → HeapTag → Plan HeapTag
 freeing block pc = record {
-  service = 49;
+  service = free_service;
   pc = pc;
   note = block.number;
   range = Some (record { base = block.base; count = block.words });
@@ -296,11 +304,11 @@ abbrev pub free_plan : HeapState → Args HeapTag → HeapTag → Result (Plan H
 free_plan state a pc = plan_of_freeing a.a0 pc (pointed_to state.space a.t0)
 
 abbrev pub heap_plan : HeapState → ℕ → Args HeapTag → HeapTag → Result (Plan HeapTag) PlanEnd
-heap_plan state number a pc = if number == 48 then malloc_plan state a pc else free_plan state a pc
+heap_plan state number a pc = if number == malloc_service then malloc_plan state a pc else free_plan state a pc
 
 -- the new tag of each word of the block
 abbrev pub cell_after : ℕ → ℕ → HeapTag
-cell_after number block = if number == 48 then Cell block contents.Val else Free
+cell_after number block = if number == malloc_service then Cell block contents.Val else Free
 
 -- a block that was handed out; its number is never given again
 abbrev pub handed_out : HeapState → ℕ → Option Words → HeapState
@@ -315,7 +323,7 @@ taken_back state number = record { space = without_block state.space number; nex
 
 abbrev pub heap_commit : HeapState → Plan HeapTag → HeapState
 heap_commit state plan =
-    if plan.service == 49 then taken_back state plan.note else handed_out state plan.note plan.range
+    if plan.service == free_service then taken_back state plan.note else handed_out state plan.note plan.range
 
 -- number, base and words of the live block at that place
 abbrev pub heap_listed : HeapState → ℕ → Option (ℕ × ℕ × ℕ)

@@ -1,14 +1,18 @@
 -- Heap safety keeps the laws of a policy.
-use Rattle.std.proofs.Common.{◌≡◌, ℕ, ◌+◌, ◌*◌, ◌%◌, ◌<◌, ◌≤◌, ◌==◌, Bool, true, false, cond, List, [], ◌∷◌, Option, Some, None, Result, Ok, Err, IsTrue, nat_lt, if◌then◌else◌, refl, sym, ap, ◌∙◌, subst, arith}
+use Rattle.std.proofs.Common.{◌≡◌, ℕ, ◌+◌, ◌*◌, ◌%◌, ◌<◌, ◌≤◌, ◌==◌, Bool, true, false, cond, List, [], ◌∷◌, Option, Some, None, Ok, Err, IsTrue, nat_lt, if◌then◌else◌, refl, sym, ap, subst, arith}
 use Rattle.std.proofs.lemmas.Bool.Decides.{nat_tests}
 use Rattle.std.proofs.lemmas.List.Elements.{All-filter, All-head, All-push, All-tail, All-weaker}
+use Rattle.std.proofs.lemmas.Option.{none-some, same_Some}
 use Rattle.std.specs.List.{All, find}
 use Rattle.std.specs.Option.{ForSome}
 use Rattle.live_blocks.specs.Fit.{found_first}
 use Rattle.live_blocks.specs.Space.{IsSpace, IsWithin, first_fit, with_block}
 use Rattle.live_blocks.specs.SpaceEdits.{first_within, space_filter, space_insert}
 use Rattle.live_blocks.specs.declared.block.Block.{Block}
+use Rattle.shared_terms.proofs.CaseLemmas.{not_refused}
+use Rattle.shared_terms.proofs.StepLemmas.{ok_is}
 use Rattle.rv_decode.specs.declared.groups.Group.{Group}
+use Rattle.policy_trait.proofs.AnswerLemmas.{plain_keeps}
 use Rattle.policy_trait.specs.PolicyLaws.{IsRange, KeepsLaws}
 use Rattle.policy_trait.specs.Model.{IsGiven, masked_inputs}
 use Rattle.policy_trait.specs.declared.rules.Ins.{Ins}
@@ -16,12 +20,10 @@ use Rattle.policy_trait.specs.declared.rules.Why.TheVariants as why
 use Rattle.policy_trait.specs.declared.services.Answer.{Answer}
 use Rattle.policy_trait.specs.declared.services.Args.{Args}
 use Rattle.policy_trait.specs.declared.services.Plan.{Plan}
-use Rattle.policy_trait.specs.declared.services.PlanEnd.{PlanEnd}
 use Rattle.policy_trait.specs.declared.services.PlanEnd.TheVariants as plan_end
 use Rattle.policy_trait.specs.declared.services.Rest.TheVariants as rest
-use Rattle.policy_trait.specs.declared.services.Rest.TheVariants.{AsA0}
 use Rattle.policy_trait.specs.declared.services.Words.{Words}
-use Rattle.heap_policy.specs.Heap.{CanHandOut, HeapState, IsHeap, block_limit, outs_or_refusal, plan_of_freeing, freeing, handed_out, handing_out, heap, heap_ignores, heap_knows, heap_plan, heap_rule, effect_of, free_plan, ignores_by, is_static, is_val, malloc_plan, none_fits, plan_at, pointed_to, refused_plan, result_by, taken_back, words_of}
+use Rattle.heap_policy.specs.Heap.{CanHandOut, HeapState, IsHeap, block_limit, outs_or_refusal, plan_of_freeing, freeing, handed_out, handing_out, heap, heap_ignores, heap_knows, heap_plan, heap_rule, effect_of, free_plan, free_service, ignores_by, is_static, is_val, malloc_plan, malloc_service, none_fits, plan_at, pointed_to, refused_plan, result_by, taken_back, words_of}
 use Rattle.heap_policy.specs.declared.table.Effect.{Effect}
 use Rattle.heap_policy.specs.declared.table.Effect.TheVariants.{GoesOn, TakesFirst, TakesSecond, TakesBoth, Moves, Loads, LoadsPart, Stores, StoresPart, Adds, Subtracts}
 use Rattle.heap_policy.specs.declared.tag.HeapTag.{HeapTag}
@@ -57,33 +59,17 @@ record IsHeapPlan (state : HeapState) (number : ℕ) (p : Plan HeapTag) : Type 0
   service : p.service ≡ number
   within : IsSpace state.space → ForSome p.range (IsRange state.space.top)
   plain : (x : Answer HeapTag) → p.answer ≡ Some x → x.rest ≡ rest.Plain
-  hands_out : (number ≡ 49 → ⊥) → ForSome p.range (CanHandOut state p.note)
-
--- a plan that is made
-abbrev given_as : Plan HeapTag → Result (Plan HeapTag) PlanEnd
-given_as plan = Ok plan
-
-plan_is : (x y : Plan HeapTag) → given_as x ≡ given_as y → x ≡ y
-plan_is x y e = cc
-
-some_is : {A : Type 0} (x y : A) → Some x ≡ Some y → x ≡ y
-some_is x y e = cc
-
-no_plan : {P : Type 0} (end : PlanEnd) (p : Plan HeapTag) → Err end ≡ Ok p → P
-no_plan end p e = cc
-
-none_is : {A P : Type 0} (x : A) → None ≡ Some x → P
-none_is x e = cc
+  hands_out : (number ≡ free_service → ⊥) → ForSome p.range (CanHandOut state p.note)
 
 -- what is found has what all have
 found_by : {A P : Type 0} (test : Bool) (x y : A) (others : Option A) → (x ≡ y → P) → (others ≡ Some y → P)
     → cond test (Some x) others ≡ Some y → P
-found_by true x y others here there e = here (some_is x y e)
+found_by true x y others here there e = here (same_Some x y e)
 found_by false x y others here there e = there e
 
 found_has : {A : Type 0} (P : A → Type 0) (test : A → Bool) (xs : List A) (y : A) → All P xs
     → find test xs ≡ Some y → P y
-found_has P test [] y all e = none_is y e
+found_has P test [] y all e = absurd (none-some y e)
 found_has P test (x ∷ xs) y all e =
     found_by (test x) x y (find test xs)
     (λ same. subst P same (All-head P x xs all))
@@ -95,71 +81,71 @@ as_range : (top : ℕ) (words : Words) → words.base % 4 ≡ 0 → 1 ≤ words.
 as_range top words aligned nonempty within = record { aligned = aligned; nonempty = nonempty; within = within }
 
 -- the next block at the place where it fits
-made : (state : HeapState) (number : ℕ) (words : Words) (pc : HeapTag) → 48 ≡ number → CanHandOut state state.next words
+made : (state : HeapState) (number : ℕ) (words : Words) (pc : HeapTag) → malloc_service ≡ number → CanHandOut state state.next words
     → IsHeapPlan state number (handing_out state.next words pc)
 made state number words pc is can = record {
   service = is;
   within = λ space x x_is.
-      subst (IsRange state.space.top) (some_is words x x_is)
+      subst (IsRange state.space.top) (same_Some words x x_is)
       (as_range state.space.top words can.fit.aligned can.some can.fit.lies_free.to);
-  plain = λ x x_is. ap (λ (y : Answer HeapTag). y.rest) (sym (some_is _ x x_is));
-  hands_out = λ differs x x_is. subst (CanHandOut state state.next) (some_is words x x_is) can;
+  plain = λ x x_is. ap (λ (y : Answer HeapTag). y.rest) (sym (same_Some _ x x_is));
+  hands_out = λ differs x x_is. subst (CanHandOut state state.next) (same_Some words x x_is) can;
 }
 
 -- none fits
-passed : (state : HeapState) (number : ℕ) (pc : HeapTag) → 48 ≡ number → IsHeapPlan state number (none_fits pc)
+passed : (state : HeapState) (number : ℕ) (pc : HeapTag) → malloc_service ≡ number → IsHeapPlan state number (none_fits pc)
 passed state number pc is = record {
   service = is;
-  within = λ space x x_is. none_is x x_is;
-  plain = λ x x_is. ap (λ (y : Answer HeapTag). y.rest) (sym (some_is _ x x_is));
-  hands_out = λ differs x x_is. none_is x x_is;
+  within = λ space x x_is. absurd (none-some x x_is);
+  plain = λ x x_is. ap (λ (y : Answer HeapTag). y.rest) (sym (same_Some _ x x_is));
+  hands_out = λ differs x x_is. absurd (none-some x x_is);
 }
 
 -- a block taken back
-released : (state : HeapState) (number : ℕ) (block : Block) (pc : HeapTag) → 49 ≡ number
+released : (state : HeapState) (number : ℕ) (block : Block) (pc : HeapTag) → free_service ≡ number
     → (IsSpace state.space → IsWithin state.space.base state.space.top block) → IsHeapPlan state number (freeing block pc)
 released state number block pc is lies = record {
   service = is;
   within = λ space x x_is.
       let words : Words = record { base = block.base; count = block.words } in
       let here = lies space in
-      subst (IsRange state.space.top) (some_is words x x_is) (as_range state.space.top words here.aligned here.some here.to);
-  plain = λ x x_is. none_is x x_is;
+      subst (IsRange state.space.top) (same_Some words x x_is) (as_range state.space.top words here.aligned here.some here.to);
+  plain = λ x x_is. absurd (none-some x x_is);
   hands_out = λ differs. absurd (differs (sym is));
 }
 
 -- ---- the same of each plan that comes, by its tests
 
-placed_by : (state : HeapState) (number count : ℕ) (pc : HeapTag) (at : Option ℕ) → 48 ≡ number → state.next < block_limit
+placed_by : (state : HeapState) (number count : ℕ) (pc : HeapTag) (at : Option ℕ) → malloc_service ≡ number → state.next < block_limit
     → 1 ≤ count → first_fit state.space count ≡ at → IsHeapPlan state number (plan_at state.next count pc at)
 placed_by state number count pc None is left some e = passed state number pc is
 placed_by state number count pc (Some base) is left some e =
     made state number (record { base = base; count = count }) pc is
     (record { next = refl; left = left; some = some; fit = found_first state.space count base e })
 
-malloc_by : (value left : Bool) (state : HeapState) (number bytes : ℕ) (pc : HeapTag) (p : Plan HeapTag) → 48 ≡ number
+malloc_by : (value left : Bool) (state : HeapState) (number bytes : ℕ) (pc : HeapTag) (p : Plan HeapTag) → malloc_service ≡ number
     → (left ≡ true → state.next < block_limit)
     → (if value then
     (if left then Ok (plan_at state.next (words_of bytes) pc (first_fit state.space (words_of bytes))) else Err plan_end.Spent)
     else refused_plan why.Args) ≡ Ok p
     → IsHeapPlan state number p
 malloc_by true true state number bytes pc p is left e =
-    subst (IsHeapPlan state number) (plan_is _ p e)
+    subst (IsHeapPlan state number) (ok_is _ p e)
     (placed_by state number (words_of bytes) pc (first_fit state.space (words_of bytes)) is (left refl) (omega arith) refl)
-malloc_by true false state number bytes pc p is left e = no_plan _ p e
-malloc_by false few state number bytes pc p is left e = no_plan _ p e
+malloc_by true false state number bytes pc p is left e = not_refused e
+malloc_by false few state number bytes pc p is left e = not_refused e
 
-freed_by : (same : Bool) (state : HeapState) (number : ℕ) (block : Block) (pc : HeapTag) (p : Plan HeapTag) → 49 ≡ number
+freed_by : (same : Bool) (state : HeapState) (number : ℕ) (block : Block) (pc : HeapTag) (p : Plan HeapTag) → free_service ≡ number
     → (IsSpace state.space → IsWithin state.space.base state.space.top block)
     → (if same then Ok (freeing block pc) else refused_plan why.NotLive) ≡ Ok p → IsHeapPlan state number p
 freed_by true state number block pc p is lies e =
-    subst (IsHeapPlan state number) (plan_is _ p e) (released state number block pc is lies)
-freed_by false state number block pc p is lies e = no_plan _ p e
+    subst (IsHeapPlan state number) (ok_is _ p e) (released state number block pc is lies)
+freed_by false state number block pc p is lies e = not_refused e
 
 found_freed : (state : HeapState) (number address : ℕ) (found : Option Block) (pc : HeapTag) (p : Plan HeapTag)
-    → 49 ≡ number → (IsSpace state.space → ForSome found (IsWithin state.space.base state.space.top))
+    → free_service ≡ number → (IsSpace state.space → ForSome found (IsWithin state.space.base state.space.top))
     → plan_of_freeing address pc found ≡ Ok p → IsHeapPlan state number p
-found_freed state number address None pc p is lies e = no_plan _ p e
+found_freed state number address None pc p is lies e = not_refused e
 found_freed state number address (Some block) pc p is lies e =
     freed_by (block.base == address) state number block pc p is (λ space. lies space block refl) e
 
@@ -168,13 +154,13 @@ pointed_within : (state : HeapState) (tag : HeapTag) → IsSpace state.space
     → ForSome (pointed_to state.space tag) (IsWithin state.space.base state.space.top)
 pointed_within state (Ptr number) space = λ block e.
     found_has (IsWithin state.space.base state.space.top) _ state.space.live block space.within e
-pointed_within state Val space = λ block e. none_is block e
-pointed_within state (Static content) space = λ block e. none_is block e
-pointed_within state (Cell owner content) space = λ block e. none_is block e
-pointed_within state Free space = λ block e. none_is block e
+pointed_within state Val space = λ block e. absurd (none-some block e)
+pointed_within state (Static content) space = λ block e. absurd (none-some block e)
+pointed_within state (Cell owner content) space = λ block e. absurd (none-some block e)
+pointed_within state Free space = λ block e. absurd (none-some block e)
 
 planned_by : (malloc : Bool) (state : HeapState) (number : ℕ) (a : Args HeapTag) (pc : HeapTag) (p : Plan HeapTag)
-    → (malloc ≡ true → 48 ≡ number) → (malloc ≡ false → 49 ≡ number)
+    → (malloc ≡ true → malloc_service ≡ number) → (malloc ≡ false → free_service ≡ number)
     → (if malloc then malloc_plan state a pc else free_plan state a pc) ≡ Ok p → IsHeapPlan state number p
 planned_by true state number a pc p one two e =
     malloc_by (is_val a.t0) (nat_lt state.next block_limit) state number a.a0 pc p (one refl) (λ left. grind (arith, nat_tests)) e
@@ -184,16 +170,16 @@ planned_by false state number a pc p one two e =
 planned : (state : HeapState) (number : ℕ) (a : Args HeapTag) (pc : HeapTag) (p : Plan HeapTag) → IsTrue (heap_knows number)
     → heap_plan state number a pc ≡ Ok p → IsHeapPlan state number p
 planned state number a pc p known e =
-    planned_by (number == 48) state number a pc p (λ one. grind (arith, nat_tests)) (λ other. grind (arith, nat_tests, known)) e
+    planned_by (number == malloc_service) state number a pc p (λ one. grind (arith, nat_tests)) (λ other. grind (arith, nat_tests, known)) e
 
 -- where a plan takes no block back, its range is that of one that is handed out
-pub given_words : (state : HeapState) (p : Plan HeapTag) → IsGiven heap state p → (p.service ≡ 49 → ⊥)
+pub given_words : (state : HeapState) (p : Plan HeapTag) → IsGiven heap state p → (p.service ≡ free_service → ⊥)
     → ForSome p.range (CanHandOut state p.note)
 given_words state p given differs =
     (planned state p.service given.arguments given.pc p given.can.known given.given).hands_out differs
 
--- so is each plan of service 48 that has one
-pub new_block : (state : HeapState) (p : Plan HeapTag) (words : Words) → IsGiven heap state p → p.service ≡ 48
+-- so is each plan of a block to be handed out that has one
+pub new_block : (state : HeapState) (p : Plan HeapTag) (words : Words) → IsGiven heap state p → p.service ≡ malloc_service
     → p.range ≡ Some words → CanHandOut state p.note words
 new_block state p words given is words_is =
     given_words state p given (λ free. absurd (omega (arith, is, free))) words words_is
@@ -251,9 +237,6 @@ room_by true state number range = refl
 room_by false state number None = refl
 room_by false state number (Some words) = refl
 
-plain_not_as_a0 : {P : Type 0} → rest.Plain ≡ AsA0 → P
-plain_not_as_a0 e = cc
-
 wider : (low high : ℕ) (words : Words) → low ≤ high → IsRange low words → IsRange high words
 wider low high words le range =
     record { aligned = range.aligned; nonempty = range.nonempty; within = omega (arith, le, range.within) }
@@ -268,19 +251,18 @@ heap_laws = record {
     knows = λ k. refl;
     uses = λ k. refl;
     lend = λ t. refl;
-    room = room_by (p.service == 49) state p.note p.range;
+    room = room_by (p.service == free_service) state p.note p.range;
     wipe = λ pc old. refl;
     start_pc = λ b. refl;
     start_word = λ b. refl;
     text = λ t. refl;
   };
   stays = λ state p given holds.
-      stays_by (p.service == 49) state p.note p.range
+      stays_by (p.service == free_service) state p.note p.range
       (λ other. given_words state p given (λ free. grind (arith, nat_tests))) holds;
   ranges = λ state k a pc p can holds given words words_is.
       wider state.space.top a.ram words can.room ((planned state k a pc p can.known given).within holds.space words words_is);
   few = λ state k known. omega arith;
   service = λ state k a pc p known given. (planned state k a pc p known given).service;
-  value = λ state k a pc p known given x x_is as_a0.
-      plain_not_as_a0 (sym ((planned state k a pc p known given).plain x x_is) ∙ as_a0);
+  value = λ state k a pc p known given x x_is. plain_keeps a x ((planned state k a pc p known given).plain x x_is);
 }

@@ -5,7 +5,7 @@ ghost use Rattle.policy_trait.specs.Model.{IsGiven};
 ghost use Rattle.policy_trait.specs.Uses.{UsesExactly};
 ghost use Rattle.policy_trait.specs.declared.services.Plan.{Plan};
 ghost use Rattle.policy_trait.specs.declared.services.Words.{Words};
-ghost use Rattle.heap_policy.specs.Heap.{CanHandOut, HeapState, heap, heap_text};
+ghost use Rattle.heap_policy.specs.Heap.{CanHandOut, HeapState, heap, heap_text, malloc_service};
 ghost use Rattle.heap_policy.specs.declared.tag.HeapTag.{HeapTag};
 ghost use Rattle.heap_policy.specs.TextLaws.{TellsApart};
 
@@ -26,5 +26,5 @@ pub fn text_law()
 /// block. The function does nothing.
 pub fn malloc_law()
     ensures { (state : HeapState) (plan : Plan HeapTag) (words : Words) → IsGiven heap state plan
-        → plan.service ≡ 48 → plan.range ≡ Some words → CanHandOut state plan.note words }
+        → plan.service ≡ malloc_service → plan.range ≡ Some words → CanHandOut state plan.note words }
 {}

@@ -26,6 +26,7 @@ use Rattle.heap_policy.specs.declared.tag.HeapTag.{HeapTag}
 use Rattle.heap_policy.specs.declared.tag.HeapTag.TheVariants.{Val, Ptr, Static, Cell, Free}
 use Rattle.part_turns.specs.Moments.{Service, service_of}
 use Rattle.part_turns.specs.Turns.{Allows, Does, computes, loads, loads_part, moves, stores, stores_part}
+use Rattle.part_turns.proofs.PlaceLemmas.{some_bytes}
 use Rattle.heap_runs.specs.BlockBook.{BlockBook, block_book}
 use Rattle.heap_runs.specs.HeapLine.{HeapLine, IsCellOf, is_in_block}
 use Rattle.heap_runs.specs.HeapSafe.{HeapTurn, ReachesBlock, is_in_heap}
@@ -76,12 +77,6 @@ ends_within : (place : ℕ) (width : Width) (block : Block) → place % bytes_of
 ends_within place Byte block aligned even below = omega arith
 ends_within place Half block aligned even below = omega arith
 ends_within place Full block aligned even below = omega arith
-
--- an access of no bytes there is none
-some_bytes : (width : Width) → 1 ≤ bytes_of width
-some_bytes Byte = omega arith
-some_bytes Half = omega arith
-some_bytes Full = omega arith
 
 -- what is to be shown of an access by an address with that tag
 record IsSafe (base top : ℕ) (book : BlockBook) (first : HeapTag) (touch : Touch) : Type 0 where

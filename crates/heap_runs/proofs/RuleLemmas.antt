@@ -15,7 +15,7 @@ use Rattle.heap_policy.specs.declared.tag.HeapTag.{HeapTag}
 use Rattle.heap_policy.specs.declared.tag.HeapTag.TheVariants.{Val, Ptr, Static, Cell, Free}
 use Rattle.part_turns.specs.Turns.{Allows, is_computing}
 use Rattle.heap_runs.specs.HeapLine.{IsBelow, IsContentBelow}
-use Rattle.heap_runs.proofs.TagLemmas.{given_is}
+use Rattle.shared_terms.proofs.StepLemmas.{ok_is}
 
 -- ---- blocks that a result names
 
@@ -182,13 +182,13 @@ pub record IsRow (look : Look HeapTag) (result : HeapTag) : Type 0 where
 decided_by : (g : Group) (static : Bool) (row : Option HeapTag) (outs : Outs HeapTag) → outs_or_refusal g (if static then row else None) ≡ Ok outs
     → (static ≡ true) × (row ≡ Some outs.result)
 decided_by g true (Some tag) outs e =
-    (refl, ap (λ (o : Outs HeapTag). Some o.result) (given_is (record { pc = Val; result = tag }) outs e))
+    (refl, ap (λ (o : Outs HeapTag). Some o.result) (ok_is (record { pc = Val; result = tag }) outs e))
 decided_by g true None outs e = absurd cc
 decided_by g false row outs e = absurd cc
 
 -- and leaves a plain pc
 plain_by : (g : Group) (row : Option HeapTag) (outs : Outs HeapTag) → outs_or_refusal g row ≡ Ok outs → outs.pc ≡ Val
-plain_by g (Some tag) outs e = sym (ap (λ (o : Outs HeapTag). o.pc) (given_is (record { pc = Val; result = tag }) outs e))
+plain_by g (Some tag) outs e = sym (ap (λ (o : Outs HeapTag). o.pc) (ok_is (record { pc = Val; result = tag }) outs e))
 plain_by g None outs e = absurd cc
 
 pub pc_is : (s : Machine HeapState HeapTag) (h : ℕ) (look : Look HeapTag) (outs : Outs HeapTag) (e : Event HeapTag)

@@ -26,7 +26,8 @@ use Rattle.heap_runs.proofs.BookLemmas.{is_other, length_pushed, live_freed, liv
 use Rattle.heap_runs.proofs.FindLemmas.{found_before, found_last, free_word, gone, has_word, lies_out, stays}
 use Rattle.heap_runs.proofs.KeptLemmas.{StaysMemory}
 use Rattle.heap_runs.proofs.RegionLemmas.{heap_has, live_within, newest}
-use Rattle.heap_runs.proofs.TagLemmas.{IsKept, below_more, given, given_is, same_kept, wiped_below, wiped_kept}
+use Rattle.shared_terms.proofs.StepLemmas.{ok_is}
+use Rattle.heap_runs.proofs.TagLemmas.{IsKept, below_more, given, same_kept, wiped_below, wiped_kept}
 
 -- ---- a service of heap safety's own: each word of the range gets one tag, and every other keeps its own
 
@@ -40,7 +41,7 @@ module _ (v : HeapState) (p : Plan HeapTag) (ram new : RamState HeapTag) (range 
   left_by ranged row (written other ranged_there from below tag word) =
       let same : other ≡ range = same_Some other range (let first = ranged in let second = ranged_there in cc) in
       inside (subst (λ (r : Words). r.base ≤ 4 * n) same from) (subst (λ (r : Words). 4 * n < r.base + 4 * r.count) same below)
-      (given_is (nth_tag new n) result (let first = row in let second = tag in cc))
+      (ok_is {E = Refused} (nth_tag new n) result (let first = row in let second = tag in cc))
   left_by ranged row (kept beyond tag word) = outside (beyond range ranged) tag
 
 -- a word outside the heap is none of a range of the heap
@@ -173,11 +174,11 @@ module _ (base top : ℕ) (events : List (Event HeapTag)) (s : Machine HeapState
 
   beside_kept : (zero : Bool) (tag result : HeapTag) → beside zero tag ≡ given result → IsKept tag result
   beside_kept true tag result e = wiped_kept tag result e
-  beside_kept false tag result e = subst (IsKept tag) (given_is tag result e) (same_kept tag)
+  beside_kept false tag result e = subst (IsKept tag) (ok_is tag result e) (same_kept tag)
 
   beside_below : (zero : Bool) (tag result : HeapTag) → IsBelow next tag → beside zero tag ≡ given result → IsBelow next result
   beside_below true tag result below e = wiped_below next tag result below e
-  beside_below false tag result below e = subst (IsBelow next) (given_is tag result e) below
+  beside_below false tag result below e = subst (IsBelow next) (ok_is tag result e) below
 
   module _ (p : Plan HeapTag) (unknown : heap_knows p.service ≡ false) where
     beside_is : (tag : HeapTag) → word_tag heap s.policy p tag ≡ beside p.zero tag

@@ -1,6 +1,7 @@
 -- What tags say of words and of blocks, and what of that stays where a word holds something else.
 use Rattle.std.proofs.Common.{◌≡◌, ℕ, ◌≤◌, true, Option, Some, None, Result, Ok, refl, ap, subst, arith}
 use Rattle.std.proofs.lemmas.Option.{same_Some}
+use Rattle.shared_terms.proofs.StepLemmas.{ok_is}
 use Rattle.policy_trait.specs.declared.rules.Refused.{Refused}
 use Rattle.live_blocks.specs.declared.block.Block.{Block}
 use Rattle.heap_policy.specs.Heap.{holding, is_static, wipe_tag}
@@ -13,9 +14,6 @@ use Rattle.heap_runs.specs.HeapLine.{IsBelow, IsCellOf, IsContentBelow, IsStatic
 -- what is given where nothing refuses
 abbrev pub given : {A : Type 0} → A → Result A Refused
 given x = Ok x
-
-pub given_is : {A : Type 0} (x y : A) → given x ≡ given y → x ≡ y
-given_is x y e = cc
 
 -- ---- blocks that a tag names
 
@@ -65,16 +63,16 @@ holding_kept content (Ptr number) new e = absurd cc
 holding_kept content Free new e = absurd cc
 
 pub wiped_kept : (old new : HeapTag) → wipe_tag old ≡ Ok new → IsKept old new
-wiped_kept (Static old) new e = subst (IsKept (Static old)) (given_is (Static contents.Val) new e) (static_kept old contents.Val)
-wiped_kept (Cell number old) new e = subst (IsKept (Cell number old)) (given_is (Cell number contents.Val) new e) (cell_kept number old contents.Val)
-wiped_kept Free new e = subst (IsKept Free) (given_is Free new e) (same_kept Free)
+wiped_kept (Static old) new e = subst (IsKept (Static old)) (ok_is (Static contents.Val) new e) (static_kept old contents.Val)
+wiped_kept (Cell number old) new e = subst (IsKept (Cell number old)) (ok_is (Cell number contents.Val) new e) (cell_kept number old contents.Val)
+wiped_kept Free new e = subst (IsKept Free) (ok_is Free new e) (same_kept Free)
 wiped_kept Val new e = absurd cc
 wiped_kept (Ptr number) new e = absurd cc
 
 pub wiped_below : (next : ℕ) (old new : HeapTag) → IsBelow next old → wipe_tag old ≡ Ok new → IsBelow next new
-wiped_below next (Static old) new below e = subst (IsBelow next) (given_is (Static contents.Val) new e) tt
-wiped_below next (Cell number old) new below e = subst (IsBelow next) (given_is (Cell number contents.Val) new e) (below.0, tt)
-wiped_below next Free new below e = subst (IsBelow next) (given_is Free new e) tt
+wiped_below next (Static old) new below e = subst (IsBelow next) (ok_is (Static contents.Val) new e) tt
+wiped_below next (Cell number old) new below e = subst (IsBelow next) (ok_is (Cell number contents.Val) new e) (below.0, tt)
+wiped_below next Free new below e = subst (IsBelow next) (ok_is Free new e) tt
 wiped_below next Val new below e = absurd cc
 wiped_below next (Ptr number) new below e = absurd cc
 

@@ -1,5 +1,6 @@
 -- Counts of faults, and which answers raise them.
-use Rattle.std.specs.Prelude.{◌≡◌, ℕ, ◌+◌, ◌-◌, ◌^◌, ◌≤◌, min, List, Result, Ok, Err}
+use Rattle.std.specs.Prelude.{◌≡◌, ℕ, ◌≤◌, List, Result, Ok, Err}
+use Rattle.shared_terms.specs.Counts.{next_count}
 use Rattle.host_io.specs.declared.traits.sink.PutEnd.{PutEnd}
 use Rattle.host_io.specs.declared.traits.sink.PutEnd.TheVariants as put_end
 use Rattle.host_io.specs.declared.traits.files.LoadFile.{LoadFile}
@@ -10,14 +11,10 @@ use Rattle.host_io.specs.declared.traits.source.Failed.{Failed}
 use Rattle.host_io.specs.declared.whole_input.ReadEnd.{ReadEnd}
 use Rattle.host_io.specs.declared.whole_input.ReadEnd.TheVariants as read_end
 
--- A count of this project, one later: it is a `u64` that stands still at its largest value.
-abbrev pub count_after : ℕ → ℕ
-count_after n = min (n + 1) (2 ^ 64 - 1)
-
 -- A count did not fall, and it rose unless it stands still.
 pub record Rose (before now : ℕ) : Type 0 where
   pub kept : before ≤ now
-  pub raised : count_after before ≤ now
+  pub raised : next_count before ≤ now
 
 -- A sink's count rises where a put failed, and every other answer leaves it.
 abbrev pub PutCause : {T : Type 0} → ℕ → ℕ → Result T PutEnd → Type 0

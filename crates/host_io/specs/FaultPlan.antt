@@ -1,7 +1,7 @@
 -- Which numbered calls are to fail, and what was counted of them.
 use Rattle.std.specs.Prelude.{ℕ, ◌==◌, if◌then◌else◌, Bool, List}
 use Rattle.std.specs.List.{list_any}
-use Rattle.host_io.specs.Causes.{count_after}
+use Rattle.shared_terms.specs.Counts.{next_count}
 
 -- The numbers of the calls that are to fail, and the number of the next call.
 pub record Calls : Type 0 where
@@ -18,7 +18,7 @@ fails_next calls = list_any (λ number. number == calls.next) calls.fails
 
 -- The next call has taken its number.
 abbrev pub calls_after : Calls → Calls
-calls_after calls = record calls { next = count_after calls.next }
+calls_after calls = record calls { next = next_count calls.next }
 
 -- Such calls, and how many failed so far.
 pub record Plan : Type 0 where
@@ -32,5 +32,5 @@ fresh_plan fails = record { calls = fresh_calls fails; faults = 0 }
 abbrev pub plan_after : Plan → Plan
 plan_after plan = record {
   calls = calls_after plan.calls;
-  faults = if fails_next plan.calls then count_after plan.faults else plan.faults;
+  faults = if fails_next plan.calls then next_count plan.faults else plan.faults;
 }

@@ -1,7 +1,8 @@
 -- A word is put behind segments that are kept as one list of words.
-use Rattle.std.proofs.Common.{◌≡◌, ℕ, suc, ◌+◌, ◌-◌, ◌*◌, ◌<◌, ◌≤◌, ◌==◌, Bool, true, false, List, [], ◌∷◌, ◌++◌, length, get_or, set, map, take, drop, refl, sym, ap, subst, ◌∙◌, append_assoc, arith}
-use Rattle.std.proofs.lemmas.List.{get_or_default, set-get_or, set_split, drop_all, take_all, length-append, length-drop, length-take, drop-append-le, map_push}
+use Rattle.std.proofs.Common.{◌≡◌, ℕ, ◌+◌, ◌-◌, ◌*◌, ◌<◌, ◌≤◌, ◌==◌, Bool, true, false, List, [], ◌∷◌, ◌++◌, length, get_or, set, map, take, drop, refl, sym, ap, subst, ◌∙◌, append_assoc, arith}
+use Rattle.std.proofs.lemmas.List.{get_or_default, take_all, length-append, length-drop, length-take, drop-append-le, map_push}
 use Rattle.std.proofs.lemmas.List.Elements.{All-take}
+use Rattle.shared_terms.proofs.ListLemmas.{last_set, last_split}
 use Rattle.image_format.specs.declared.rows.WordRange.{WordRange}
 use Rattle.image_format.specs.declared.segments.Extent.{Extent}
 use Rattle.image_format.specs.Picture.{Segment}
@@ -9,16 +10,7 @@ use Rattle.image_format.specs.Building.{end_of, one_word, longer, with_next, wit
 use Rattle.image_format.specs.Parts.{part_of, EndsWithin, AreKept}
 use Rattle.image_format.proofs.PartLemmas.{extent_from, parts_kept, parts_pushed}
 
--- ---- lists
-
-last_set : {A : Type 0} (xs : List A) (x : A) → 0 < length xs → set xs (length xs - 1) x ≡ take (length xs - 1) xs ++ x ∷ []
-last_set {A} xs x some =
-    let i = length xs - 1 in
-    set_split xs i x (omega arith) ∙ ap (λ (ys : List A). take i xs ++ x ∷ ys) (drop_all (suc i) xs (omega arith))
-
--- a list that is not empty ends with its last
-last_split : {A : Type 0} (xs : List A) (none : A) → 0 < length xs → xs ≡ take (length xs - 1) xs ++ get_or xs (length xs - 1) none ∷ []
-last_split xs none some = sym (set-get_or xs (length xs - 1) none) ∙ last_set xs (get_or xs (length xs - 1) none) some
+-- ---- the last segment
 
 -- the last segment alone decides
 word_after : (front : List Segment) (last : Segment) (address word : ℕ) → with_word (front ++ last ∷ []) address word ≡ front ++ with_next last address word

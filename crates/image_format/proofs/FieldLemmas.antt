@@ -1,32 +1,18 @@
 -- A field that is read is what its bytes spell, and what is spelled is read again.
-use Rattle.std.proofs.Common.{◌≡◌, ℕ, ◌+◌, ◌^◌, ◌<◌, ◌≤◌, Bool, true, false, ◌&&◌, cond, ltb, List, ◌++◌, length, get_or, take, drop, Result, Ok, Err, refl, sym, ap, subst, ◌∙◌, append_assoc, arith, inl, inr}
+use Rattle.std.proofs.Common.{◌≡◌, ℕ, ◌+◌, ◌^◌, ◌<◌, ◌≤◌, Bool, true, false, ◌&&◌, cond, ltb, List, ◌++◌, length, get_or, take, drop, Ok, Err, refl, sym, ap, subst, ◌∙◌, append_assoc, arith, inl, inr}
 use Rattle.std.specs.Int.{Width, w16, w32, byte_len, from_le_bytes, to_le_bytes}
 use Rattle.std.proofs.lemmas.Bool.{cases_lt, ltb-true, lt-ltb, ltb-false, le-ltb}
 use Rattle.std.proofs.lemmas.List.{take_at, drop_at, take-append-drop, length-append, length-take, get_or-drop, get_or-take, get_or_past}
 use Rattle.std.proofs.lemmas.Nat.{le_bytes_2, le_bytes_4, from_le_bytes-to_le_bytes_2, from_le_bytes-to_le_bytes_4}
+use Rattle.shared_terms.proofs.StepLemmas.{on_ok, ok_is, demanded}
 use Rattle.image_format.specs.declared.errors.ImageError.{ImageError}
 use Rattle.image_format.specs.declared.errors.ImageError.TheVariants.{Short}
 use Rattle.image_format.specs.Conditions.{is_u32}
 use Rattle.image_format.specs.Spelling.{half, number}
-use Rattle.image_format.specs.Reading.{◌>>=◌, Reads, demand, number_at, tested_at}
+use Rattle.shared_terms.specs.Steps.{demand}
+use Rattle.image_format.specs.Reading.{Reads, number_at, tested_at}
 
--- ---- a `do` block, taken apart
-
--- a step that did not fail, and what comes behind it
-pub on_bind : {A B P : Type 0} (r : Result A ImageError) (f : A → Result B ImageError) (y : B) → (r >>= f) ≡ Ok y → ((x : A) → r ≡ Ok x → f x ≡ Ok y → P) → P
-on_bind (Ok x) f y e next = next x refl e
-on_bind (Err error) f y e next = absurd cc
-
--- a demand that did not fail
-pub demand_ok : (b : Bool) (error : ImageError) (x : Unit {0}) → demand b error ≡ Ok x → b ≡ true
-demand_ok true error x e = refl
-demand_ok false error x e = absurd cc
-
-abbrev done : {A : Type 0} → A → Result A ImageError
-done x = Ok x
-
-pub ok_is : {A : Type 0} (x y : A) → done x ≡ done y → x ≡ y
-ok_is x y e = cc
+-- ---- tests
 
 -- a conjunction of tests, put together and taken apart
 pub and_is : (a b : Bool) → a ≡ true → b ≡ true → (a && b) ≡ true
@@ -112,10 +98,10 @@ wide_again w limit wide size n rest lt =
 tested_takes : (w : Width) (limit : ℕ) (wide : IsWide w limit) (size : ℕ) (test : ℕ → Bool) (error : ℕ → ImageError) (bytes : List ℕ) (x : ℕ × List ℕ) → IsBytes bytes → tested_at w size test error bytes ≡ Ok x → Takes bytes (to_le_bytes w x.0) x.1 × (x.0 < limit) × (test x.0 ≡ true)
 unfolding tested_at
 tested_takes w limit wide size test error bytes x is_bytes e =
-    on_bind (number_at w size bytes) _ x e λ n n-is e1.
-    on_bind (demand (test n.0) (error n.0)) _ x e1 λ u u-is e2.
+    on_ok (number_at w size bytes) _ x e λ n n-is e1.
+    on_ok (demand (test n.0) (error n.0)) _ x e1 λ u u-is e2.
     let t = wide_takes w limit wide size bytes n is_bytes n-is in
-    subst (λ (y : ℕ × List ℕ). Takes bytes (to_le_bytes w y.0) y.1 × (y.0 < limit) × (test y.0 ≡ true)) (ok_is n x e2) (t.0, t.1, demand_ok _ _ u u-is)
+    subst (λ (y : ℕ × List ℕ). Takes bytes (to_le_bytes w y.0) y.1 × (y.0 < limit) × (test y.0 ≡ true)) (ok_is n x e2) (t.0, t.1, demanded _ _ u u-is)
 
 tested_again : (w : Width) (limit : ℕ) (wide : IsWide w limit) (size : ℕ) (test : ℕ → Bool) (error : ℕ → ImageError) (n : ℕ) (rest : List ℕ) → n < limit → test n ≡ true → tested_at w size test error (to_le_bytes w n ++ rest) ≡ Ok (n, rest)
 unfolding tested_at
@@ -124,9 +110,9 @@ tested_again w limit wide size test error n rest lt fits = rw (wide_again w limi
 pub tested_fits : (w : Width) (size : ℕ) (test : ℕ → Bool) (error : ℕ → ImageError) (bytes : List ℕ) (x : ℕ × List ℕ) → tested_at w size test error bytes ≡ Ok x → test x.0 ≡ true
 unfolding tested_at
 tested_fits w size test error bytes x e =
-    on_bind (number_at w size bytes) _ x e λ n n-is e1.
-    on_bind (demand (test n.0) (error n.0)) _ x e1 λ u u-is e2.
-    subst (λ (y : ℕ × List ℕ). test y.0 ≡ true) (ok_is n x e2) (demand_ok _ _ u u-is)
+    on_ok (number_at w size bytes) _ x e λ n n-is e1.
+    on_ok (demand (test n.0) (error n.0)) _ x e1 λ u u-is e2.
+    subst (λ (y : ℕ × List ℕ). test y.0 ≡ true) (ok_is n x e2) (demanded _ _ u u-is)
 
 -- ---- the numbers of the format
 

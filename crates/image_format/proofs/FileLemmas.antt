@@ -12,8 +12,10 @@ use Rattle.image_format.specs.declared.sizes.Sizes.{Sizes}
 use Rattle.image_format.specs.Picture.{Picture}
 use Rattle.image_format.specs.Conditions.{is_aligned, is_harts, is_ram, is_heap_base, is_heap_bytes, is_place, is_range, is_label, is_edge, is_compartment, is_segment, is_clear_of, is_label_after, is_edge_after, is_compartment_after, extent_of, whole, IsImage, IsList}
 use Rattle.image_format.specs.Spelling.{half, number, range_spelling, segment_spelling, label_spelling, edge_spelling, compartment_spelling, list_spelling, opening_spelling, sizes_spelling, lists_spelling, spelling, IsFileOf}
-use Rattle.image_format.specs.Reading.{GivesImage, IsBad, demand, tested_at, field_at, range_at, label_at, edge_at, compartment_at, segment_at, row_at, list_at, is_magic, is_version, harts_at, opening_at, sizes_at, entries_at, lists_at, picture_at, image_of}
-use Rattle.image_format.proofs.FieldLemmas.{on_bind, demand_ok, ok_is, both, IsBytes, Takes, takes_then, ReadsExactly, tested_exact, half_exact}
+use Rattle.shared_terms.specs.Steps.{demand}
+use Rattle.image_format.specs.Reading.{GivesImage, IsBad, tested_at, field_at, range_at, label_at, edge_at, compartment_at, segment_at, row_at, list_at, is_magic, is_version, harts_at, opening_at, sizes_at, entries_at, lists_at, picture_at, image_of}
+use Rattle.shared_terms.proofs.StepLemmas.{on_ok, demanded, ok_is}
+use Rattle.image_format.proofs.FieldLemmas.{both, IsBytes, Takes, takes_then, ReadsExactly, tested_exact, half_exact}
 use Rattle.image_format.proofs.LoopLemmas.{times_length}
 use Rattle.image_format.proofs.ListLemmas.{items_take, items_again, row_reads, list_exact}
 use Rattle.image_format.proofs.RowLemmas.{field_exact, range_exact, label_exact, edge_exact, compartment_exact, segment_reads, regroup_4}
@@ -30,8 +32,8 @@ version_is n e = ap half (eqb-true n 1 e)
 opening_takes : (size : ℕ) (bytes rest : List ℕ) → IsBytes bytes → opening_at size bytes ≡ Ok rest → Takes bytes opening_spelling rest
 unfolding opening_at
 opening_takes size bytes rest is_bytes e =
-    on_bind (tested_at w32 size is_magic (λ _. Magic) bytes) _ rest e λ magic magic-is e1.
-    on_bind (tested_at w16 size is_version (λ n. Version n) magic.1) _ rest e1 λ version version-is e2.
+    on_ok (tested_at w32 size is_magic (λ _. Magic) bytes) _ rest e λ magic magic-is e1.
+    on_ok (tested_at w16 size is_version (λ n. Version n) magic.1) _ rest e1 λ version version-is e2.
     let t1 = (tested_exact size is_magic (λ _. Magic)).takes bytes magic is_bytes magic-is in
     let t2 = (half_exact size is_version (λ n. Version n)).takes magic.1 version t1.0.rest_is_bytes version-is in
     let taken = takes_then bytes (number magic.0) magic.1 (half version.0) version.1 t1.0 t2.0 in
@@ -75,10 +77,10 @@ pub sizes_exact : (size : ℕ) → ReadsExactly (sizes_at size) spelling_of_size
 unfolding sizes_at
 sizes_exact size = record {
   takes = λ bytes x is_bytes e.
-      on_bind (harts_at size bytes) _ x e λ harts harts-is e1.
-      on_bind (field_at size 2 is_ram harts.1) _ x e1 λ ram ram-is e2.
-      on_bind (field_at size 3 (is_heap_base ram.0) ram.1) _ x e2 λ base base-is e3.
-      on_bind (field_at size 4 (is_heap_bytes ram.0 base.0) base.1) _ x e3 λ heap heap-is e4.
+      on_ok (harts_at size bytes) _ x e λ harts harts-is e1.
+      on_ok (field_at size 2 is_ram harts.1) _ x e1 λ ram ram-is e2.
+      on_ok (field_at size 3 (is_heap_base ram.0) ram.1) _ x e2 λ base base-is e3.
+      on_ok (field_at size 4 (is_heap_bytes ram.0 base.0) base.1) _ x e3 λ heap heap-is e4.
       let t1 = (harts_exact size).takes bytes harts is_bytes harts-is in
       let t2 = (field_exact size 2 is_ram).takes harts.1 ram t1.0.rest_is_bytes ram-is in
       let t3 = (field_exact size 3 (is_heap_base ram.0)).takes ram.1 base t2.0.rest_is_bytes base-is in
@@ -128,11 +130,11 @@ record TakesLists (sizes : Sizes) (entries bytes : List ℕ) (x : Picture × Lis
 lists_take : (size : ℕ) (sizes : Sizes) (entries bytes : List ℕ) (x : Picture × List ℕ) → FitSizes sizes → length entries ≡ sizes.harts → list_all (is_place sizes.ram) entries ≡ true → IsBytes bytes → lists_at size sizes entries bytes ≡ Ok x → TakesLists sizes entries bytes x
 unfolding lists_at
 lists_take size sizes entries bytes x fits count places is_bytes e =
-    on_bind (list_at size (segment_at size sizes.ram) bytes) _ x e λ segments segments-are e1.
-    on_bind (list_at size (row_at 2 is_clear_of (range_at size sizes.ram 8)) segments.1) _ x e1 λ code code-is e2.
-    on_bind (list_at size (row_at 3 is_label_after (label_at size sizes.ram)) code.1) _ x e2 λ labels labels-are e3.
-    on_bind (list_at size (row_at 4 is_edge_after (edge_at size)) labels.1) _ x e3 λ edges edges-are e4.
-    on_bind (list_at size (row_at 5 is_compartment_after (compartment_at size sizes.ram)) edges.1) _ x e4 λ compartments compartments-are e5.
+    on_ok (list_at size (segment_at size sizes.ram) bytes) _ x e λ segments segments-are e1.
+    on_ok (list_at size (row_at 2 is_clear_of (range_at size sizes.ram 8)) segments.1) _ x e1 λ code code-is e2.
+    on_ok (list_at size (row_at 3 is_label_after (label_at size sizes.ram)) code.1) _ x e2 λ labels labels-are e3.
+    on_ok (list_at size (row_at 4 is_edge_after (edge_at size)) labels.1) _ x e3 λ edges edges-are e4.
+    on_ok (list_at size (row_at 5 is_compartment_after (compartment_at size sizes.ram)) edges.1) _ x e4 λ compartments compartments-are e5.
     let small = ram_small sizes.ram fits.ram in
     let t1 = (segments_exact size sizes.ram small).takes bytes segments is_bytes segments-are in
     let t2 = (code_exact size sizes.ram small).takes segments.1 code t1.0.rest_is_bytes code-is in
@@ -188,9 +190,9 @@ picture_exact : (size : ℕ) → ReadsExactly (picture_at size) spelling IsImage
 unfolding picture_at spelling
 picture_exact size = record {
   takes = λ bytes x is_bytes e.
-      on_bind (opening_at size bytes) _ x e λ rest rest-is e1.
-      on_bind (sizes_at size rest) _ x e1 λ sizes sizes-are e2.
-      on_bind (entries_at size sizes.0 sizes.1) _ x e2 λ entries entries-are e3.
+      on_ok (opening_at size bytes) _ x e λ rest rest-is e1.
+      on_ok (sizes_at size rest) _ x e1 λ sizes sizes-are e2.
+      on_ok (entries_at size sizes.0 sizes.1) _ x e2 λ entries entries-are e3.
       let t1 = opening_takes size bytes rest is_bytes rest-is in
       let t2 = (sizes_exact size).takes rest sizes t1.rest_is_bytes sizes-are in
       let entry = field_at size 5 (is_place sizes.0.ram) in
@@ -220,10 +222,10 @@ picture_exact size = record {
 pub file_is_of : (bytes : List ℕ) (g : Picture) → IsBytes bytes → image_of bytes ≡ Ok g → IsFileOf bytes g
 unfolding image_of
 file_is_of bytes g is_bytes e =
-    on_bind (picture_at (length bytes) bytes) _ g e λ x x-is e1.
-    on_bind (demand (eqb (length x.1) 0) (Trailing (length bytes - length x.1))) _ g e1 λ u u-is e2.
+    on_ok (picture_at (length bytes) bytes) _ g e λ x x-is e1.
+    on_ok (demand (eqb (length x.1) 0) (Trailing (length bytes - length x.1))) _ g e1 λ u u-is e2.
     let t = (picture_exact (length bytes)).takes bytes x is_bytes x-is in
-    let nothing : x.1 ≡ [] = nil_from_length x.1 (eqb-true _ _ (demand_ok _ _ u u-is)) in
+    let nothing : x.1 ≡ [] = nil_from_length x.1 (eqb-true _ _ (demanded _ _ u u-is)) in
     let spelled : bytes ≡ spelling x.0 = t.0.parts ∙ ap (λ (rest : List ℕ). spelling x.0 ++ rest) nothing ∙ append-nil (spelling x.0) in
     subst (IsFileOf bytes) (ok_is x.0 g e2) (record { is_image = t.1; spelled = spelled })
 

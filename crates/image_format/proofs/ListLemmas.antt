@@ -7,8 +7,10 @@ use Rattle.image_format.specs.declared.errors.ImageError.{ImageError}
 use Rattle.image_format.specs.declared.errors.ImageError.TheVariants.{Order}
 use Rattle.image_format.specs.Conditions.{is_u32, in_order, are_rows, IsList, whole}
 use Rattle.image_format.specs.Spelling.{number, list_spelling}
-use Rattle.image_format.specs.Reading.{Reads, Place, demand, times, number_at, row_at, rows_at, list_at}
-use Rattle.image_format.proofs.FieldLemmas.{on_bind, demand_ok, ok_is, and_is, both, IsBytes, Takes, takes_then, ReadsExactly, number_exact}
+use Rattle.shared_terms.specs.Steps.{demand}
+use Rattle.image_format.specs.Reading.{Reads, Place, times, number_at, row_at, rows_at, list_at}
+use Rattle.shared_terms.proofs.StepLemmas.{on_ok, demanded, ok_is}
+use Rattle.image_format.proofs.FieldLemmas.{and_is, both, IsBytes, Takes, takes_then, ReadsExactly, number_exact}
 use Rattle.image_format.proofs.LoopLemmas.{placed, start, times_length}
 
 -- nothing was taken
@@ -26,8 +28,8 @@ unfolding times
 items_take {A} read text Fits fits exact fit zero bytes x is_bytes e =
     subst (λ (y : List A × List ℕ). Takes bytes (flat_map text y.0) y.1 × (list_all fits y.0 ≡ true)) (ok_is ([], bytes) x e) (takes_nothing bytes is_bytes, refl)
 items_take {A} read text Fits fits exact fit (suc n) bytes x is_bytes e =
-    on_bind (read bytes) _ x e λ first first-is e1.
-    on_bind (times n read first.1) _ x e1 λ others others-is e2.
+    on_ok (read bytes) _ x e λ first first-is e1.
+    on_ok (times n read first.1) _ x e1 λ others others-is e2.
     let t = exact.takes bytes first is_bytes first-is in
     let ts = items_take read text Fits fits exact fit n first.1 others t.0.rest_is_bytes others-is in
     let made : List A × List ℕ = (first.0 ∷ others.0, others.1) in
@@ -53,11 +55,11 @@ pub row_reads : {A : Type 0} (list : ℕ) (follows : A → A → Bool) (read : R
 unfolding row_at
 row_reads {A} list follows read text fits exact = record {
   takes = λ place x is_bytes e.
-      on_bind (read place.bytes) _ x e λ row row-is e1.
-      on_bind (demand (in_order follows place.before row.0) (Order list place.row)) _ x e1 λ u u-is e2.
+      on_ok (read place.bytes) _ x e λ row row-is e1.
+      on_ok (demand (in_order follows place.before row.0) (Order list place.row)) _ x e1 λ u u-is e2.
       let t = exact.takes place.bytes row is_bytes row-is in
       let made : A × Place A = (row.0, placed (place.row + 1) (Some row.0) row.1) in
-      subst (λ (y : A × Place A). Takes place.bytes (text y.0) y.1.bytes × (fits y.0 ≡ true) × (in_order follows place.before y.0 ≡ true) × (y.1.before ≡ Some y.0)) (ok_is made x e2) (t.0, t.1, demand_ok _ _ u u-is, refl);
+      subst (λ (y : A × Place A). Takes place.bytes (text y.0) y.1.bytes × (fits y.0 ≡ true) × (in_order follows place.before y.0 ≡ true) × (y.1.before ≡ Some y.0)) (ok_is made x e2) (t.0, t.1, demanded _ _ u u-is, refl);
   again = λ row before x rest fit ordered. rw (exact.again x rest fit, ordered) refl;
 }
 
@@ -67,8 +69,8 @@ unfolding times
 rows_take {A} {B} step part text fits follows reads zero place x is_bytes e =
     subst (λ (y : List B × Place A). Takes place.bytes (flat_map text y.0) y.1.bytes × (are_rows part fits follows place.before y.0 ≡ true)) (ok_is ([], place) x e) (takes_nothing place.bytes is_bytes, refl)
 rows_take {A} {B} step part text fits follows reads (suc n) place x is_bytes e =
-    on_bind (step place) _ x e λ first first-is e1.
-    on_bind (times n step first.1) _ x e1 λ others others-is e2.
+    on_ok (step place) _ x e λ first first-is e1.
+    on_ok (times n step first.1) _ x e1 λ others others-is e2.
     let t = reads.takes place first is_bytes first-is in
     let ts = rows_take step part text fits follows reads n first.1 others t.0.rest_is_bytes others-is in
     let behind : are_rows part fits follows (Some (part first.0)) others.0 ≡ true = subst (λ (before : Option A). are_rows part fits follows before others.0 ≡ true) t.3 ts.1 in
@@ -92,8 +94,8 @@ pub list_exact : {A B : Type 0} (size : ℕ) (step : Place A → Result (B × Pl
 unfolding list_at rows_at
 list_exact {A} {B} size step part text fits follows reads = record {
   takes = λ bytes x is_bytes e.
-      on_bind (number_at w32 size bytes) _ x e λ count count-is e1.
-      on_bind (times count.0 step (start count.1)) _ x e1 λ rows rows-is e2.
+      on_ok (number_at w32 size bytes) _ x e λ count count-is e1.
+      on_ok (times count.0 step (start count.1)) _ x e1 λ rows rows-is e2.
       let t = (number_exact size).takes bytes count is_bytes count-is in
       let ts = rows_take step part text fits follows reads count.0 (start count.1) rows t.0.rest_is_bytes rows-is in
       let len : length rows.0 ≡ count.0 = times_length count.0 step (start count.1) rows rows-is in

@@ -4,8 +4,9 @@ use Rattle.std.proofs.lemmas.List.{append-nil}
 use Rattle.image_format.specs.declared.errors.ImageError.{ImageError}
 use Rattle.image_format.specs.declared.errors.ImageEnd.{ImageEnd}
 use Rattle.image_format.specs.declared.errors.ImageEnd.TheVariants as ends
-use Rattle.image_format.specs.Reading.{◌>>=◌, FailsAs, Place, times, with_front, rows_at}
-use Rattle.image_format.proofs.FieldLemmas.{on_bind, ok_is}
+use Rattle.shared_terms.specs.Steps.{◌>>=◌}
+use Rattle.image_format.specs.Reading.{FailsAs, Place, times, with_front, rows_at}
+use Rattle.shared_terms.proofs.StepLemmas.{on_ok, ok_is}
 
 -- one more row behind the front, and what comes behind it
 regroup : {S A : Type 0} (front : List A) (x : A) (read : Result (List A × S) ImageError) → with_front front (read >>= λ others. Ok (x ∷ others.0, others.1)) ≡ with_front (front ++ x ∷ []) read
@@ -26,8 +27,8 @@ pub times_length : {S A : Type 0} (count : ℕ) (step : S → Result (A × S) Im
 unfolding times
 times_length {S} {A} zero step s x e = subst (λ (y : List A × S). length y.0 ≡ 0) (ok_is ([], s) x e) refl
 times_length {S} {A} (suc n) step s x e =
-    on_bind (step s) _ x e λ first first-is e1.
-    on_bind (times n step first.1) _ x e1 λ others others-is e2.
+    on_ok (step s) _ x e λ first first-is e1.
+    on_ok (times n step first.1) _ x e1 λ others others-is e2.
     let made : List A × S = (first.0 ∷ others.0, others.1) in
     subst (λ (y : List A × S). length y.0 ≡ suc n) (ok_is made x e2) (ap suc (times_length n step first.1 others others-is))
 

@@ -13,8 +13,10 @@ use Rattle.image_format.specs.declared.segments.Extent.{Extent}
 use Rattle.image_format.specs.Picture.{Segment}
 use Rattle.image_format.specs.Conditions.{is_aligned, is_word_count, is_clear_of, in_order}
 use Rattle.image_format.specs.Parts.{part_of, EndsWithin, AreKept}
-use Rattle.image_format.specs.Reading.{FailsAs, demand, number_at, field_at, times, with_front, range_at, range_behind_at, segment_at}
-use Rattle.image_format.proofs.FieldLemmas.{on_bind, demand_ok, ok_is, both, tested_fits}
+use Rattle.shared_terms.specs.Steps.{demand}
+use Rattle.image_format.specs.Reading.{FailsAs, number_at, field_at, times, with_front, range_at, range_behind_at, segment_at}
+use Rattle.shared_terms.proofs.StepLemmas.{on_ok, demanded, ok_is}
+use Rattle.image_format.proofs.FieldLemmas.{both, tested_fits}
 use Rattle.image_format.proofs.LoopLemmas.{placed, start, goes_on, times_length}
 
 -- where the range before ends, or 0
@@ -54,8 +56,8 @@ in_order-behind (Some other) range e = leb-true _ _ e
 range_inside : (size ram field : ℕ) (bytes : List ℕ) (x : WordRange × List ℕ) → range_at size ram field bytes ≡ Ok x → x.0.address + 4 * x.0.words ≤ ram
 unfolding range_at
 range_inside size ram field bytes x e =
-    on_bind (field_at size field is_aligned bytes) _ x e λ address address-is e1.
-    on_bind (field_at size (field + 1) (is_word_count ram address.0) address.1) _ x e1 λ words words-is e2.
+    on_ok (field_at size field is_aligned bytes) _ x e λ address address-is e1.
+    on_ok (field_at size (field + 1) (is_word_count ram address.0) address.1) _ x e1 λ words words-is e2.
     let made : WordRange × List ℕ = (record { address = address.0; words = words.0 }, words.1) in
     let fits = both _ _ (tested_fits w32 size (is_word_count ram address.0) _ address.1 words words-is) in
     subst (λ (y : WordRange × List ℕ). y.0.address + 4 * y.0.words ≤ ram) (ok_is made x e2) (leb-true _ _ fits.1)
@@ -63,10 +65,10 @@ range_inside size ram field bytes x e =
 range_lies : (size ram row : ℕ) (before : Option WordRange) (bytes : List ℕ) (x : WordRange × List ℕ) → range_behind_at size ram row before bytes ≡ Ok x → LiesBehind ram before x.0
 unfolding range_behind_at
 range_lies size ram row before bytes x e =
-    on_bind (range_at size ram 6 bytes) _ x e λ range range-is e1.
-    on_bind (demand (in_order is_clear_of before range.0) (Order 1 row)) _ x e1 λ u u-is e2.
+    on_ok (range_at size ram 6 bytes) _ x e λ range range-is e1.
+    on_ok (demand (in_order is_clear_of before range.0) (Order 1 row)) _ x e1 λ u u-is e2.
     subst (λ (y : WordRange × List ℕ). LiesBehind ram before y.0) (ok_is range x e2) (record {
-      behind = in_order-behind before range.0 (demand_ok _ _ u u-is);
+      behind = in_order-behind before range.0 (demanded _ _ u u-is);
       inside = range_inside size ram 6 bytes range range-is;
     })
 

@@ -11,8 +11,10 @@ use Rattle.image_format.specs.declared.rows.CompartmentRange.{CompartmentRange}
 use Rattle.image_format.specs.Picture.{Segment}
 use Rattle.image_format.specs.Conditions.{is_u32, is_aligned, is_word_count, is_place, is_owner, is_range, is_label, is_edge, is_compartment, is_segment, is_clear_of, in_order, extent_of}
 use Rattle.image_format.specs.Spelling.{number, range_spelling, label_spelling, edge_spelling, compartment_spelling, segment_spelling}
-use Rattle.image_format.specs.Reading.{Place, demand, number_at, field_at, times, range_at, label_at, edge_at, compartment_at, range_behind_at, segment_at}
-use Rattle.image_format.proofs.FieldLemmas.{on_bind, demand_ok, ok_is, and_is, both, IsBytes, Takes, takes_then, ReadsExactly, number_exact, tested_exact}
+use Rattle.shared_terms.specs.Steps.{demand}
+use Rattle.image_format.specs.Reading.{Place, number_at, field_at, times, range_at, label_at, edge_at, compartment_at, range_behind_at, segment_at}
+use Rattle.shared_terms.proofs.StepLemmas.{on_ok, demanded, ok_is}
+use Rattle.image_format.proofs.FieldLemmas.{and_is, both, IsBytes, Takes, takes_then, ReadsExactly, number_exact, tested_exact}
 use Rattle.image_format.proofs.LoopLemmas.{placed, times_length}
 use Rattle.image_format.proofs.ListLemmas.{items_take, items_again, ReadsRow}
 
@@ -27,8 +29,8 @@ pub range_exact : (size ram field : ℕ) → ram < 2 ^ 32 → ReadsExactly (rang
 unfolding range_at
 range_exact size ram field small = record {
   takes = λ bytes x is_bytes e.
-      on_bind (field_at size field is_aligned bytes) _ x e λ address address-is e1.
-      on_bind (field_at size (field + 1) (is_word_count ram address.0) address.1) _ x e1 λ words words-is e2.
+      on_ok (field_at size field is_aligned bytes) _ x e λ address address-is e1.
+      on_ok (field_at size (field + 1) (is_word_count ram address.0) address.1) _ x e1 λ words words-is e2.
       let t1 = (field_exact size field is_aligned).takes bytes address is_bytes address-is in
       let t2 = (field_exact size (field + 1) (is_word_count ram address.0)).takes address.1 words t1.0.rest_is_bytes words-is in
       let made : WordRange × List ℕ = (record { address = address.0; words = words.0 }, words.1) in
@@ -45,8 +47,8 @@ pub label_exact : (size ram : ℕ) → ram < 2 ^ 32 → ReadsExactly (label_at s
 unfolding label_at
 label_exact size ram small = record {
   takes = λ bytes x is_bytes e.
-      on_bind (field_at size 10 (is_place ram) bytes) _ x e λ address address-is e1.
-      on_bind (number_at w32 size address.1) _ x e1 λ id id-is e2.
+      on_ok (field_at size 10 (is_place ram) bytes) _ x e λ address address-is e1.
+      on_ok (number_at w32 size address.1) _ x e1 λ id id-is e2.
       let t1 = (field_exact size 10 (is_place ram)).takes bytes address is_bytes address-is in
       let t2 = (number_exact size).takes address.1 id t1.0.rest_is_bytes id-is in
       let made : Label × List ℕ = (record { address = address.0; id = id.0 }, id.1) in
@@ -63,8 +65,8 @@ pub edge_exact : (size : ℕ) → ReadsExactly (edge_at size) edge_spelling (λ 
 unfolding edge_at
 edge_exact size = record {
   takes = λ bytes x is_bytes e.
-      on_bind (number_at w32 size bytes) _ x e λ source source-is e1.
-      on_bind (number_at w32 size source.1) _ x e1 λ target target-is e2.
+      on_ok (number_at w32 size bytes) _ x e λ source source-is e1.
+      on_ok (number_at w32 size source.1) _ x e1 λ target target-is e2.
       let t1 = (number_exact size).takes bytes source is_bytes source-is in
       let t2 = (number_exact size).takes source.1 target t1.0.rest_is_bytes target-is in
       let made : Edge × List ℕ = (record { source = source.0; target = target.0 }, target.1) in
@@ -84,10 +86,10 @@ pub compartment_exact : (size ram : ℕ) → ram < 2 ^ 32 → ReadsExactly (comp
 unfolding compartment_at
 compartment_exact size ram small = record {
   takes = λ bytes x is_bytes e.
-      on_bind (range_at size ram 12 bytes) _ x e λ range range-is e1.
-      on_bind (field_at size 14 is_owner range.1) _ x e1 λ owner owner-is e2.
-      on_bind (number_at w32 size owner.1) _ x e2 λ into into-is e3.
-      on_bind (number_at w32 size into.1) _ x e3 λ write write-is e4.
+      on_ok (range_at size ram 12 bytes) _ x e λ range range-is e1.
+      on_ok (field_at size 14 is_owner range.1) _ x e1 λ owner owner-is e2.
+      on_ok (number_at w32 size owner.1) _ x e2 λ into into-is e3.
+      on_ok (number_at w32 size into.1) _ x e3 λ write write-is e4.
       let t1 = (range_exact size ram 12 small).takes bytes range is_bytes range-is in
       let t2 = (field_exact size 14 is_owner).takes range.1 owner t1.0.rest_is_bytes owner-is in
       let t3 = (number_exact size).takes owner.1 into t2.0.rest_is_bytes into-is in
@@ -117,10 +119,10 @@ record TakesRange (ram : ℕ) (before : Option WordRange) (bytes : List ℕ) (x 
 range_behind_takes : (size ram row : ℕ) (before : Option WordRange) (bytes : List ℕ) (x : WordRange × List ℕ) → ram < 2 ^ 32 → IsBytes bytes → range_behind_at size ram row before bytes ≡ Ok x → TakesRange ram before bytes x
 unfolding range_behind_at
 range_behind_takes size ram row before bytes x small is_bytes e =
-    on_bind (range_at size ram 6 bytes) _ x e λ range range-is e1.
-    on_bind (demand (in_order is_clear_of before range.0) (Order 1 row)) _ x e1 λ u u-is e2.
+    on_ok (range_at size ram 6 bytes) _ x e λ range range-is e1.
+    on_ok (demand (in_order is_clear_of before range.0) (Order 1 row)) _ x e1 λ u u-is e2.
     let t = (range_exact size ram 6 small).takes bytes range is_bytes range-is in
-    subst (λ (y : WordRange × List ℕ). TakesRange ram before bytes y) (ok_is range x e2) (record { taken = t.0; fits = t.1; ordered = demand_ok _ _ u u-is })
+    subst (λ (y : WordRange × List ℕ). TakesRange ram before bytes y) (ok_is range x e2) (record { taken = t.0; fits = t.1; ordered = demanded _ _ u u-is })
 
 range_behind_again : (size ram row : ℕ) (before : Option WordRange) (range : WordRange) (rest : List ℕ) → ram < 2 ^ 32 → is_range ram range ≡ true → in_order is_clear_of before range ≡ true → range_behind_at size ram row before (range_spelling range ++ rest) ≡ Ok (range, rest)
 unfolding range_behind_at
@@ -130,8 +132,8 @@ pub segment_reads : (size ram : ℕ) → ram < 2 ^ 32 → ReadsRow (segment_at s
 unfolding segment_at
 segment_reads size ram small = record {
   takes = λ place x is_bytes e.
-      on_bind (range_behind_at size ram place.row place.before place.bytes) _ x e λ range range-is e1.
-      on_bind (times range.0.words (number_at w32 size) range.1) _ x e1 λ words words-is e2.
+      on_ok (range_behind_at size ram place.row place.before place.bytes) _ x e λ range range-is e1.
+      on_ok (times range.0.words (number_at w32 size) range.1) _ x e1 λ words words-is e2.
       let t = range_behind_takes size ram place.row place.before place.bytes range small is_bytes range-is in
       let ts = items_take (number_at w32 size) number (λ n. is_u32 n ≡ true) is_u32 (number_exact size) (λ n fits. fits) range.0.words range.1 words t.taken.rest_is_bytes words-is in
       let len : length words.0 ≡ range.0.words = times_length range.0.words (number_at w32 size) range.1 words words-is in

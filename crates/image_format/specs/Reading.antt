@@ -1,6 +1,7 @@
 -- Reading an image from its first byte to its last, up to the first condition that fails.
-use Rattle.std.specs.Prelude.{◌≡◌, ℕ, zero, suc, ◌+◌, ◌-◌, List, [], ◌∷◌, ◌++◌, length, take, drop, Bool, true, false, Option, Some, None, Result, Ok, Err, nat_lt, ◌==◌, if◌then◌else◌}
+use Rattle.std.specs.Prelude.{◌≡◌, ℕ, zero, suc, ◌+◌, ◌-◌, List, [], ◌∷◌, ◌++◌, length, take, drop, Bool, Option, Some, None, Result, Ok, Err, nat_lt, ◌==◌, if◌then◌else◌}
 use Rattle.std.specs.Int.{Width, w16, w32, byte_len, from_le_bytes}
+use Rattle.shared_terms.specs.Steps.{◌>>=◌, demand}
 use Rattle.image_format.specs.declared.errors.ImageError.{ImageError}
 use Rattle.image_format.specs.declared.errors.ImageError.TheVariants.{Magic, Version, Short, Field, Order, Trailing}
 use Rattle.image_format.specs.declared.errors.ImageEnd.{ImageEnd}
@@ -12,11 +13,6 @@ use Rattle.image_format.specs.declared.rows.CompartmentRange.{CompartmentRange}
 use Rattle.image_format.specs.declared.sizes.Sizes.{Sizes}
 use Rattle.image_format.specs.Picture.{Segment, Picture}
 use Rattle.image_format.specs.Conditions.{is_harts, is_ram, is_heap_base, is_heap_bytes, is_place, is_aligned, is_word_count, is_owner, is_clear_of, is_label_after, is_edge_after, is_compartment_after, in_order}
-
-infixl 10 ◌>>=◌
-abbrev pub ◌>>=◌ : {A B : Type 0} → Result A ImageError → (A → Result B ImageError) → Result B ImageError
-(Ok x) >>= f = f x
-(Err e) >>= f = Err e
 
 -- an early end is the error that reading gives, unless memory ran out
 abbrev pub FailsAs : {Y : Type 0} → ImageEnd → Result Y ImageError → Type 0
@@ -33,11 +29,6 @@ abbrev pub Reads : Type 0 → Type 0
 Reads A = List ℕ → Result (A × List ℕ) ImageError
 
 -- ---- fields; size is the length of the file, of which the given bytes are the rest
-
--- a test that must hold, or else the error
-abbrev pub demand : Bool → ImageError → Result (Unit {0}) ImageError
-demand true error = Ok tt
-demand false error = Err error
 
 -- a number, the low byte first
 abbrev pub number_at : Width → ℕ → Reads ℕ

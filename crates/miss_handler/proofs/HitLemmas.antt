@@ -8,7 +8,8 @@ use Rattle.pump_words.specs.Same.{TellsApart}
 use Rattle.policy_trait.specs.declared.rules.Outs.{Outs}
 use Rattle.policy_trait.specs.declared.rules.Refused.{Refused}
 use Rattle.engine_trait.specs.Accounts as accounts
-use Rattle.engine_trait.specs.Accounts.{Account, next_count, group_eq, is_kept, looked_up, rule_kept, same_key, seeing, with_tags}
+use Rattle.engine_trait.specs.Accounts.{Account, group_eq, is_kept, looked_up, rule_kept, same_key, seeing, with_tags}
+use Rattle.shared_terms.specs.Counts.{next_count}
 use Rattle.rule_cache.specs.Named.{IsKeyBelow, key_by}
 use Rattle.rule_cache.specs.Stores.{Store, counted_as, lookup_of, looked_for}
 use Rattle.rule_cache.specs.declared.key.Key.{Key}

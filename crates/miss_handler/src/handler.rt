@@ -3,7 +3,8 @@
 ghost use Rattle.std.specs.Prelude.{◌≡◌, ◌↔◌, ◌<◌, ◌≤◌, [], ◌∷◌, Err, IfOk, IsOk, IsOkAnd, OnErr, OnOk, Ok, Some, if◌then◌else◌, true, is_some, length, slice_get};
 ghost use Rattle.policy_trait.specs.Model.{masked_inputs};
 ghost use Rattle.policy_trait.specs.declared.rules.Refused.{Refused};
-ghost use Rattle.engine_trait.specs.Accounts.{Account, next_count, is_kept, looked_up, rule_kept, with_tags};
+ghost use Rattle.engine_trait.specs.Accounts.{Account, is_kept, looked_up, rule_kept, with_tags};
+ghost use Rattle.shared_terms.specs.Counts.{next_count};
 ghost use Rattle.rule_cache.specs.Stores.{lookup_of, store_with};
 ghost use Rattle.tag_intern.specs.Table.{Extends};
 ghost use Rattle.miss_handler.specs.Asked.{AreInWords, AreOutWords, AreRules, answer_on, outs_on, tag_key, word_key};

@@ -5,8 +5,6 @@ mod ends;
 mod handler;
 mod masks;
 mod rules;
-#[cfg(test)]
-mod tests;
 
 pub use ends::AskEnd;
 pub use handler::ask;

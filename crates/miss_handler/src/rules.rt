@@ -2,7 +2,7 @@
 
 ghost use Rattle.std.specs.Prelude.{◌≡◌, Ok};
 ghost use Rattle.rv_decode.specs.declared.groups.Group.{Group as AnyGroup};
-ghost use Rattle.engine_trait.specs.Accounts.{next_count};
+ghost use Rattle.shared_terms.specs.Counts.{next_count};
 ghost use Rattle.miss_handler.specs.Books.{rulebook_of};
 
 use crate::masks::Masks;

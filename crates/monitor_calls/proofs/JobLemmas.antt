@@ -17,7 +17,8 @@ use Rattle.policy_trait.specs.declared.services.Words.{Words}
 use Rattle.tag_memory.specs.Ram.{IsPlace}
 use Rattle.monitor_calls.specs.Ranges.{IsJobOf, Refuses, RefusesWord, RetagsEach}
 use Rattle.monitor_calls.specs.Service.{Job, job_of, new_tags, retagged_range, service_job, served_plan}
-use Rattle.monitor_calls.proofs.RangeLemmas.{each_retagged, first_refused, never_spent, refused_first, retags_each, same_list}
+use Rattle.monitor_calls.proofs.RangeLemmas.{each_retagged, first_refused, never_spent, refused_first, retags_each}
+use Rattle.shared_terms.proofs.StepLemmas.{ok_is}
 
 abbrev done : {T : Type 0} → Job T → Result (Job T) PlanEnd
 done job = Ok job
@@ -58,7 +59,7 @@ module _ {T S : Type 0} (m : PolicyModel T S) (s : S) (word_at : ℕ → ℕ) (t
       retags_each m s word_at tag_at plan given.base given.count words (ap (retagged_range m s word_at tag_at plan) (sym is) ∙ e)
 
   by_no_range : (plan : Plan T) (range : Option Words) (words : List (ℕ × ℕ × T)) → retagged_range m s word_at tag_at plan range ≡ Ok words → range ≡ None → words ≡ []
-  by_no_range plan range words e none = sym (same_list [] words (ap (retagged_range m s word_at tag_at plan) (sym none) ∙ e))
+  by_no_range plan range words e none = sym (ok_is [] words (ap (retagged_range m s word_at tag_at plan) (sym none) ∙ e))
 
   -- a range that is retagged has words
   has_words : (plan : Plan T) (words : Result (List (ℕ × ℕ × T)) PlanEnd) → IsOk words → ((list : List (ℕ × ℕ × T)) → words ≡ Ok list → 1 ≤ length list)
@@ -86,7 +87,7 @@ module _ {T S : Type 0} (m : PolicyModel T S) (s : S) (word_at : ℕ → ℕ) (t
   by_place : (bytes : ℕ) (plan : Plan T) (range : Option Words) (words : List (ℕ × ℕ × T)) → retagged_range m s word_at tag_at plan range ≡ Ok words → ForSome range (IsRange bytes)
       → All (λ (word : ℕ × ℕ × T). IsPlace bytes word.0) words
   by_place bytes plan None words e is =
-      subst (All (λ (word : ℕ × ℕ × T). IsPlace bytes word.0)) (same_list [] words e) (All-nil (λ (word : ℕ × ℕ × T). IsPlace bytes word.0))
+      subst (All (λ (word : ℕ × ℕ × T). IsPlace bytes word.0)) (ok_is [] words e) (All-nil (λ (word : ℕ × ℕ × T). IsPlace bytes word.0))
   by_place bytes plan (Some range) words e is = each_place bytes plan range words (is range refl) (retags_each m s word_at tag_at plan range.base range.count words e)
 
   -- ---- a job that a service gives

@@ -1,27 +1,22 @@
 -- A range is retagged where each of its words is, and refused where one is.
 use Rattle.std.proofs.Common.{◌≡◌, ◌≢◌, ℕ, zero, suc, ◌+◌, ◌*◌, ◌<◌, List, [], ◌∷◌, length, Some, Result, Ok, Err, refl, sym, ap, ◌∙◌, subst, arith}
 use Rattle.std.specs.Prelude.{IsOk, is_ok, slice_get}
+use Rattle.std.proofs.lemmas.Option.{same_Some}
 use Rattle.policy_trait.specs.Model.{PolicyModel}
-use Rattle.policy_trait.specs.Steps.{◌>>=◌}
+use Rattle.shared_terms.specs.Steps.{◌>>=◌}
 use Rattle.policy_trait.specs.declared.rules.Refused.{Refused}
 use Rattle.policy_trait.specs.declared.services.Plan.{Plan}
 use Rattle.policy_trait.specs.declared.services.PlanEnd.{PlanEnd}
 use Rattle.policy_trait.specs.declared.services.PlanEnd.TheVariants as plan_end
 use Rattle.tag_memory.specs.Rows.{StandFrom}
+use Rattle.tag_memory.proofs.RowLemmas.{next_place}
+use Rattle.shared_terms.proofs.StepLemmas.{ok_is, on_ok}
 use Rattle.monitor_calls.specs.Service.{new_word, new_tags, tag_or_end}
 use Rattle.monitor_calls.specs.Ranges.{RefusesFirst, RetagsEach}
 
--- the first place, and the next one
+-- the first place
 first_place : (base : ℕ) → base + 4 * 0 ≡ base
 first_place base = omega arith
-
-next_place : (base k : ℕ) → base + 4 * suc k ≡ base + 4 + 4 * k
-next_place base k = omega arith
-
--- a step that did not fail
-on_ok : {A B E P : Type 0} (r : Result A E) (f : A → Result B E) (y : B) → (r >>= f) ≡ Ok y → ((x : A) → r ≡ Ok x → f x ≡ Ok y → P) → P
-on_ok (Ok x) f y e next = next x refl e
-on_ok (Err error) f y e next = absurd cc
 
 given_tag : {A : Type 0} (r : Result A Refused) (tag : A) → tag_or_end r ≡ Ok tag → r ≡ Ok tag
 given_tag (Ok given) tag e = cc
@@ -31,17 +26,11 @@ given_tag (Err refused) tag e = absurd cc
 abbrev done : {A : Type 0} → List A → Result (List A) PlanEnd
 done list = Ok list
 
-pub same_list : {A : Type 0} (list given : List A) → done list ≡ done given → list ≡ given
-same_list list given e = cc
-
 abbrev failed : (A : Type 0) → Refused → Result A PlanEnd
 failed A refused = Err (plan_end.Refused refused)
 
 same_refusal : (A : Type 0) (refused given : Refused) → failed A refused ≡ failed A given → refused ≡ given
 same_refusal A refused given e = cc
-
-same_item : {A : Type 0} (x y : A) → Some x ≡ Some y → x ≡ y
-same_item x y e = cc
 
 module _ {T S : Type 0} (m : PolicyModel T S) (s : S) (word_at : ℕ → ℕ) (tag_at : ℕ → T) (plan : Plan T) where
   abbrev from : ℕ → ℕ → Result (List (ℕ × ℕ × T)) PlanEnd
@@ -64,19 +53,19 @@ module _ {T S : Type 0} (m : PolicyModel T S) (s : S) (word_at : ℕ → ℕ) (t
   }
 
   place_more : (base : ℕ) (value : ℕ) (tag : T) (rest : List (ℕ × ℕ × T)) → StandFrom (base + 4) rest → StandFrom base ((base, value, tag) ∷ rest)
-  place_more base value tag rest row zero item is = ap (λ (item : ℕ × ℕ × T). item.0) (sym (same_item (base, value, tag) item is)) ∙ sym (first_place base)
+  place_more base value tag rest row zero item is = ap (λ (item : ℕ × ℕ × T). item.0) (sym (same_Some (base, value, tag) item is)) ∙ sym (first_place base)
   place_more base value tag rest row (suc k) item is = row k item is ∙ sym (next_place base k)
 
   value_more : (base : ℕ) (tag : T) (rest : List (ℕ × ℕ × T)) → ((k : ℕ) (item : ℕ × ℕ × T) → slice_get rest k ≡ Some item → item.1 ≡ new_word plan (word_at (base + 4 + 4 * k)))
       → (k : ℕ) (item : ℕ × ℕ × T) → slice_get ((base, new_word plan (word_at base), tag) ∷ rest) k ≡ Some item → item.1 ≡ new_word plan (word_at (base + 4 * k))
   value_more base tag rest values zero item is =
-      ap (λ (item : ℕ × ℕ × T). item.1) (sym (same_item (base, new_word plan (word_at base), tag) item is)) ∙ ap (λ (a : ℕ). new_word plan (word_at a)) (sym (first_place base))
+      ap (λ (item : ℕ × ℕ × T). item.1) (sym (same_Some (base, new_word plan (word_at base), tag) item is)) ∙ ap (λ (a : ℕ). new_word plan (word_at a)) (sym (first_place base))
   value_more base tag rest values (suc k) item is = values k item is ∙ ap (λ (a : ℕ). new_word plan (word_at a)) (sym (next_place base k))
 
   tag_more : (base value : ℕ) (tag : T) (rest : List (ℕ × ℕ × T)) → asked base ≡ Ok tag → ((k : ℕ) (item : ℕ × ℕ × T) → slice_get rest k ≡ Some item → asked (base + 4 + 4 * k) ≡ Ok item.2)
       → (k : ℕ) (item : ℕ × ℕ × T) → slice_get ((base, value, tag) ∷ rest) k ≡ Some item → asked (base + 4 * k) ≡ Ok item.2
   tag_more base value tag rest given tags zero item is =
-      ap asked (first_place base) ∙ given ∙ ap (λ (item : ℕ × ℕ × T). Ok item.2) (same_item (base, value, tag) item is)
+      ap asked (first_place base) ∙ given ∙ ap (λ (item : ℕ × ℕ × T). Ok item.2) (same_Some (base, value, tag) item is)
   tag_more base value tag rest given tags (suc k) item is = ap asked (next_place base k) ∙ tags k item is
 
   one_more : (base count : ℕ) (tag : T) (rest : List (ℕ × ℕ × T)) → asked base ≡ Ok tag → Each (base + 4) count rest → Each base (suc count) ((base, new_word plan (word_at base), tag) ∷ rest)
@@ -88,11 +77,11 @@ module _ {T S : Type 0} (m : PolicyModel T S) (s : S) (word_at : ℕ → ℕ) (t
   }
 
   pub retags_each : (base count : ℕ) (words : List (ℕ × ℕ × T)) → from base count ≡ Ok words → Each base count words
-  retags_each base zero words e = subst (Each base 0) (same_list [] words e) (none_each base)
+  retags_each base zero words e = subst (Each base 0) (ok_is [] words e) (none_each base)
   retags_each base (suc count) words e =
       on_ok (tag_or_end (asked base)) _ words e λ tag tag-is e1.
       on_ok (from (base + 4) count) _ words e1 λ rest rest-is e2.
-      subst (Each base (suc count)) (same_list ((base, new_word plan (word_at base), tag) ∷ rest) words e2)
+      subst (Each base (suc count)) (ok_is ((base, new_word plan (word_at base), tag) ∷ rest) words e2)
       (one_more base count tag rest (given_tag (asked base) tag tag-is) (retags_each (base + 4) count rest rest-is))
 
   -- and back

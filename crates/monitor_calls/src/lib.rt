@@ -3,8 +3,6 @@
 
 mod law;
 mod serving;
-#[cfg(test)]
-mod tests;
 mod view;
 
 pub use law::{retag_law, service_law};

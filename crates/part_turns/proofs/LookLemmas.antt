@@ -15,7 +15,8 @@ use Rattle.rv_step.specs.Effects.{plus}
 use Rattle.rv_step.specs.declared.accesses.Width.TheVariants.{Byte, Half}
 use Rattle.rv_step.specs.declared.faults.Fault.{Fault}
 use Rattle.rv_step.specs.declared.faults.Fault.TheVariants.{Fetch, Illegal}
-use Rattle.policy_trait.specs.Steps.{◌>>=◌}
+use Rattle.shared_terms.specs.Steps.{◌>>=◌}
+use Rattle.shared_terms.proofs.StepLemmas.{ok_is}
 use Rattle.tag_memory.specs.Hart.{HartState, reg_tag, reg_value}
 use Rattle.tag_memory.specs.Ram.{RamState, ram_bytes}
 use Rattle.turn_steps.specs.Effects.{result_value}
@@ -122,9 +123,6 @@ module _ {T : Type 0} (hart : HartState T) (ram : RamState T) (look : Look T) wh
   abbrev done : Look T → Result (Look T) Fault
   done given = Ok given
 
-  same_look : (given : Look T) → done given ≡ done look → given ≡ look
-  same_look given e = cc
-
   abbrev fetched_at : Option ℕ
   fetched_at = slice_get ram.words (hart.pc / 4)
 
@@ -138,7 +136,7 @@ module _ {T : Type 0} (hart : HartState T) (ram : RamState T) (look : Look T) wh
   by_fault : (word : ℕ) (instr : Instr) → fetched_at ≡ Some word → instr_of_word word ≡ Some instr
       → (fault : Option Fault) → fault_of instr ≡ fault → checked word instr fault ≡ Ok look → Looks hart ram look
   by_fault word instr there is None none e =
-      subst (Looks hart ram) (same_look (look_of hart ram word instr) e)
+      subst (Looks hart ram) (ok_is (look_of hart ram word instr) look e)
       (record { seen = sees hart ram word instr there is none; does = does hart ram word instr })
   by_fault word instr there is (Some fault) none e = absurd cc
 

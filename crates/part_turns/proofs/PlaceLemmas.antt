@@ -7,9 +7,10 @@ use Rattle.std.proofs.lemmas.List.{get_or_past, get_or-set_same, get_or-set_othe
 use Rattle.std.specs.Option.{ForSome}
 use Rattle.std.proofs.lemmas.Option.{same_Some, slice_get-get_or}
 use Rattle.rv_decode.specs.Groups.{a0}
-use Rattle.rv_step.specs.Accesses.{stored_in}
+use Rattle.rv_step.specs.Accesses.{bytes_of, stored_in}
 use Rattle.rv_step.specs.declared.accesses.Access.TheVariants as access
 use Rattle.rv_step.specs.declared.accesses.Width.{Width}
+use Rattle.rv_step.specs.declared.accesses.Width.TheVariants.{Byte, Full, Half}
 use Rattle.rv_step.specs.declared.accesses.Access.{Access}
 use Rattle.policy_trait.specs.declared.services.Answer.{Answer}
 use Rattle.policy_trait.specs.PolicyLaws.{IsRange}
@@ -23,7 +24,8 @@ use Rattle.tag_memory.specs.Ram.{IsRam, RamState, ram_bytes, ram_tag, ram_word, 
 use Rattle.tag_memory.specs.Rows.{LiesOutsideRow}
 use Rattle.monitor_calls.specs.Ranges.{RetagsEach}
 use Rattle.monitor_calls.specs.Service.{new_word, retagged_range}
-use Rattle.monitor_calls.proofs.RangeLemmas.{retags_each, same_list}
+use Rattle.monitor_calls.proofs.RangeLemmas.{retags_each}
+use Rattle.shared_terms.proofs.StepLemmas.{ok_is}
 use Rattle.turn_steps.specs.Effects.{with_store, with_tagged}
 use Rattle.turn_steps.specs.Services.{WritesRow, with_answer, with_words}
 use Rattle.turn_steps.proofs.RowLemmas.{ArePlaces, writes_row}
@@ -35,6 +37,12 @@ use Rattle.engine_trait.specs.Machine.{CoreState, has_no_stop, hart_at, is_ready
 has_second : (first second : Bool) → (first && second) ≡ true → second ≡ true
 has_second true second e = e
 has_second false second e = absurd cc
+
+-- an access of no bytes there is none
+pub some_bytes : (width : Width) → 1 ≤ bytes_of width
+some_bytes Byte = omega arith
+some_bytes Half = omega arith
+some_bytes Full = omega arith
 
 -- ---- lists with one place set
 
@@ -271,7 +279,7 @@ module _ {U : Type 0} where
     served_by : (given : Option Words) → p.range ≡ given → ForSome given (IsRange (ram_bytes ram))
         → retagged_range (beside_others m) v (ram_word ram) (ram_tag ram) p given ≡ Ok words → (n : ℕ) → IsServed m v p ram (with_words ram words) n
     served_by None none is_range e n =
-        let empty : [] ≡ words = same_list [] words e in
+        let empty : [] ≡ words = ok_is [] words e in
         subst (λ list. IsServed m v p ram (with_words ram list) n) empty
         (kept (subst (λ given. ForSome given (λ range. LiesOutsideRow range.base range.count (4 * n))) (sym none) (λ x x_is. absurd cc)) refl refl)
     served_by (Some range) some is_range e n =

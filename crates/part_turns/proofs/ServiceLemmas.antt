@@ -2,7 +2,7 @@
 use Rattle.std.proofs.Common.{◌≡◌, ℕ, zero, suc, ◌+◌, true, List, [], ◌∷◌, Option, Some, None, Result, Ok, Err, refl, sym, ap, ◌∙◌}
 use Rattle.policy_trait.specs.Maps.{plan_by}
 use Rattle.policy_trait.specs.Model.{PolicyModel}
-use Rattle.policy_trait.specs.Steps.{◌>>=◌}
+use Rattle.shared_terms.specs.Steps.{◌>>=◌}
 use Rattle.policy_trait.specs.declared.rules.Refused.{Refused}
 use Rattle.policy_trait.specs.declared.services.Args.{Args}
 use Rattle.policy_trait.specs.declared.services.Plan.{Plan}
@@ -10,7 +10,8 @@ use Rattle.policy_trait.specs.declared.services.PlanEnd.{PlanEnd}
 use Rattle.policy_trait.specs.declared.services.Words.{Words}
 use Rattle.monitor_calls.specs.Ranges.{IsJobOf}
 use Rattle.monitor_calls.specs.Service.{new_word, new_tags, retagged_range, tag_or_end}
-use Rattle.monitor_calls.proofs.RangeLemmas.{each_retagged, same_list}
+use Rattle.monitor_calls.proofs.RangeLemmas.{each_retagged}
+use Rattle.shared_terms.proofs.StepLemmas.{ok_is}
 use Rattle.engine_trait.specs.Maps.{words_by}
 use Rattle.policy_parts.specs.Part.{IsPart, Planned, beside_others, others, own}
 use Rattle.policy_parts.specs.View.{View}
@@ -48,7 +49,7 @@ module _ {T S U V : Type 0} (w : PolicyModel T S) (m : PolicyModel U V) (l : Vie
       ap (λ (answer : Result U Refused). tag_or_end answer >>= λ t. from_seen (base + 4) count >>= λ later. given (more base t later))
       (retag_seen base tag is)
       ∙ ap (λ later. later >>= λ seen_words. given (more base (l.tag tag) seen_words)) (each list refl)
-      ∙ ap (λ all. given (words_by l.tag all)) (same_list (more base tag list) words e)
+      ∙ ap (λ all. given (words_by l.tag all)) (ok_is (more base tag list) words e)
   by_rest base count words tag is (Err end) each e = absurd cc
 
   by_tag : (base count : ℕ) (words : List (ℕ × ℕ × T)) (answer : Result T Refused) → w.retag s p (tag_at base) ≡ answer
@@ -59,7 +60,7 @@ module _ {T S U V : Type 0} (w : PolicyModel T S) (m : PolicyModel U V) (l : Vie
   by_tag base count words (Err refused) is each e = absurd cc
 
   retagged_seen : (base count : ℕ) (words : List (ℕ × ℕ × T)) → from base count ≡ Ok words → from_seen base count ≡ Ok (words_by l.tag words)
-  retagged_seen base zero words e = ap (λ all. given (words_by l.tag all)) (same_list [] words e)
+  retagged_seen base zero words e = ap (λ all. given (words_by l.tag all)) (ok_is [] words e)
   retagged_seen base (suc count) words e = by_tag base count words (w.retag s p (tag_at base)) refl (retagged_seen (base + 4) count) e
 
   abbrev range_seen : Option Words → Result (List (ℕ × ℕ × U)) PlanEnd

@@ -3,7 +3,7 @@ use Rattle.std.proofs.Common.{◌≡◌, ℕ, Bool, true, false, Option, None, R
 use Rattle.rv_step.specs.declared.faults.Fault.{Fault}
 use Rattle.rv_step.specs.declared.faults.Fault.TheVariants.{NoService, Spent}
 use Rattle.policy_trait.specs.Model.{PolicyModel}
-use Rattle.policy_trait.specs.Steps.{◌>>=◌}
+use Rattle.shared_terms.specs.Steps.{◌>>=◌}
 use Rattle.policy_trait.specs.declared.rules.Outs.{Outs}
 use Rattle.policy_trait.specs.declared.rules.Refused.{Refused}
 use Rattle.policy_trait.specs.declared.services.PlanEnd.{PlanEnd}

@@ -7,7 +7,7 @@ use Rattle.rv_step.specs.declared.accesses.Access.TheVariants as access
 use Rattle.policy_trait.specs.PolicyLaws.{IsRange, KeepsLaws}
 use Rattle.policy_trait.specs.Maps.{args_by, ok_by, outs_by, plan_by}
 use Rattle.policy_trait.specs.Model.{PolicyModel}
-use Rattle.policy_trait.specs.Steps.{◌>>=◌}
+use Rattle.shared_terms.specs.Steps.{◌>>=◌}
 use Rattle.policy_trait.specs.declared.rules.Outs.{Outs}
 use Rattle.policy_trait.specs.declared.rules.Refused.{Refused}
 use Rattle.policy_trait.specs.declared.services.Args.{Args}

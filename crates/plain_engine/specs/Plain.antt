@@ -1,14 +1,15 @@
 -- The engine that asks its policy at every turn, and keeps no rules.
 use Rattle.std.specs.Prelude.{◌≡◌, ℕ, Bool, true, false, List, Option, Some, None, Result, Ok, Err}
 use Rattle.policy_trait.specs.Model.{PolicyModel}
-use Rattle.policy_trait.specs.Steps.{◌>>=◌}
+use Rattle.shared_terms.specs.Steps.{◌>>=◌}
 use Rattle.policy_trait.specs.declared.rules.Outs.{Outs}
 use Rattle.tag_memory.specs.Hart.{HartState}
 use Rattle.tag_memory.specs.Ram.{RamState}
 use Rattle.monitor_calls.specs.Service.{Job}
 use Rattle.turn_steps.specs.declared.look.Look.{Look}
 use Rattle.turn_steps.specs.declared.stop.Stop.{Stop}
-use Rattle.engine_trait.specs.Accounts.{IsUncached, next_count, plain_account}
+use Rattle.engine_trait.specs.Accounts.{IsUncached, plain_account}
+use Rattle.shared_terms.specs.Counts.{next_count}
 use Rattle.engine_trait.specs.Machine.{CoreState, IsMachine, Machine, fresh_core}
 use Rattle.engine_trait.specs.Standing.{Standing}
 use Rattle.engine_trait.specs.Turn.{Turned, turn_effect, job_at, turn_job, settlement}

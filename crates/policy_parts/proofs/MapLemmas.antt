@@ -1,5 +1,6 @@
 -- What may be absent, and is changed where it is there.
 use Rattle.std.proofs.Common.{◌≡◌, Option, Some, None, option_map, refl, subst}
+use Rattle.std.proofs.lemmas.Option.{same_Some}
 use Rattle.std.specs.Option.{ForSome}
 use Rattle.policy_trait.specs.PolicyLaws.{KeepsValue}
 use Rattle.policy_trait.specs.Maps.{answer_by, args_by}
@@ -13,10 +14,7 @@ mapped_twice f g (Some x) = refl
 -- what holds of each changed value
 pub for_some_mapped : {A B : Type 0} (f : A → B) (P : B → Type 0) (x : Option A) → ForSome x (λ y. P (f y)) → ForSome (option_map f x) P
 for_some_mapped f P None all = λ y e. absurd (let h : None ≡ Some y = e in cc)
-for_some_mapped {A} {B} f P (Some x) all = λ y e. subst P (some_is (f x) y e) (all x refl)
-  where
-    some_is : (y z : B) → Some y ≡ Some z → y ≡ z
-    some_is y z e = cc
+for_some_mapped {A} {B} f P (Some x) all = λ y e. subst P (same_Some (f x) y e) (all x refl)
 
 -- an answer with another tag keeps its value
 pub value_mapped : {T U : Type 0} (f : T → U) (a : Args T) (x : Option (Answer T)) → ForSome x (KeepsValue a)

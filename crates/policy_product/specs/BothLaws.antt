@@ -1,5 +1,6 @@
 -- Two policies that keep the laws keep them as one.
 use Rattle.std.proofs.Common.{◌≡◌, ℕ, ◌≤◌, Bool, true, false, ◌&&◌, ◌||◌, List, Option, Some, None, Result, Ok, Err, IsTrue, OnErr, OnOk, max, option_map, refl, sym, ap, ◌∙◌, subst, if◌then◌else◌, arith}
+use Rattle.std.proofs.lemmas.Option.{same_Some}
 use Rattle.std.specs.Option.{ForSome}
 use Rattle.std.proofs.Math.Nat.{le-max_left, le-max_right}
 use Rattle.rv_decode.specs.declared.groups.Group.{Group}
@@ -7,7 +8,7 @@ use Rattle.policy_trait.specs.PolicyLaws.{IsRange, KeepsLaws, KeepsValue, SameRu
 use Rattle.policy_trait.specs.UseLaws.{rule_by_key}
 use Rattle.policy_trait.specs.Maps.{args_by, ins_by, ok_by, plan_by}
 use Rattle.policy_trait.specs.Model.{CanPlan, IsGiven, PolicyModel, masked_inputs}
-use Rattle.policy_trait.specs.Steps.{◌>>=◌}
+use Rattle.shared_terms.specs.Steps.{◌>>=◌}
 use Rattle.policy_trait.specs.declared.rules.Ins.{Ins}
 use Rattle.policy_trait.specs.declared.rules.Outs.{Outs}
 use Rattle.policy_trait.specs.declared.rules.Refused.{Refused}
@@ -56,12 +57,9 @@ value_beside : {T W : Type 0} (put : Answer T → Answer W) (a : Args T) (b : Ar
     → ForSome answer (KeepsValue a) → ForSome (option_map put answer) (KeepsValue b)
 value_beside put a b None same values rests all = λ x e. absurd (let h : None ≡ Some x = e in cc)
 value_beside {T} {W} put a b (Some y) same values rests all = λ x e as_a0.
-    let is : put y ≡ x = some_is (put y) x e in
+    let is : put y ≡ x = same_Some (put y) x e in
     sym (ap (λ (z : Answer W). z.value) is) ∙ values y
     ∙ all y refl (sym (rests y) ∙ ap (λ (z : Answer W). z.rest) is ∙ as_a0) ∙ same
-  where
-    some_is : (x y : Answer W) → Some x ≡ Some y → x ≡ y
-    some_is x y e = cc
 
 either_known : (a b : Bool) → IsTrue (a || b) → a ≡ false → IsTrue b
 either_known true b known off = absurd (cc off)

@@ -1,5 +1,6 @@
 -- A policy that may be off keeps the laws that the policy keeps.
 use Rattle.std.proofs.Common.{◌≡◌, ℕ, ◌≤◌, Bool, true, false, Option, Some, None, Result, Ok, Err, IsTrue, option_map, refl, sym, ap, ◌∙◌, subst, if◌then◌else◌}
+use Rattle.std.proofs.lemmas.Option.{same_Some}
 use Rattle.std.specs.Option.{ForSome}
 use Rattle.rv_decode.specs.declared.groups.Group.{Group}
 use Rattle.policy_trait.specs.PolicyLaws.{IsRange, KeepsLaws, KeepsValue, SameRules}
@@ -149,12 +150,9 @@ module _ {T S : Type 0} (m : PolicyModel T S) (holds : S → Type 0) (laws : Kee
   value_by : (a : Args T) (b : Args (Option T)) (answer : Option (Answer T)) → a.a0 ≡ b.a0 → ForSome answer (KeepsValue a) → ForSome (option_map (answer_by some_tag) answer) (KeepsValue b)
   value_by a b None same all = λ x e. absurd (let h : None ≡ Some x = e in cc)
   value_by a b (Some y) same all = λ x e as_a0.
-      ap (λ (z : Answer (Option T)). z.value) (sym (some_is (record { value = y.value; tag = Some y.tag; rest = y.rest }) x e))
-      ∙ all y refl (ap (λ (z : Answer (Option T)). z.rest) (some_is (record { value = y.value; tag = Some y.tag; rest = y.rest }) x e) ∙ as_a0)
+      ap (λ (z : Answer (Option T)). z.value) (sym (same_Some (record { value = y.value; tag = Some y.tag; rest = y.rest }) x e))
+      ∙ all y refl (ap (λ (z : Answer (Option T)). z.rest) (same_Some (record { value = y.value; tag = Some y.tag; rest = y.rest }) x e) ∙ as_a0)
       ∙ same
-    where
-      some_is : (x y : Answer (Option T)) → Some x ≡ Some y → x ≡ y
-      some_is x y e = cc
 
   value : (part : Option S) (k : ℕ) (a : Args (Option T)) (pc : Option T) (p : Plan (Option T)) → IsTrue (knows_in m part k)
       → plan_in m part k a pc ≡ Ok p → ForSome p.answer (KeepsValue a)

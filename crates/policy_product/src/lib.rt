@@ -4,8 +4,6 @@
 mod both;
 mod maybe;
 mod nothing;
-#[cfg(test)]
-mod tests;
 
 pub use both::Both;
 pub use maybe::Maybe;

@@ -1,2 +1,3 @@
+pub mod AnswerLemmas
 pub mod SetLemmas
-pub mod StepLemmas
+pub mod TextLemmas

@@ -1,7 +1,7 @@
 -- Which compartments are in a set.
 use Rattle.std.proofs.Common.{◌≡◌, ℕ, ◌*◌, ◌%◌, ◌^◌, ◌<◌, ◌≤◌, ◌==◌, Bool, true, false, ◌||◌, refl, sym, ap, ◌∙◌, arith, lit<, w32}
 use Rattle.std.specs.Prelude.{bit_or}
-use Rattle.std.proofs.Math.Bool.{or-false}
+use Rattle.std.proofs.Math.Bool.{or-false, or-true}
 use Rattle.std.proofs.Math.Nat.{div-eq_of_lt, pow-le-pow_right}
 use Rattle.std.proofs.lemmas.Bool.{eqb-false, eqb-true}
 use Rattle.std.proofs.lemmas.Nat.Bits.{bit_at_set_other, bit_at_set_same}
@@ -13,14 +13,10 @@ has_none bits n fits large =
     let bound : 2 ^ 32 ≤ 2 ^ n = pow-le-pow_right {n = 2} (lit< tt) {i = 32} {j = n} large in
     ap (λ q. q % 2 == 1) (div-eq_of_lt {n = bits} {m = 2 ^ n} (omega (arith, fits, bound)))
 
-or_true : (b : Bool) → (b || true) ≡ true
-or_true true = refl
-or_true false = refl
-
 has_with_by : (same : Bool) (bits n other : ℕ) → n < 32 → (other == n) ≡ same
     → has (set_of (bit_or bits (1 * 2 ^ n % 2 ^ 32))) other ≡ (has (set_of bits) other || same)
 has_with_by true bits n other within test =
-    rw (eqb-true other n test) (ap (λ b. b == 1) (bit_at_set_same w32 bits n within) ∙ sym (or_true (has (set_of bits) n)))
+    rw (eqb-true other n test) (ap (λ b. b == 1) (bit_at_set_same w32 bits n within) ∙ sym (or-true (has (set_of bits) n)))
 has_with_by false bits n other within test =
     ap (λ b. b == 1) (bit_at_set_other w32 bits n within other (eqb-false other n test)) ∙ sym (or-false (has (set_of bits) other))
 

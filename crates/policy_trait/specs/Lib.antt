@@ -4,5 +4,4 @@ pub mod Maps
 pub mod Mirrors
 pub mod Model
 pub mod Sets
-pub mod Steps
 pub mod Uses

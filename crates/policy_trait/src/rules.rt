@@ -38,7 +38,7 @@ pub struct Mask {
     pub tm: bool,
 }
 
-/// The four policies that can be chosen, in canonical order.
+/// Who refuses: one of the four policies that can be chosen, in canonical order, or an author's own.
 #[derive(Clone, Copy, PartialEq, Eq)]
 pub enum Part {
     /// Dynamic sealing.
@@ -49,6 +49,8 @@ pub enum Part {
     Flow,
     /// Heap memory safety.
     Heap,
+    /// An author's own policy, none of the four.
+    Own,
 }
 
 /// Why a policy refuses.

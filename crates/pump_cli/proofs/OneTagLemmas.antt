@@ -1,22 +1,22 @@
 -- An engine that keeps rules, under a policy with one tag: each turn leaves an account where just that tag has a word.
-use Rattle.std.proofs.Common.{◌≡◌, ℕ, ◌≤◌, ◌||◌, Bool, true, false, List, [], ◌∷◌, All, length, Option, Some, None, Result, Ok, Err, suc, refl, ap, sym, subst, ◌∙◌, ◌==◌, if◌then◌else◌, not, arith}
+use Rattle.std.proofs.Common.{◌≡◌, ℕ, ◌≤◌, ◌||◌, Bool, true, false, List, [], ◌∷◌, All, length, Option, Some, None, Result, Ok, Err, suc, refl, ap, sym, subst, ◌∙◌, ◌==◌, if◌then◌else◌, arith}
 use Rattle.std.proofs.lemmas.Bool.{le-ltb}
 use Rattle.std.proofs.lemmas.List.Elements.{All-cons, All-nil}
 use Rattle.rv_decode.specs.declared.groups.Group.{Group}
-use Rattle.rv_step.specs.declared.faults.Fault.TheVariants.{NoService}
 use Rattle.policy_trait.specs.Model.{PolicyModel}
-use Rattle.policy_trait.specs.Steps.{◌>>=◌}
+use Rattle.shared_terms.specs.Steps.{◌>>=◌}
 use Rattle.policy_trait.specs.declared.birth.Birth.{Birth}
 use Rattle.policy_trait.specs.declared.rules.Ins.{Ins}
 use Rattle.policy_trait.specs.declared.rules.Outs.{Outs}
 use Rattle.monitor_calls.specs.Service.{Job}
-use Rattle.turn_steps.specs.Looks.{is_call, look_result}
 use Rattle.turn_steps.specs.declared.look.Look.{Look}
 use Rattle.turn_steps.specs.declared.stop.Stop.{Stop}
-use Rattle.turn_steps.specs.declared.stop.Stop.TheVariants as stop
-use Rattle.engine_trait.specs.Accounts.{Account, Key, account_after_turn, after_look, after_rule, after_service, next_count, is_kept, is_over, keeping, key_of, look_counted, looked_up, rule_counted, rule_kept, seeing, with_tag, with_tags}
+use Rattle.engine_trait.specs.Accounts.{Account, Key, account_after_turn, after_look, after_rule, after_service, is_kept, is_over, keeping, key_of, look_counted, looked_up, rule_counted, rule_kept, seeing, with_tag, with_tags}
+use Rattle.shared_terms.specs.Counts.{next_count}
 use Rattle.engine_trait.specs.Machine.{Machine, hart_at}
-use Rattle.engine_trait.specs.Turn.{rule_answer, job_at, service_look, or_fault, or_unserved, or_violation, turn_job, preparation, service_on}
+use Rattle.engine_trait.specs.Turn.{rule_answer, job_at, or_violation, preparation}
+use Rattle.engine_trait.proofs.MirrorLemmas.{prepared_own}
+use Rattle.engine_trait.proofs.TurnLemmas.{planned_own}
 
 -- the policy allows everything and offers no service, and each tag that it gives is the plain one, which is the same as itself
 pub record HasOneTag {S T : Type 0} (eq : T → T → Bool) (m : PolicyModel T S) (s : S) : Type 0 where
@@ -76,34 +76,7 @@ module _ {T : Type 0} (eq : T → T → Bool) (plain : T) (same : eq plain plain
 
 -- ---- a turn
 
--- an instruction that calls no service has no work of one
-planned_own : {S T : Type 0} (m : PolicyModel T S) (s : Machine S T) (h : ℕ) (look : Look T) (outs : Outs T) → is_call look.group ≡ false → turn_job m s h look outs ≡ Ok None
-unfolding turn_job
-planned_own m s h look outs own =
-    ap (λ call. if call then or_unserved (hart_at s.core h).pc look.service (service_on m s h look outs) else Ok None) own
-
 module _ {S T : Type 0} (eq : T → T → Bool) (m : PolicyModel T S) (s : Machine S T) (one_tag : HasOneTag eq m s.policy) (h : ℕ) where
-  -- ---- a turn that comes to its rule calls no service of the policy
-
-  abbrev failed : Stop → Result (Look T) Stop
-  failed why = Err why
-
-  own_if : (call known : Bool) (look given : Look T) (why : Stop) → known ≡ false → is_call look.group ≡ call
-      → (if not call || known then Ok look else failed why) ≡ Ok given → is_call given.group ≡ false
-  own_if true known look given why unknown is e = absurd cc
-  own_if false known look given why unknown is e = cc
-
-  offered_own : (look given : Look T) → service_look m s look ≡ Ok given → is_call given.group ≡ false
-  offered_own look given e = own_if (is_call look.group) (m.knows s.policy look.service) look given (stop.Fault (NoService look.service)) (one_tag.offers_none look.service) refl e
-
-  first_own : (first : Result (Look T) Stop) (look : Look T) → (first >>= service_look m s) ≡ Ok look → is_call look.group ≡ false
-  first_own (Ok found) look e = offered_own found look e
-  first_own (Err why) look e = absurd cc
-
-  prepared_own : (look : Look T) → preparation m s h ≡ Ok look → is_call look.group ≡ false
-  unfolding preparation
-  prepared_own look e = first_own (or_fault (look_result (hart_at s.core h) s.core.ram)) look e
-
   -- ---- it has no work of a service
 
   abbrev IsNoWork : Result (Option (Job T)) Stop → Type 0
@@ -120,7 +93,7 @@ module _ {S T : Type 0} (eq : T → T → Bool) (m : PolicyModel T S) (s : Machi
   no_work =
       steps_no_work (preparation m s h) _ λ look look-is.
       steps_no_work (rule_answer m s h look) _ λ outs outs-is.
-      subst IsNoWork (sym (planned_own m s h look outs (prepared_own look look-is))) tt
+      subst IsNoWork (sym (planned_own m s h look outs (prepared_own m s one_tag.offers_none h look look-is))) tt
 
   -- ---- its account
 

@@ -3,7 +3,6 @@ use Rattle.std.proofs.Common.{◌≡◌, ℕ, zero, suc, ◌+◌, Bool, true, fa
 use Rattle.host_io.specs.Pieces.{Piece}
 use Rattle.policy_trait.specs.Model.{PolicyModel}
 use Rattle.engine_trait.specs.Accounts.{IsUncached, account_after_turn}
-use Rattle.engine_trait.specs.Events.{Event}
 use Rattle.engine_trait.specs.EngineLaws.{is_made}
 use Rattle.engine_trait.specs.Machine.{Machine, is_ready_in}
 use Rattle.engine_trait.specs.Standing.{Standing, Stepped, idle, is_ready, is_running, made_step, step}
@@ -13,17 +12,11 @@ use Rattle.engine_trait.specs.declared.ends.TurnEnd.{TurnEnd}
 use Rattle.engine_trait.proofs.AccountLemmas.{accounted_halt}
 use Rattle.engine_trait.proofs.MirrorLemmas.{turn_keeps_policy}
 use Rattle.engine_trait.proofs.StepLemmas.{plain_stays, plain_step, step_idle, step_made}
-use Rattle.rounds.specs.Course.{Course, after_turn, hart_stops, next_hart, next_turn, rounds, stays, taking}
+use Rattle.rounds.specs.Course.{Course, hart_stops, next_hart, next_turn, rounds, stays, taking}
 use Rattle.rounds.specs.Same.{ShowsSame}
 use Rattle.rounds.specs.Shown.{pieces_of, shown_by}
-use Rattle.rounds.proofs.TurnLemmas.{after-feed, after-standing, after_step, pieces_after}
+use Rattle.rounds.proofs.TurnLemmas.{after-feed, after-standing, after_order, after_step, pieces_after}
 use Rattle.pump_cli.proofs.OneTagLemmas.{HasOneTag, HasOneWord, accounted_plain, within}
-
--- a turn before others, where it is counted, comes first in their order
-after_order : {S T : Type 0} (counted : Bool) (h : ℕ) (event : Event T) (course : Course S T)
-    → (after_turn counted h event course).order ≡ (if counted then h ∷ course.order else course.order)
-after_order true h event course = refl
-after_order false h event course = refl
 
 module _ {S T : Type 0} (eq : T → T → Bool) (m : PolicyModel T S) (policy : S) (one_tag : HasOneTag eq m policy) where
   -- d keeps no rules, and e is the same but for its account, where just the plain tag has a word

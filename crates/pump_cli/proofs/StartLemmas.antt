@@ -1,6 +1,5 @@
 -- What the start of an engine has to do with the run: one that needs more words than there may be makes no turn.
-use Rattle.std.proofs.Common.{◌≡◌, ℕ, zero, suc, ◌≤◌, ◌==◌, Bool, true, false, List, Some, refl, ap, sym, ◌∙◌, if◌then◌else◌, arith}
-use Rattle.std.proofs.lemmas.Bool.Decides.{nat_tests}
+use Rattle.std.proofs.Common.{◌≡◌, ℕ, zero, suc, ◌≤◌, ◌==◌, Bool, true, false, List, Some, refl, ap, sym, ◌∙◌, if◌then◌else◌}
 use Rattle.image_format.specs.Picture.{Picture}
 use Rattle.policy_choice.specs.All.{AllState, AllTag, all, all_eq}
 use Rattle.policy_trait.specs.Model.{PolicyModel}
@@ -8,6 +7,7 @@ use Rattle.engine_trait.specs.Accounts.{is_over, plain_account}
 use Rattle.engine_trait.specs.Standing.{Standing}
 use Rattle.engine_trait.specs.declared.ends.Halt.{Halt}
 use Rattle.engine_trait.specs.declared.ends.Halt.TheVariants as halt
+use Rattle.engine_trait.proofs.AccountLemmas.{keeps_some}
 use Rattle.rounds.specs.Course.{Course, next_turn, rounds, stays}
 use Rattle.tag_loader.specs.Loads.{start_of}
 use Rattle.pump_loader.specs.Loads.{cached_start_of}
@@ -50,9 +50,6 @@ module _ {S T : Type 0} (e : Standing S T) where
   unfolding last_pieces
   over_outcome eq m turns feed over =
       ap (λ (course : Course S T). outcome_of_course course) (over_course eq m turns feed over)
-
-keeps_some : (rules : ℕ) → 1 ≤ rules → (rules == 0) ≡ false
-keeps_some rules some = grind (arith, nat_tests)
 
 module _ (task : RunTask) (picture : Picture) where
   -- the start of a run, by whether no rules are kept

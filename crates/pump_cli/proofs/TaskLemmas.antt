@@ -14,7 +14,7 @@ use Rattle.pump_line.specs.Request.{AssembleTask, DisassembleTask}
 use Rattle.pump_line.specs.Task.{LoadTask, RunTask, ShellTask, Task, assemble, disassemble, load, run, shell}
 use Rattle.pump_cli.specs.Codes.{IsBeforeInput, ReadsAll}
 use Rattle.pump_cli.specs.Endings.{Outcome}
-use Rattle.host_io.specs.Causes.{count_after}
+use Rattle.shared_terms.specs.Counts.{next_count}
 use Rattle.host_io.proofs.FrontLemmas.{if_some_each}
 use Rattle.pump_cli.specs.Facts.{AtMost, FileFacts, IsLongFile, IsLongInput, IsSaving, IsTooLong, Saves, count_after_load, most_calls}
 use Rattle.pump_cli.specs.Program.{outcome_of_content, outcome_of_fed, outcome_of_image, outcome_of_lines, outcome_of_listing, outcome_of_load, outcome_of_run, outcome_of_saving, refusal_outcome}
@@ -292,7 +292,7 @@ saving_is_no_memory status saving e = subst IsSaving e saving
 -- a source was taken, and its image was to be saved
 pub facts_saving : {I : Type 0} (task : AssembleTask) (status : Status) (before after : Outside I) (picture : Picture)
     → IfSome (before.held task.source) (λ bytes. source_read bytes ≡ Ok picture) → IsSaving status ⊎ (status ≡ statuses.Memory)
-    → (status ≢ statuses.Memory → after.calls ≡ count_after (count_after before.calls)) → AtMost 1 (count_after before.calls) after.calls
+    → (status ≢ statuses.Memory → after.calls ≡ next_count (next_count before.calls)) → AtMost 1 (next_count before.calls) after.calls
     → after.input ≡ before.input → after.left ≡ before.left → FileFacts (assemble task) status before after
 facts_saving task status before after picture taken ends calls at_most input left =
     let side = of_saving status ends in

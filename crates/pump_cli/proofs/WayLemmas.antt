@@ -1,7 +1,7 @@
 -- The answer of a task at each of its ends.
 use Rattle.std.specs.Bool.{then_some}
 use Rattle.std.proofs.Common.{◌≡◌, ◌≢◌, ℕ, ◌+◌, ◌⊎◌, List, Option, Some, None, Result, Ok, Err, IfOk, OnOk, IfSome, IsErr, IsTrue, refl, sym, ap, subst, ◌∙◌, inl, inr}
-use Rattle.host_io.specs.Causes.{count_after}
+use Rattle.shared_terms.specs.Counts.{next_count}
 use Rattle.host_io.specs.Fronts.{LosesFront}
 use Rattle.host_io.specs.Outside.{NoFault, Outside}
 use Rattle.host_io.specs.Pieces.{Taken}
@@ -338,7 +338,7 @@ module _ {I : Type 0} (task : RunTask) (before after : Outside I) where
   AnsweredRun status = AnsweredBy (run task) before after status
 
   module _ (picture : Picture) (is : IfSome (before.held task.image) (λ bytes. image_read bytes ≡ Ok picture)) (held : after.held ≡ before.held)
-      (calls : after.calls ≡ count_after before.calls) (moved : LosesFront before.left after.left (input_limit + 4096)) (read : after.faults.read ≡ before.faults.read) (write : after.faults.write ≡ before.faults.write) where
+      (calls : after.calls ≡ next_count before.calls) (moved : LosesFront before.left after.left (input_limit + 4096)) (read : after.faults.read ≡ before.faults.read) (write : after.faults.write ≡ before.faults.write) where
     abbrev SideOfRun : Status → Type 0
     SideOfRun status = Side (run task) status Refused NoSource Exceeds
 
@@ -535,7 +535,7 @@ module _ {I : Type 0} (task : ShellTask) (before after : Outside I) where
       → SessionFaultBy before.faults.input after.faults.input before.faults.puts after.faults.puts result
       → IfOk result IsOfSession → (result ≡ Ok statuses.TooLong → IfSome before.left IsLongInput)
       → (result ≡ Ok statuses.TagsOut → after.input ≡ before.input) → LosesFront before.left after.left (input_limit + 4096)
-      → after.held ≡ before.held → after.calls ≡ count_after before.calls → AnsweredBy (shell task) before after (status_in result)
+      → after.held ≡ before.held → after.calls ≡ next_count before.calls → AnsweredBy (shell task) before after (status_in result)
   obeyed picture result is does read write fault kind long unread moved held calls =
       let side : OfSession task before after (status_in result) = session_side result fault kind long unread in
       answers _ (Some (shell task)) result before after
@@ -604,7 +604,7 @@ module _ {I : Type 0} (task : AssembleTask) (before after : Outside I) where
       → OnOk result (after.held task.image ≡ then_some before.tells (spelling picture)) → OthersKept task.image before after
       → (result ≡ Err cut.Memory → after.held ≡ before.held) → IfOk result (λ status. status ≡ statuses.Done)
       → WriteRoseBy before.faults.write after.faults.write task.image result → after.faults.read ≡ before.faults.read
-      → (result ≢ Err cut.Memory → after.calls ≡ count_after (count_after before.calls)) → AtMost 1 (count_after before.calls) after.calls
+      → (result ≢ Err cut.Memory → after.calls ≡ next_count (next_count before.calls)) → AtMost 1 (next_count before.calls) after.calls
       → after.faults.input ≡ before.faults.input → after.faults.puts ≡ before.faults.puts → after.taken ≡ before.taken
       → after.input ≡ before.input → after.left ≡ before.left → AnsweredBy (assemble task) before after (status_in result)
   saved picture result is file others memory done rose read calls at_most input_faults puts taken input left =
@@ -658,7 +658,7 @@ module _ {I : Type 0} (task : DisassembleTask) (before after : Outside I) where
       → ((err : ℕ) → PutsFaultBy (record { out = before.faults.puts.out; err = err }) (record { out = after.faults.puts.out; err = err }) result)
       → IfOk result (λ status. status ≡ statuses.Done) → after.taken.err ≡ before.taken.err → after.faults.puts.err ≡ before.faults.puts.err
       → after.faults.read ≡ before.faults.read → after.faults.write ≡ before.faults.write → after.faults.input ≡ before.faults.input
-      → after.held ≡ before.held → after.calls ≡ count_after before.calls → after.input ≡ before.input → after.left ≡ before.left
+      → after.held ≡ before.held → after.calls ≡ next_count before.calls → after.input ≡ before.input → after.left ≡ before.left
       → AnsweredBy (disassemble task) before after (status_in result)
   listed picture result is does faults done =
       put_out (disassemble task) before after (outcome_of_listing picture) result

@@ -1,7 +1,7 @@
 -- What a call did to the outside, by its status.
 use Rattle.std.specs.Prelude.{◌≡◌, ◌≢◌, ℕ, zero, suc, ◌+◌, ◌-◌, ◌^◌, ◌<◌, ◌⊎◌, Bool, List, length, Option, Some, None, Result, Ok, Err, IfOk, IfSome, IsErr, IsTrue}
 use Rattle.std.specs.Bool.{then_some}
-use Rattle.host_io.specs.Causes.{count_after}
+use Rattle.shared_terms.specs.Counts.{next_count}
 use Rattle.host_io.specs.Fronts.{LosesFront}
 use Rattle.host_io.specs.Outside.{Faults, InputFault, NoFault, Outside, PutFault, ReadFault, WriteFault}
 use Rattle.host_io.specs.Pieces.{Puts, PutsAll, Taken}
@@ -87,10 +87,10 @@ Saves (load task) status = ⊥
 
 -- a count of calls of files after the one for the file that a task loads, if it loads one
 abbrev pub count_after_load : Task → ℕ → ℕ
-count_after_load (run task) before = count_after before
-count_after_load (shell task) before = count_after before
-count_after_load (assemble task) before = count_after before
-count_after_load (disassemble task) before = count_after before
+count_after_load (run task) before = next_count before
+count_after_load (shell task) before = next_count before
+count_after_load (assemble task) before = next_count before
+count_after_load (disassemble task) before = next_count before
 count_after_load (load task) before = before
 
 -- the most calls of files that a task makes
@@ -104,7 +104,7 @@ most_calls (load task) = 0
 -- a count after at most so many calls
 abbrev pub AtMost : ℕ → ℕ → ℕ → Type 0
 AtMost zero before now = now ≡ before
-AtMost (suc calls) before now = (now ≡ before) ⊎ AtMost calls (count_after before) now
+AtMost (suc calls) before now = (now ≡ before) ⊎ AtMost calls (next_count before) now
 
 -- the file, or the source of a workload, is longer than its limit
 abbrev pub IsLongFile : List ℕ → Type 0
@@ -126,7 +126,7 @@ IsTooLong (load task) bytes left = IsLongFile bytes
 pub record FileFacts {I : Type 0} (task : Task) (status : Status) (before after : Outside I) : Type 0 where
   -- the call that loads a file, and one more where a file was to be saved
   pub calls : status ≢ Memory → (Saves task status → ⊥) → after.calls ≡ count_after_load task before.calls
-  pub saving_calls : Saves task status → after.calls ≡ count_after (count_after before.calls)
+  pub saving_calls : Saves task status → after.calls ≡ next_count (next_count before.calls)
   pub at_most : AtMost (most_calls task) before.calls after.calls
   -- the causes of a refusal
   pub bad_image : status ≡ BadImage → IfSome (content_of task before.held) (λ bytes. IsErr (image_of bytes))

@@ -1,7 +1,7 @@
 //! What is read: the file of an image or of a source, and the whole input.
 
 ghost use Rattle.std.specs.Prelude.{◌≡◌, ◌+◌, Ok, Err, IfOk, IfSome, IsTrue, OnOk};
-ghost use Rattle.host_io.specs.Causes.{count_after};
+ghost use Rattle.shared_terms.specs.Counts.{next_count};
 ghost use Rattle.host_io.specs.Fronts.{LosesFront};
 ghost use Rattle.asm_emit.specs.Assembled.{image_of_source};
 ghost use Rattle.image_format.specs.Reading.{image_of};
@@ -45,7 +45,7 @@ fn load_file<F: Files>(alloc: Global, files: &mut F, name: &str) -> Result<Vec<u
     ensures faults { ReadRoseBy (F.read_faults files.old) (F.read_faults files.new)
         name.now result }
     ensures writes { F.write_faults files.new ≡ F.write_faults files.old }
-    ensures calls { F.calls files.new ≡ count_after (F.calls files.old) }
+    ensures calls { F.calls files.new ≡ next_count (F.calls files.old) }
     ensures held { F.held files.new ≡ F.held files.old }
 {
     match files.load(alloc, name, FILE_LIMIT) {
@@ -71,7 +71,7 @@ pub(crate) fn load_image<F: Files>(
     ensures faults { ReadRoseBy (F.read_faults files.old) (F.read_faults files.new)
         name.now result }
     ensures writes { F.write_faults files.new ≡ F.write_faults files.old }
-    ensures calls { F.calls files.new ≡ count_after (F.calls files.old) }
+    ensures calls { F.calls files.new ≡ next_count (F.calls files.old) }
     ensures held { F.held files.new ≡ F.held files.old }
 {
     match load_file(alloc, files, name) {
@@ -95,7 +95,7 @@ pub(crate) fn load_source<F: Files>(
     ensures faults { ReadRoseBy (F.read_faults files.old) (F.read_faults files.new)
         name.now result }
     ensures writes { F.write_faults files.new ≡ F.write_faults files.old }
-    ensures calls { F.calls files.new ≡ count_after (F.calls files.old) }
+    ensures calls { F.calls files.new ≡ next_count (F.calls files.old) }
     ensures held { F.held files.new ≡ F.held files.old }
 {
     match load_file(alloc, files, name) {

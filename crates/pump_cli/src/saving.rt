@@ -2,7 +2,7 @@
 
 ghost use Rattle.std.specs.Prelude.{◌≡◌, ◌≢◌, ℕ, List, Err, IfOk, OnOk};
 ghost use Rattle.std.specs.Bool.{then_some};
-ghost use Rattle.host_io.specs.Causes.{count_after};
+ghost use Rattle.shared_terms.specs.Counts.{next_count};
 ghost use Rattle.image_format.specs.Spelling.{spelling};
 ghost use Rattle.pump_cli.specs.Early.{WriteRoseBy};
 ghost use Rattle.pump_cli.specs.Facts.{AtMost};
@@ -30,7 +30,7 @@ pub(crate) fn save_image<F: Files>(
         name.now result }
     ensures reads { F.read_faults files.new ≡ F.read_faults files.old }
     ensures calls { result ≢ Err Cut.Memory
-        → F.calls files.new ≡ count_after (F.calls files.old) }
+        → F.calls files.new ≡ next_count (F.calls files.old) }
     ensures at_most { AtMost 1 (F.calls files.old) (F.calls files.new) }
 {
     let bytes = write_image(alloc, image)?;

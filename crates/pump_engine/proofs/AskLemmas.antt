@@ -1,12 +1,13 @@
 -- What an answer of the rules leaves, in the words of the engine's state.
-use Rattle.std.proofs.Common.{◌≡◌, ℕ, ◌<◌, ◌≤◌, ◌==◌, Bool, true, false, List, [], ◌∷◌, Result, Ok, Err, IfErr, IfOk, IsOk, IsOkAnd, OnErr, OnOk, length, refl, sym, ap, ◌∙◌, arith, is_some, subst, if◌then◌else◌}
+use Rattle.std.proofs.Common.{◌≡◌, ℕ, ◌<◌, ◌≤◌, ◌==◌, Bool, true, false, List, [], ◌∷◌, Result, Ok, Err, IfErr, IfOk, IsOk, IsOkAnd, OnErr, OnOk, length, refl, sym, ap, ◌∙◌, is_some, subst, if◌then◌else◌}
 use Rattle.std.proofs.lemmas.Bool.{le-ltb, lt-ltb}
-use Rattle.std.proofs.lemmas.Bool.Decides.{nat_tests}
 use Rattle.policy_trait.specs.Model.{PolicyModel}
 use Rattle.policy_trait.specs.declared.rules.Outs.{Outs}
 use Rattle.policy_trait.specs.declared.rules.Refused.{Refused}
 use Rattle.turn_steps.specs.declared.look.Look.{Look}
-use Rattle.engine_trait.specs.Accounts.{Account, Key, next_count, is_kept, is_over, keeping, looked_up, rule_kept, with_tags}
+use Rattle.engine_trait.specs.Accounts.{Account, Key, is_kept, is_over, keeping, looked_up, rule_kept, with_tags}
+use Rattle.shared_terms.specs.Counts.{next_count}
+use Rattle.engine_trait.proofs.AccountLemmas.{keeps_some}
 use Rattle.rule_cache.specs.Stores.{Store, lookup_of}
 use Rattle.tag_intern.specs.Table.{Extends, TableState}
 use Rattle.miss_handler.specs.Asked.{AreInWords, AreOutWords, AreRules, answer_on, outs_on, tag_key, word_key}
@@ -20,9 +21,6 @@ use Rattle.pump_engine.proofs.LowLemmas.{ins_same}
 use Rattle.pump_engine.proofs.StayLemmas.{decode_grown, machine_grown, pump_grown}
 
 -- ---- accounts
-
-pub not_none : (n : ℕ) → 1 ≤ n → (n == 0) ≡ false
-not_none n some = grind (arith, nat_tests, some)
 
 -- what both cases of a test have
 in_both : {A B : Type 0} (f : A → B) (test : Bool) (x y : A) (b : B) → f x ≡ b → f y ≡ b → f (if test then x else y) ≡ b
@@ -46,7 +44,7 @@ module _ {T : Type 0} (eq : T → T → Bool) (key : Key T) where
   over_by : (tags : List T) (limit : ℕ) (a : Account T) → a.seen ≡ tags → a.limit ≡ limit → 1 ≤ a.capacity → (answer : Result (Outs T) Refused)
       → IsOkAnd answer (λ outs. limit < length (with_tags eq tags (outs.pc ∷ outs.result ∷ []))) → is_over (rule_kept eq key answer a) ≡ true
   over_by tags limit a seen_is limit_is some (Ok outs) over =
-      ap (λ is_none. is_over (if is_none then keeping eq key a else record (keeping eq key a) { seen = with_tags eq a.seen (outs.pc ∷ outs.result ∷ []) })) (not_none a.capacity some)
+      ap (λ is_none. is_over (if is_none then keeping eq key a else record (keeping eq key a) { seen = with_tags eq a.seen (outs.pc ∷ outs.result ∷ []) })) (keeps_some a.capacity some)
       ∙ ap (λ (n : ℕ). is_over (record a { limit = n; seen = with_tags eq a.seen (outs.pc ∷ outs.result ∷ []) })) limit_is
       ∙ ap (λ (seen : List T). is_over (record a { limit = limit; seen = with_tags eq seen (outs.pc ∷ outs.result ∷ []) })) seen_is
       ∙ lt-ltb limit (length (with_tags eq tags (outs.pc ∷ outs.result ∷ []))) over

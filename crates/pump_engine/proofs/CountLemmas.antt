@@ -2,7 +2,7 @@
 use Rattle.std.proofs.Common.{◌≡◌, ℕ, Bool, true, false, ◌&&◌, Result, Ok, Err, refl, ap, ◌∙◌, if◌then◌else◌}
 use Rattle.policy_trait.specs.Maps.{ok_by}
 use Rattle.policy_trait.specs.Model.{PolicyModel}
-use Rattle.policy_trait.specs.Steps.{◌>>=◌}
+use Rattle.shared_terms.specs.Steps.{◌>>=◌}
 use Rattle.policy_trait.specs.declared.rules.Outs.{Outs}
 use Rattle.policy_trait.specs.declared.rules.Refused.{Refused}
 use Rattle.rv_step.specs.declared.faults.Fault.{Fault}

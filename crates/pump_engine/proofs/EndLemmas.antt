@@ -1,7 +1,7 @@
 -- How a turn of words ended: what a failure and an idle turn leave, a service of the policy, and want of memory.
 use Rattle.std.proofs.Common.{◌≡◌, ℕ, Bool, true, false, ◌||◌, not, List, Option, Some, None, Result, Ok, Err, ◌≢◌, refl, sym, ap, ◌∙◌, subst}
 use Rattle.policy_trait.specs.Model.{PolicyModel}
-use Rattle.policy_trait.specs.Steps.{◌>>=◌}
+use Rattle.shared_terms.specs.Steps.{◌>>=◌}
 use Rattle.policy_trait.specs.declared.rules.Outs.{Outs}
 use Rattle.policy_trait.specs.declared.services.PlanEnd.{PlanEnd}
 use Rattle.monitor_calls.specs.Service.{Job}

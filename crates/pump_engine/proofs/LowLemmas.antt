@@ -1,16 +1,15 @@
 -- What is done to a core of words below a count is done to a core of such words: the result is one too.
-use Rattle.std.proofs.Common.{◌≡◌, ℕ, zero, suc, ◌<◌, ◌≤◌, Bool, true, false, List, [], ◌∷◌, All, map, Option, Some, None, option_map, Result, Ok, Err, refl, ap, sym, ◌∙◌, subst, if◌then◌else◌, arith}
-use Rattle.std.proofs.lemmas.Simd.{map-map}
+use Rattle.std.proofs.Common.{◌≡◌, ℕ, zero, suc, ◌<◌, ◌≤◌, Bool, true, false, List, [], ◌∷◌, All, Option, Some, None, option_map, Result, Ok, Err, refl, ap, sym, ◌∙◌, subst, if◌then◌else◌, arith}
 use Rattle.policy_trait.specs.Maps.{answer_by, ins_by, ok_by, outs_by}
 use Rattle.policy_trait.specs.Model.{PolicyModel}
-use Rattle.policy_trait.specs.Steps.{◌>>=◌}
+use Rattle.shared_terms.specs.Steps.{◌>>=◌}
 use Rattle.policy_trait.specs.declared.rules.Ins.{Ins}
 use Rattle.policy_trait.specs.declared.rules.Outs.{Outs}
 use Rattle.policy_trait.specs.declared.services.Answer.{Answer}
 use Rattle.rv_step.specs.declared.faults.Fault.{Fault}
 use Rattle.tag_memory.specs.Hart.{HartState, reg_tag}
-use Rattle.tag_memory.specs.Maps.{hart_by, ram_by}
-use Rattle.tag_memory.specs.Ram.{RamState, ram_tag}
+use Rattle.tag_memory.specs.Maps.{ram_by}
+use Rattle.tag_memory.specs.Ram.{ram_tag}
 use Rattle.tag_memory.proofs.MapLemmas.{ram_tag_by, reg_tag_by}
 use Rattle.turn_steps.specs.Looks.{look_result}
 use Rattle.turn_steps.specs.Maps.{look_by}
@@ -20,27 +19,12 @@ use Rattle.turn_steps.proofs.MapLemmas.{looked_by}
 use Rattle.engine_trait.specs.Machine.{CoreState, hart_at, stopping}
 use Rattle.engine_trait.specs.Maps.{core_by, words_by}
 use Rattle.engine_trait.specs.Turn.{core_effected, core_served, or_fault}
-use Rattle.engine_trait.proofs.MapLemmas.{core_effected_by, core_served_by, hart_at_by}
+use Rattle.engine_trait.proofs.MapLemmas.{core_effected_by, core_on, core_served_by, hart_at_by}
 use Rattle.miss_handler.specs.Asked.{AreInWords, AreOutWords}
 use Rattle.word_service.specs.Written.{IsAnswerBelow, IsWordBelow}
 use Rattle.pump_engine.specs.Low.{IsLowCore, Low}
 use Rattle.pump_engine.specs.Pump.{PumpState}
 use Rattle.pump_engine.specs.Steps.{is_known, known_or, prepared_words}
-
--- ---- two changes of tags in a row are one
-
-module _ {A B C : Type 0} (f : A → B) (g : B → C) where
-  hart_on : (hart : HartState A) → hart_by g (hart_by f hart) ≡ hart_by (λ x. g (f x)) hart
-  hart_on hart = ap (λ tags. record (hart_by (λ x. g (f x)) hart) { tags = tags }) (map-map g f hart.tags)
-
-  ram_on : (ram : RamState A) → ram_by g (ram_by f ram) ≡ ram_by (λ x. g (f x)) ram
-  ram_on ram = ap (λ tags. record (ram_by (λ x. g (f x)) ram) { tags = tags }) (map-map g f ram.tags)
-
-  harts_on : (harts : List (HartState A)) → map (hart_by g) (map (hart_by f) harts) ≡ map (hart_by (λ x. g (f x))) harts
-  harts_on harts = map-map (hart_by g) (hart_by f) harts ∙ (λ j. map (λ hart. hart_on hart j) harts)
-
-  pub core_on : (core : CoreState A) → core_by g (core_by f core) ≡ core_by (λ x. g (f x)) core
-  core_on core = λ j. record { harts = harts_on core.harts j; stops = core.stops; ram = ram_on core.ram j }
 
 -- ---- words below a count
 

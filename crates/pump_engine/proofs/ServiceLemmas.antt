@@ -14,7 +14,8 @@ use Rattle.tag_memory.proofs.MapLemmas.{ram_tag_by}
 use Rattle.monitor_calls.specs.Service.{Job, service_job}
 use Rattle.turn_steps.specs.Services.{args_on}
 use Rattle.turn_steps.specs.declared.look.Look.{Look}
-use Rattle.engine_trait.specs.Accounts.{next_count, with_tags, written_tags}
+use Rattle.engine_trait.specs.Accounts.{with_tags, written_tags}
+use Rattle.shared_terms.specs.Counts.{next_count}
 use Rattle.engine_trait.specs.Machine.{hart_at}
 use Rattle.engine_trait.specs.Maps.{core_by, words_by}
 use Rattle.engine_trait.specs.Turn.{core_served, service_on}
@@ -29,7 +30,7 @@ use Rattle.word_service.specs.Written.{IsAnswerBelow, IsWordBelow}
 use Rattle.miss_handler.proofs.RuleLemmas.{keys_below, keys_grown, rules_grown}
 use Rattle.pump_engine.specs.Pump.{IsPump, PumpState, account_by_words, decode, machine_by_words, pump_of}
 use Rattle.pump_engine.specs.Steps.{Serves, service_in, written_in}
-use Rattle.pump_engine.proofs.AskLemmas.{not_none}
+use Rattle.engine_trait.proofs.AccountLemmas.{keeps_some}
 use Rattle.pump_engine.proofs.StayLemmas.{after_service, decode_grown, machine_grown, machine_served, pump_grown, pump_served}
 
 -- ---- what it is asked with
@@ -122,7 +123,7 @@ module _ {S T : Type 0} (eq : T → T → Bool) (m : PolicyModel T S) (holds : S
           turns = next_count p.turns;
         })
         ∙ sym (ap (λ is_none. record (if is_none then account_by_words m p else record (account_by_words m p) { seen = with_tags eq p.table.tags (written_tags job) }) { turns = next_count p.turns })
-        (not_none p.store.capacity is.room))
+        (keeps_some p.store.capacity is.room))
 
     pub serves : Serves eq m p h look outs job left
     serves = record { machine = machine_left; account = account_left; within = le-ltb table.limit (length table.tags) written.within }

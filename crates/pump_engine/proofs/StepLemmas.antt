@@ -4,14 +4,15 @@ use Rattle.std.specs.List.{list_any}
 use Rattle.std.proofs.lemmas.Bool.{lt-ltb, ltb-true}
 use Rattle.std.proofs.lemmas.List.{length-append}
 use Rattle.policy_trait.specs.Model.{PolicyModel}
-use Rattle.policy_trait.specs.Steps.{◌>>=◌}
+use Rattle.shared_terms.specs.Steps.{◌>>=◌}
 use Rattle.policy_trait.specs.declared.rules.Outs.{Outs}
 use Rattle.policy_trait.specs.declared.services.PlanEnd.{PlanEnd}
 use Rattle.monitor_calls.specs.Service.{Job}
 use Rattle.turn_steps.specs.Looks.{is_call}
 use Rattle.turn_steps.specs.declared.look.Look.{Look}
 use Rattle.turn_steps.specs.declared.stop.Stop.{Stop}
-use Rattle.engine_trait.specs.Accounts.{Account, account_after_turn, after_look, after_rule, after_service, next_count, is_over, key_of, look_counted, rule_counted, rule_kept, seeing, with_tag, with_tags, written_tags}
+use Rattle.engine_trait.specs.Accounts.{Account, account_after_turn, after_look, after_rule, after_service, is_over, key_of, look_counted, rule_counted, rule_kept, seeing, with_tag, with_tags, written_tags}
+use Rattle.shared_terms.specs.Counts.{next_count}
 use Rattle.engine_trait.specs.Machine.{Machine, hart_at}
 use Rattle.engine_trait.specs.Standing.{Standing, Stepped, is_ready, step}
 use Rattle.engine_trait.specs.Turn.{Turned, rule_answer, turn_effect, job_at, or_unserved, turn_job, preparation, service_on, settlement, turn_of}
@@ -118,10 +119,6 @@ module _ {S T : Type 0} (eq : T → T → Bool) (m : PolicyModel T S) (s : Machi
 module _ {S T : Type 0} (m : PolicyModel T S) (s : Machine S T) (h : ℕ) (look : Look T) (outs : Outs T) where
   abbrev planned_if : Bool → Result (Job T) PlanEnd → Result (Option (Job T)) Stop
   planned_if call given = if call then or_unserved (hart_at s.core h).pc look.service given else Ok None
-
-  pub planned_own : is_call look.group ≡ false → turn_job m s h look outs ≡ Ok None
-  unfolding turn_job
-  planned_own own = ap (λ call. planned_if call (service_on m s h look outs)) own
 
   pub planned_call : (given : Result (Job T) PlanEnd) → is_call look.group ≡ true → service_on m s h look outs ≡ given
       → turn_job m s h look outs ≡ or_unserved (hart_at s.core h).pc look.service given

@@ -12,7 +12,8 @@ use Rattle.turn_steps.specs.Looks.{is_call}
 use Rattle.turn_steps.specs.Maps.{look_by}
 use Rattle.turn_steps.specs.declared.look.Look.{Look}
 use Rattle.turn_steps.specs.declared.stop.Stop.{Stop}
-use Rattle.engine_trait.specs.Accounts.{Account, next_count, is_over, look_counted, rule_counted}
+use Rattle.engine_trait.specs.Accounts.{Account, is_over, look_counted, rule_counted}
+use Rattle.shared_terms.specs.Counts.{next_count}
 use Rattle.engine_trait.specs.Machine.{CoreState, Machine, hart_at}
 use Rattle.engine_trait.specs.Standing.{GivesUp, Standing, is_ready, step, wanting}
 use Rattle.engine_trait.specs.Turn.{Turned, rule_answer, carried_at, end_of, or_unserved, or_violation, turn_job, preparation, stopped_at, service_stop, violation}
@@ -21,12 +22,13 @@ use Rattle.engine_trait.specs.declared.ends.TurnEnd.{TurnEnd}
 use Rattle.engine_trait.specs.declared.ends.TurnEnd.TheVariants as ends
 use Rattle.engine_trait.proofs.MapLemmas.{carried_at_by, core_effected_by, hart_at_by}
 use Rattle.engine_trait.proofs.StepLemmas.{step_idle}
+use Rattle.engine_trait.proofs.TurnLemmas.{planned_own}
 use Rattle.miss_handler.specs.declared.ends.AskEnd.{AskEnd}
 use Rattle.miss_handler.specs.declared.ends.AskEnd.TheVariants as ask_end
 use Rattle.pump_engine.specs.Pump.{PumpState, account_by_words, decode, machine_by_words, standing_by_words}
 use Rattle.pump_engine.specs.Steps.{Allows, CarriesOut, HasParts, Serves, Unanswered, after_effect, after_halt, after_stop, after_unanswered, answer_in, looked_in, prepared_words, ruled_in, service_in, unanswered_end, written_in}
 use Rattle.pump_engine.proofs.CountLemmas.{allowed_at, checked_at, look_counted_by_words, prepared_at, rule_counted_by_words}
-use Rattle.pump_engine.proofs.StepLemmas.{accounted_ruled, checked_step, out_at_rule, out_at_service, planned_call, planned_own, refused_step, ruled_step, stepped_to}
+use Rattle.pump_engine.proofs.StepLemmas.{accounted_ruled, checked_step, out_at_rule, out_at_service, planned_call, refused_step, ruled_step, stepped_to}
 
 module _ {S T : Type 0} (eq : T → T → Bool) (m : PolicyModel T S) (p : PumpState S T) (feed : List ℕ) (h : ℕ) where
   -- the step of what the words stand for ends so

@@ -3,7 +3,7 @@ use Rattle.std.specs.Prelude.{◌≡◌, ℕ, Bool, true, false, ◌||◌, not, 
 use Rattle.rv_step.specs.declared.faults.Fault.TheVariants.{NoService}
 use Rattle.policy_trait.specs.Maps.{ins_by, outs_by}
 use Rattle.policy_trait.specs.Model.{PolicyModel}
-use Rattle.policy_trait.specs.Steps.{◌>>=◌}
+use Rattle.shared_terms.specs.Steps.{◌>>=◌}
 use Rattle.policy_trait.specs.declared.rules.Outs.{Outs}
 use Rattle.policy_trait.specs.declared.rules.Refused.{Refused}
 use Rattle.policy_trait.specs.declared.services.PlanEnd.{PlanEnd}
@@ -15,7 +15,8 @@ use Rattle.turn_steps.specs.Maps.{look_by}
 use Rattle.turn_steps.specs.declared.look.Look.{Look}
 use Rattle.turn_steps.specs.declared.stop.Stop.{Stop}
 use Rattle.turn_steps.specs.declared.stop.Stop.TheVariants as stop
-use Rattle.engine_trait.specs.Accounts.{Account, Key, next_count, is_kept, is_over, key_of, looked_up, rule_kept, seeing, written_tags}
+use Rattle.engine_trait.specs.Accounts.{Account, Key, is_kept, is_over, key_of, looked_up, rule_kept, seeing, written_tags}
+use Rattle.shared_terms.specs.Counts.{next_count}
 use Rattle.engine_trait.specs.Machine.{fresh_core, hart_at, stopping}
 use Rattle.engine_trait.specs.Standing.{Standing}
 use Rattle.engine_trait.specs.Turn.{core_effected, core_served, or_fault, preparation, service_on, service_stop, violation}

@@ -1,16 +1,13 @@
 -- The start that a setup asks for, by whether rules are kept.
-use Rattle.std.proofs.Common.{◌≡◌, ℕ, ◌≤◌, ◌==◌, Bool, true, false, if◌then◌else◌, refl, ap, arith}
-use Rattle.std.proofs.lemmas.Bool.Decides.{nat_tests}
+use Rattle.std.proofs.Common.{◌≡◌, ℕ, ◌≤◌, ◌==◌, Bool, if◌then◌else◌, refl, ap}
 use Rattle.image_format.specs.Picture.{Picture}
 use Rattle.policy_choice.specs.All.{AllState, AllTag}
 use Rattle.engine_trait.specs.Standing.{Standing}
+use Rattle.engine_trait.proofs.AccountLemmas.{keeps_some}
 use Rattle.tag_loader.specs.Loads.{start_of}
 use Rattle.pump_loader.specs.Loads.{cached_start_of}
 use Rattle.pump_shell.specs.Told.{start_of_setup}
 use Rattle.pump_shell.specs.declared.setup.Setup.{Setup}
-
-keeps_some : (rules : ℕ) → 1 ≤ rules → (rules == 0) ≡ false
-keeps_some rules some = grind (arith, nat_tests)
 
 module _ (setup : Setup) (g : Picture) where
   start_if : Bool → Standing AllState AllTag

@@ -1,10 +1,9 @@
 -- Rounds of an engine and of one that mirrors it.
-use Rattle.std.proofs.Common.{◌≡◌, ℕ, zero, suc, ◌+◌, Bool, true, false, List, ◌∷◌, ◌++◌, length, Option, Some, None, refl, ap, sym, subst, ◌∙◌, if◌then◌else◌}
+use Rattle.std.proofs.Common.{◌≡◌, ℕ, zero, suc, ◌+◌, Bool, List, ◌∷◌, ◌++◌, length, Option, Some, None, refl, ap, sym, subst, ◌∙◌, if◌then◌else◌}
 use Rattle.std.proofs.lemmas.List.{length-map}
 use Rattle.host_io.specs.Pieces.{Piece}
 use Rattle.policy_trait.specs.Model.{PolicyModel}
 use Rattle.tag_memory.specs.Maps.{hart_by}
-use Rattle.engine_trait.specs.Events.{Event}
 use Rattle.engine_trait.specs.EngineLaws.{is_made}
 use Rattle.engine_trait.specs.Machine.{CoreState}
 use Rattle.engine_trait.specs.Maps.{core_by}
@@ -13,21 +12,14 @@ use Rattle.engine_trait.specs.Standing.{Standing, is_running, step}
 use Rattle.engine_trait.specs.declared.ends.Halt.{Halt}
 use Rattle.engine_trait.specs.declared.ends.TurnEnd.{TurnEnd}
 use Rattle.engine_trait.proofs.MirrorLemmas.{step_mirrored}
-use Rattle.rounds.specs.Course.{Course, after_turn, hart_stops, next_hart, next_turn, rounds, stays, taking}
+use Rattle.rounds.specs.Course.{Course, hart_stops, next_hart, next_turn, rounds, stays, taking}
 use Rattle.rounds.specs.Same.{ShowsSame}
 use Rattle.rounds.specs.Shown.{pieces_of, shown_by}
 use Rattle.rounds.proofs.ReadinessLemmas.{hart_stops_same, next_hart_same}
-use Rattle.rounds.proofs.TurnLemmas.{after-feed, after-standing, after_step, pieces_after}
+use Rattle.rounds.proofs.TurnLemmas.{after-feed, after-standing, after_order, after_step, pieces_after}
 
 as_many : {T U : Type 0} (f : T → U) (core : CoreState T) → length (core_by f core).harts ≡ length core.harts
 as_many f core = length-map core.harts (hart_by f)
-
--- ---- a turn before others
-
-after_order : {S T : Type 0} (counted : Bool) (h : ℕ) (event : Event T) (course : Course S T)
-    → (after_turn counted h event course).order ≡ (if counted then h ∷ course.order else course.order)
-after_order true h event course = refl
-after_order false h event course = refl
 
 -- ---- the rounds
 

@@ -45,18 +45,12 @@ module _ {T : Type 0} (core : CoreState T) (h : ℕ) where
 
 -- ---- what is next is there
 
-left_true : (x y : Bool) → (x && y) ≡ true → x ≡ true
-left_true true y both = refl
-left_true false y both = both
-
 module _ {T : Type 0} (core : CoreState T) where
   abbrev IsThere : ℕ → Type 0
   IsThere h = h < length core.harts
 
   ready_there : (h : ℕ) → is_ready_in core h ≡ true → IsThere h
-  ready_there h ready =
-      let below : nat_lt h (length core.harts) ≡ true = left_true (nat_lt h (length core.harts)) (has_no_stop (stop_at core h)) ready in
-      grind (arith, nat_tests)
+  ready_there h ready = grind (arith, nat_tests)
 
   found_there : (ready : Bool) (from h : ℕ) (rest : Option ℕ) → is_ready_in core from ≡ ready → (if ready then Some from else rest) ≡ Some h
       → (rest ≡ Some h → IsThere h) → IsThere h

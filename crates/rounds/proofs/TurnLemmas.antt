@@ -1,17 +1,16 @@
 -- Rounds, one turn at a time, and what is put of them on the way.
-use Rattle.std.proofs.Common.{◌≡◌, ℕ, zero, suc, ◌+◌, ◌-◌, ◌<◌, Bool, true, false, List, [], ◌++◌, Option, Some, None, Result, Err, refl, ap, sym, subst, ◌∙◌, arith}
+use Rattle.std.proofs.Common.{◌≡◌, ℕ, zero, suc, ◌+◌, ◌-◌, ◌<◌, Bool, true, false, List, [], ◌∷◌, ◌++◌, Option, Some, None, Result, Err, refl, ap, sym, subst, ◌∙◌, if◌then◌else◌, arith}
 use Rattle.std.proofs.lemmas.List.Concat.{flat_map-cons}
 use Rattle.host_io.specs.Pieces.{Piece, PutsAll, PutsFirst, PutsFront, PutsSoFar, Taken}
 use Rattle.host_io.proofs.PieceLemmas.{puts_are_cut, puts_are_cut_between, puts_are_whole, puts_begin, puts_go_on}
 use Rattle.policy_trait.specs.Model.{PolicyModel}
-use Rattle.engine_trait.specs.Events.{Event, event_by, event_of}
+use Rattle.engine_trait.specs.Events.{Event, event_of}
 use Rattle.engine_trait.specs.EngineLaws.{is_made}
-use Rattle.engine_trait.specs.Machine.{Machine, is_ready_in}
 use Rattle.engine_trait.specs.Standing.{Standing, Stepped, step}
-use Rattle.engine_trait.specs.Turn.{turn_of}
 use Rattle.engine_trait.specs.declared.ends.TurnEnd.{TurnEnd}
 use Rattle.engine_trait.specs.declared.ends.TurnEnd.TheVariants as ends
 use Rattle.engine_trait.proofs.StepLemmas.{step_follows}
+use Rattle.engine_trait.proofs.TurnLemmas.{event_of-ended, event_of-hart}
 use Rattle.rounds.specs.Course.{Course, after_turn, next_turn, rounds, stays, taking}
 use Rattle.rounds.specs.Shown.{pieces_of, event_pieces, shown_by}
 
@@ -26,24 +25,6 @@ unmade_shows_nothing h (ends.Stopped why) unmade = absurd (cc unmade)
 unmade_shows_nothing h ends.Idle unmade = refl
 unmade_shows_nothing h ends.TagsOut unmade = refl
 unmade_shows_nothing h ends.Memory unmade = refl
-
--- the event of a turn tells its hart and its end
-module _ {S T : Type 0} (m : PolicyModel T S) (s : Machine S T) (feed : List ℕ) (h : ℕ) where
-  hart_by : (ready : Bool) → (event_by m s feed h ready).hart ≡ h
-  hart_by true = refl
-  hart_by false = refl
-
-  ended_by : (ready : Bool) → (event_by m s feed h ready).ended ≡ (turn_of m s feed h).ended
-  ended_by true = refl
-  ended_by false = refl
-
-  pub event_of-hart : (event_of m s feed h).hart ≡ h
-  unfolding event_of
-  event_of-hart = hart_by (is_ready_in s.core h)
-
-  pub event_of-ended : (event_of m s feed h).ended ≡ (turn_of m s feed h).ended
-  unfolding event_of
-  event_of-ended = ended_by (is_ready_in s.core h)
 
 module _ {S T : Type 0} (eq : T → T → Bool) (m : PolicyModel T S) (e : Standing S T) (feed : List ℕ) (h : ℕ) where
   -- what the event shows is what the step does
@@ -80,6 +61,12 @@ module _ {S T : Type 0} (h : ℕ) (event : Event T) (course : Course S T) where
   pub after-feed : (counted : Bool) → (after_turn counted h event course).feed ≡ course.feed
   after-feed true = refl
   after-feed false = refl
+
+-- and comes first in their order, where it is counted
+pub after_order : {S T : Type 0} (counted : Bool) (h : ℕ) (event : Event T) (course : Course S T)
+    → (after_turn counted h event course).order ≡ (if counted then h ∷ course.order else course.order)
+after_order true h event course = refl
+after_order false h event course = refl
 
 -- on the way to all of some rounds: those that are left, and what the sinks have taken
 pub record IsLeft {S T : Type 0} (left all : Course S T) (start now : Taken) : Type 0 where

@@ -7,7 +7,8 @@ use Rattle.std.proofs.lemmas.List.{take-map}
 use Rattle.std.proofs.lemmas.Map.Made.{is_some-lookup}
 use Rattle.policy_trait.specs.declared.rules.Outs.{Outs}
 use Rattle.engine_trait.specs.Accounts as accounts
-use Rattle.engine_trait.specs.Accounts.{Account, next_count, group_eq, is_kept, looked_up, same_key}
+use Rattle.engine_trait.specs.Accounts.{Account, group_eq, is_kept, looked_up, same_key}
+use Rattle.shared_terms.specs.Counts.{next_count}
 use Rattle.rule_cache.specs.Keys.{key_eq}
 use Rattle.rule_cache.specs.Named.{IsAccountOf, IsKeyBelow, IsToldApart, TellsBelow, key_by}
 use Rattle.rule_cache.specs.Stores.{Rules, Store, counted_as, lookup_of, looked_for, store_with, with_rule, without}

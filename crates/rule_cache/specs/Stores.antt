@@ -3,7 +3,7 @@ use Rattle.std.specs.Prelude.{ℕ, ◌≤◌, not, List, [], ◌∷◌, filter, 
 use Rattle.std.specs.List.{IsDistinct}
 use Rattle.std.specs.Map.{keys_of, lookup}
 use Rattle.policy_trait.specs.declared.rules.Outs.{Outs}
-use Rattle.engine_trait.specs.Accounts.{next_count}
+use Rattle.shared_terms.specs.Counts.{next_count}
 use Rattle.rule_cache.specs.Keys.{key_eq}
 use Rattle.rule_cache.specs.declared.key.Key.{Key}
 

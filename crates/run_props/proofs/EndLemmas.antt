@@ -1,7 +1,7 @@
 -- How the turn of a ready hart ends, and that a call of a policy's service which retired was served.
 use Rattle.std.proofs.Common.{◌≡◌, ◌⊎◌, inl, inr, ℕ, Bool, true, false, List, Option, Some, None, Result, Ok, Err, refl, sym, ap, ◌∙◌, if◌then◌else◌}
 use Rattle.policy_trait.specs.Model.{PolicyModel}
-use Rattle.policy_trait.specs.Steps.{◌>>=◌}
+use Rattle.shared_terms.specs.Steps.{◌>>=◌}
 use Rattle.policy_trait.specs.declared.rules.Outs.{Outs}
 use Rattle.policy_trait.specs.declared.services.Args.{Args}
 use Rattle.policy_trait.specs.declared.services.PlanEnd.{PlanEnd}
@@ -11,7 +11,7 @@ use Rattle.turn_steps.specs.Services.{args_on}
 use Rattle.turn_steps.specs.declared.look.Look.{Look}
 use Rattle.turn_steps.specs.declared.stop.Stop.{Stop}
 use Rattle.turn_steps.specs.declared.stop.Stop.TheVariants as stop
-use Rattle.engine_trait.proofs.TurnLemmas.{job_ruled, turn_made, turn_refused, turn_ruled}
+use Rattle.engine_trait.proofs.TurnLemmas.{event_of-ended, job_ruled, turn_made, turn_refused, turn_ruled}
 use Rattle.engine_trait.specs.Events.{Call, Event, Work, called_in, event_by, event_of, is_retiring, is_retirement, work_in}
 use Rattle.engine_trait.specs.EngineLaws.{is_made}
 use Rattle.engine_trait.specs.Machine.{Machine, hart_at, is_ready_in}
@@ -38,17 +38,9 @@ module _ {T : Type 0} (event : Event T) where
   ends_so ends.Memory is made = absurd (cc made)
 
 module _ {S T : Type 0} (m : PolicyModel T S) (s : Machine S T) (feed : List ℕ) (h : ℕ) where
-  ended_by : (ready : Bool) → (event_by m s feed h ready).ended ≡ (turn_of m s feed h).ended
-  ended_by true = refl
-  ended_by false = refl
-
-  ended_is : (event_of m s feed h).ended ≡ (turn_of m s feed h).ended
-  unfolding event_of
-  ended_is = ended_by (is_ready_in s.core h)
-
   -- a ready hart's turn retires, or ends in a stop that is no exit
   pub ready_ends : is_ready_in s.core h ≡ true → (is_retirement (event_of m s feed h) ≡ true) ⊎ IsStopped (event_of m s feed h)
-  ready_ends ready = ends_so (event_of m s feed h) (turn_of m s feed h).ended ended_is (turn_made m s feed h ready)
+  ready_ends ready = ends_so (event_of m s feed h) (turn_of m s feed h).ended (event_of-ended m s feed h) (turn_made m s feed h ready)
 
   -- ---- a call that retired
 
@@ -68,7 +60,7 @@ module _ {S T : Type 0} (m : PolicyModel T S) (s : Machine S T) (feed : List ℕ
     call_is = sym (ap (λ (e : Event T). e.call) event_ready) ∙ called
 
     retires : is_retiring (turn_of m s feed h).ended ≡ true
-    retires = sym (ap is_retiring ended_is) ∙ done
+    retires = sym (ap is_retiring (event_of-ended m s feed h)) ∙ done
 
     unretired : (why : Stop) → StopsUnretired why → (turn_of m s feed h).ended ≡ ends.Stopped why → IsServed call
     unretired why fails ended = absurd (let is : is_retiring (ends.Stopped why) ≡ true = sym (ap is_retiring ended) ∙ retires in cc (is, fails))

@@ -18,6 +18,7 @@ use Rattle.policy_trait.specs.declared.services.Rest.{Rest}
 use Rattle.policy_trait.specs.declared.services.Rest.TheVariants as rest
 use Rattle.policy_trait.specs.declared.services.Words.{Words}
 use Rattle.part_turns.specs.Moments.{Service}
+use Rattle.shared_terms.proofs.StepLemmas.{ok_is}
 use Rattle.sealing_policy.specs.Sealing.{answering, key_limit, key_plan, refused_plan, seal_plan, sealing, sealing_knows, sealing_plan, unseal_plan}
 use Rattle.sealing_policy.specs.declared.tag.SealTag.{SealTag}
 use Rattle.sealing_policy.specs.declared.tag.SealTag.TheVariants.{Data, Key, Sealed}
@@ -57,17 +58,8 @@ answer_fits book x y fits e = subst (λ (z : Answer SealTag). Fits book z.value 
 abbrev given : Plan SealTag → Result (Plan SealTag) PlanEnd
 given plan = Ok plan
 
-same_plan : (x y : Plan SealTag) → given x ≡ given y → x ≡ y
-same_plan x y e = cc
-
-no_plan : {P : Type 0} (end : PlanEnd) (p : Plan SealTag) → Err end ≡ Ok p → P
-no_plan end p e = cc
-
 abbrev tagged : SealTag → Result SealTag Refused
 tagged tag = Ok tag
-
-same_tag : (x y : SealTag) → tagged x ≡ tagged y → x ≡ y
-same_tag x y e = cc
 
 -- ---- the policy's own services
 
@@ -114,32 +106,32 @@ module _ (book : KeyBook) (keys : ℕ) (has : HasKeys book keys) (a : Args SealT
     -- by the plan that is given
 
     planned_as : (number : ℕ) (plan p : Plan SealTag) → IsServedBy book keys a number plan → given plan ≡ given p → IsServedBy book keys a number p
-    planned_as number plan p served e = subst (IsServedBy book keys a number) (same_plan plan p e) served
+    planned_as number plan p served e = subst (IsServedBy book keys a number) (ok_is plan p e) served
 
     by_key : (few : Bool) (p : Plan SealTag) → (few ≡ true → keys < key_limit)
         → (if few then Ok (answering 16 pc keys (Key keys) rest.Plain) else Err plan_end.Spent) ≡ Ok p → IsServedBy book keys a 16 p
     by_key true p below e = planned_as 16 (answering 16 pc keys (Key keys) rest.Plain) p (made (below refl)) e
-    by_key false p below e = no_plan plan_end.Spent p e
+    by_key false p below e = absurd cc
 
     by_seal : (t0 t1 : SealTag) (p : Plan SealTag) → a.t1 ≡ t1 → seal_plan a pc t0 t1 ≡ Ok p → IsServedBy book keys a 17 p
     by_seal Data (Key key) p lock e = planned_as 17 (answering 17 pc a.a0 (Sealed key) rest.AsA0) p (sealed key lock) e
-    by_seal Data Data p lock e = no_plan _ p e
-    by_seal Data (Sealed key) p lock e = no_plan _ p e
-    by_seal (Key other) t1 p lock e = no_plan _ p e
-    by_seal (Sealed other) t1 p lock e = no_plan _ p e
+    by_seal Data Data p lock e = absurd cc
+    by_seal Data (Sealed key) p lock e = absurd cc
+    by_seal (Key other) t1 p lock e = absurd cc
+    by_seal (Sealed other) t1 p lock e = absurd cc
 
     by_same : (same : Bool) (key other : ℕ) (p : Plan SealTag) → (same ≡ true → key ≡ other) → a.t0 ≡ Sealed key → a.t1 ≡ Key other
         → (if same then Ok (answering 18 pc a.a0 Data rest.AsA0) else refused_plan why.WrongKey) ≡ Ok p → IsServedBy book keys a 18 p
     by_same true key other p same value lock e =
         planned_as 18 (answering 18 pc a.a0 Data rest.AsA0) p (unsealed key value (lock ∙ ap (λ n. Key n) (sym (same refl)))) e
-    by_same false key other p same value lock e = no_plan _ p e
+    by_same false key other p same value lock e = absurd cc
 
     by_unseal : (t0 t1 : SealTag) (p : Plan SealTag) → a.t0 ≡ t0 → a.t1 ≡ t1 → unseal_plan a pc t0 t1 ≡ Ok p → IsServedBy book keys a 18 p
     by_unseal (Sealed key) (Key other) p value lock e = by_same (key == other) key other p (λ same. grind (arith, nat_tests)) value lock e
-    by_unseal (Sealed key) Data p value lock e = no_plan _ p e
-    by_unseal (Sealed key) (Sealed other) p value lock e = no_plan _ p e
-    by_unseal Data t1 p value lock e = no_plan _ p e
-    by_unseal (Key other) t1 p value lock e = no_plan _ p e
+    by_unseal (Sealed key) Data p value lock e = absurd cc
+    by_unseal (Sealed key) (Sealed other) p value lock e = absurd cc
+    by_unseal Data t1 p value lock e = absurd cc
+    by_unseal (Key other) t1 p value lock e = absurd cc
 
     by_test : (sixteen seventeen : Bool) (number : ℕ) (p : Plan SealTag) → (sixteen ≡ true → 16 ≡ number) → (seventeen ≡ true → 17 ≡ number)
         → (sixteen ≡ false → seventeen ≡ false → 18 ≡ number)
@@ -166,8 +158,8 @@ module _ (book : KeyBook) (keys : ℕ) (has : HasKeys book keys) (a : Args SealT
         → (if known then tagged old else if zero then tagged Data else tagged old) ≡ tagged new → Fits book word old
         → Fits book (if zero then 0 else word) new
     word_fits true zero word old new unknown e fits = absurd cc
-    word_fits false true word old new unknown e fits = subst (Fits book 0) (same_tag Data new e) tt
-    word_fits false false word old new unknown e fits = subst (Fits book word) (same_tag old new e) fits
+    word_fits false true word old new unknown e fits = subst (Fits book 0) (ok_is Data new e) tt
+    word_fits false false word old new unknown e fits = subst (Fits book word) (ok_is old new e) fits
 
     -- another's answer is plain, or a0
     other_fits : (others : Rest) (y : Answer SealTag) → y.rest ≡ others → IsOthers Data a y → Fits book y.value y.tag

@@ -1,5 +1,6 @@
 -- Each input that a row does not ignore changes an answer: at data everywhere, a key in its place.
-use Rattle.std.proofs.Common.{◌≡◌, ℕ, Bool, true, false, Result, Ok, Err, refl, sym, ap, ◌∙◌}
+use Rattle.std.proofs.Common.{◌≡◌, ℕ, Bool, true, false, Result, Ok, Err, refl, sym, ap, ◌∙◌, true≢false}
+use Rattle.shared_terms.proofs.CaseLemmas.{not_refused}
 use Rattle.rv_decode.specs.declared.groups.Group.{Group}
 use Rattle.policy_trait.specs.UseLaws.{ignored_input}
 use Rattle.policy_trait.specs.Uses.{Input, Pc, Instruction, First, Second, Word, UsesExactly, is_ignored, with_input}
@@ -35,10 +36,6 @@ data_from OfWord = refl
 allowed : (row : Row) (g : Group) → rule_by row g all_data ≡ gives Data
 allowed row g = rw (data_fits row.first, data_fits row.second, data_fits row.word, data_from row.result) refl
 
--- no rule answers two of these
-not_refused : {P : Type 0} (refused : Refused) → Err refused ≡ gives Data → P
-not_refused refused e = cc
-
 not_key : {P : Type 0} → gives (Key 0) ≡ gives Data → P
 not_key e = let same : Key 0 ≡ Data = ap result_in e in cc
   where
@@ -46,51 +43,48 @@ not_key e = let same : Key 0 ≡ Data = ap result_in e in cc
     result_in (Ok outs) = outs.result
     result_in (Err refused) = Data
 
-unignored : {P : Type 0} → true ≡ false → P
-unignored e = cc
-
 abbrev Differs : Row → Input → Type 0
 Differs row i = (g : Group) → is_ignored (row_ignores row) i ≡ false → ¬ (rule_by row g (with_input i (Key 0) all_data) ≡ rule_by row g all_data)
 
 instruction_used : (row : Row) → Differs row Instruction
-instruction_used row g is e = not_refused _ (e ∙ allowed row g)
+instruction_used row g is e = not_refused (e ∙ allowed row g)
 
 abbrev row : Bool → Bool → Bool → Source → Row
 row first second word result = record { first = first; second = second; word = word; result = result }
 
 first_used : (first second word : Bool) (result : Source) → Differs (row first second word result) First
-first_used true second word result g is e = not_refused _ (e ∙ allowed (row true second word result) g)
+first_used true second word result g is e = not_refused (e ∙ allowed (row true second word result) g)
 first_used false second word OfFirst g is e =
     let made : rule_by (row false second word OfFirst) g (with_input First (Key 0) all_data) ≡ gives (Key 0) = rw (data_fits second, data_fits word) refl in
     not_key (sym made ∙ e ∙ allowed (row false second word OfFirst) g)
-first_used false second word Plain g is e = unignored is
-first_used false second word OfSecond g is e = unignored is
-first_used false second word OfWord g is e = unignored is
+first_used false second word Plain g is e = absurd (true≢false is)
+first_used false second word OfSecond g is e = absurd (true≢false is)
+first_used false second word OfWord g is e = absurd (true≢false is)
 
 second_used : (first second word : Bool) (result : Source) → Differs (row first second word result) Second
 second_used first true word result g is e =
     let made : rule_by (row first true word result) g (with_input Second (Key 0) all_data) ≡ Err (refused_for (why.Rule g)) = rw (data_fits first) refl in
-    not_refused _ (sym made ∙ e ∙ allowed (row first true word result) g)
+    not_refused (sym made ∙ e ∙ allowed (row first true word result) g)
 second_used first false word OfSecond g is e =
     let made : rule_by (row first false word OfSecond) g (with_input Second (Key 0) all_data) ≡ gives (Key 0) = rw (data_fits first, data_fits word) refl in
     not_key (sym made ∙ e ∙ allowed (row first false word OfSecond) g)
-second_used first false word Plain g is e = unignored is
-second_used first false word OfFirst g is e = unignored is
-second_used first false word OfWord g is e = unignored is
+second_used first false word Plain g is e = absurd (true≢false is)
+second_used first false word OfFirst g is e = absurd (true≢false is)
+second_used first false word OfWord g is e = absurd (true≢false is)
 
 word_used : (first second word : Bool) (result : Source) → Differs (row first second word result) Word
 word_used first second true result g is e =
     let made : rule_by (row first second true result) g (with_input Word (Key 0) all_data) ≡ Err (refused_for (why.Rule g)) = rw (data_fits first, data_fits second) refl in
-    not_refused _ (sym made ∙ e ∙ allowed (row first second true result) g)
+    not_refused (sym made ∙ e ∙ allowed (row first second true result) g)
 word_used first second false OfWord g is e =
     let made : rule_by (row first second false OfWord) g (with_input Word (Key 0) all_data) ≡ gives (Key 0) = rw (data_fits first, data_fits second) refl in
     not_key (sym made ∙ e ∙ allowed (row first second false OfWord) g)
-word_used first second false Plain g is e = unignored is
-word_used first second false OfFirst g is e = unignored is
-word_used first second false OfSecond g is e = unignored is
+word_used first second false Plain g is e = absurd (true≢false is)
+word_used first second false OfFirst g is e = absurd (true≢false is)
+word_used first second false OfSecond g is e = absurd (true≢false is)
 
 differs : (row : Row) (i : Input) → Differs row i
-differs row Pc = λ g is. unignored is
+differs row Pc = λ g is. absurd (true≢false is)
 differs row Instruction = instruction_used row
 differs row First = first_used row.first row.second row.word row.result
 differs row Second = second_used row.first row.second row.word row.result

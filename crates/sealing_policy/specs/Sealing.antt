@@ -119,13 +119,25 @@ sealing_rule g x = rule_by (row_of g) g x
 abbrev pub sealing_ignores : Group → Mask
 sealing_ignores g = row_ignores (row_of g)
 
--- ---- the services: 16 makes a key, 17 seals, 18 unseals
+-- ---- the services, by their numbers
+
+-- makes a key
+abbrev pub make_key_service : ℕ
+make_key_service = 16
+
+-- seals a0 with the key in a1
+abbrev pub seal_service : ℕ
+seal_service = 17
+
+-- unseals a0 with the key in a1
+abbrev pub unseal_service : ℕ
+unseal_service = 18
 
 abbrev pub sealing_knows : ℕ → Bool
-sealing_knows number = (number == 16) || (number == 17) || (number == 18)
+sealing_knows number = (number == make_key_service) || (number == seal_service) || (number == unseal_service)
 
 abbrev pub sealing_uses : ℕ → ℕ
-sealing_uses number = if number == 16 then 0 else 2
+sealing_uses number = if number == make_key_service then 0 else 2
 
 -- only data is lent
 abbrev pub sealing_lend : SealTag → Result (Unit {0}) Part
@@ -140,11 +152,11 @@ refused_plan reason = Err (plan_end.Refused (refused_for reason))
 
 -- the next key
 abbrev pub key_plan : ℕ → SealTag → Result (Plan SealTag) PlanEnd
-key_plan keys pc = if nat_lt keys key_limit then Ok (answering 16 pc keys (Key keys) rest.Plain) else Err plan_end.Spent
+key_plan keys pc = if nat_lt keys key_limit then Ok (answering make_key_service pc keys (Key keys) rest.Plain) else Err plan_end.Spent
 
 -- data in a0 and a key in a1: a0 sealed by that key
 abbrev pub seal_plan : Args SealTag → SealTag → SealTag → SealTag → Result (Plan SealTag) PlanEnd
-seal_plan a pc Data (Key k) = Ok (answering 17 pc a.a0 (Sealed k) rest.AsA0)
+seal_plan a pc Data (Key k) = Ok (answering seal_service pc a.a0 (Sealed k) rest.AsA0)
 seal_plan a pc Data Data = refused_plan why.Args
 seal_plan a pc Data (Sealed k) = refused_plan why.Args
 seal_plan a pc (Key k) lock = refused_plan why.Args
@@ -152,7 +164,7 @@ seal_plan a pc (Sealed k) lock = refused_plan why.Args
 
 -- a sealed value in a0 and its key in a1: a0 as data. The tag of a1 says which key it is.
 abbrev pub unseal_plan : Args SealTag → SealTag → SealTag → SealTag → Result (Plan SealTag) PlanEnd
-unseal_plan a pc (Sealed k) (Key j) = if k == j then Ok (answering 18 pc a.a0 Data rest.AsA0) else refused_plan why.WrongKey
+unseal_plan a pc (Sealed k) (Key j) = if k == j then Ok (answering unseal_service pc a.a0 Data rest.AsA0) else refused_plan why.WrongKey
 unseal_plan a pc (Sealed k) Data = refused_plan why.Args
 unseal_plan a pc (Sealed k) (Sealed j) = refused_plan why.Args
 unseal_plan a pc Data key = refused_plan why.Args
@@ -160,13 +172,13 @@ unseal_plan a pc (Key k) key = refused_plan why.Args
 
 abbrev pub sealing_plan : ℕ → ℕ → Args SealTag → SealTag → Result (Plan SealTag) PlanEnd
 sealing_plan keys number a pc =
-    if number == 16 then key_plan keys pc else
-    if number == 17 then seal_plan a pc a.t0 a.t1 else
+    if number == make_key_service then key_plan keys pc else
+    if number == seal_service then seal_plan a pc a.t0 a.t1 else
     unseal_plan a pc a.t0 a.t1
 
 -- a key that was made is never made again
 abbrev pub sealing_commit : ℕ → Plan SealTag → ℕ
-sealing_commit keys plan = if plan.service == 16 then keys + 1 else keys
+sealing_commit keys plan = if plan.service == make_key_service then keys + 1 else keys
 
 abbrev pub sealing_text : SealTag → List ℕ
 sealing_text Data = codes "data"

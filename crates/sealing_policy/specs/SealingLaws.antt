@@ -1,6 +1,9 @@
 -- Sealing keeps the laws of a policy.
 use Rattle.std.proofs.Common.{◌≡◌, ℕ, ◌+◌, ◌<◌, ◌≤◌, ◌==◌, Bool, true, false, Some, None, Result, Ok, Err, IsTrue, nat_lt, if◌then◌else◌, refl, sym, ap, ◌∙◌, arith}
 use Rattle.std.proofs.lemmas.Bool.Decides.{nat_tests}
+use Rattle.std.proofs.lemmas.Option.{none-some, same_Some}
+use Rattle.shared_terms.proofs.CaseLemmas.{not_refused}
+use Rattle.shared_terms.proofs.StepLemmas.{ok_is}
 use Rattle.rv_decode.specs.declared.groups.Group.{Group}
 use Rattle.rv_decode.specs.declared.groups.Group.TheVariants as group
 use Rattle.policy_trait.specs.PolicyLaws.{KeepsLaws}
@@ -10,13 +13,12 @@ use Rattle.policy_trait.specs.declared.services.Answer.{Answer}
 use Rattle.policy_trait.specs.declared.services.Args.{Args}
 use Rattle.policy_trait.specs.declared.services.Plan.{Plan}
 use Rattle.policy_trait.specs.declared.services.PlanEnd.{PlanEnd}
-use Rattle.policy_trait.specs.declared.services.Words.{Words}
 use Rattle.policy_trait.specs.declared.services.PlanEnd.TheVariants as plan_end
 use Rattle.policy_trait.specs.declared.services.Rest.{Rest}
 use Rattle.policy_trait.specs.declared.services.Rest.TheVariants as rest
 use Rattle.policy_trait.specs.declared.services.Rest.TheVariants.{AsA0}
 use Rattle.policy_trait.specs.declared.rules.Why.TheVariants as why
-use Rattle.sealing_policy.specs.Sealing.{HasFewKeys, answering, key_limit, key_plan, refused_plan, seal_plan, sealing, sealing_ignores, sealing_knows, sealing_plan, sealing_rule, unseal_plan}
+use Rattle.sealing_policy.specs.Sealing.{HasFewKeys, answering, key_limit, key_plan, make_key_service, refused_plan, seal_plan, seal_service, sealing, sealing_ignores, sealing_knows, sealing_plan, sealing_rule, unseal_plan, unseal_service}
 use Rattle.sealing_policy.specs.declared.tag.SealTag.{SealTag}
 use Rattle.sealing_policy.specs.declared.tag.SealTag.TheVariants.{Data, Key, Sealed}
 
@@ -50,83 +52,71 @@ record IsSealPlan (keys number a0 : ℕ) (p : Plan SealTag) : Type 0 where
   service : p.service ≡ number
   range : p.range ≡ None
   value : (x : Answer SealTag) → p.answer ≡ Some x → x.rest ≡ AsA0 → x.value ≡ a0
-  below : number ≡ 16 → keys < key_limit
+  below : number ≡ make_key_service → keys < key_limit
 
 -- a plan that is made
 abbrev given_as : Plan SealTag → Result (Plan SealTag) PlanEnd
 given_as plan = Ok plan
 
-plan_is : (x y : Plan SealTag) → given_as x ≡ given_as y → x ≡ y
-plan_is x y e = cc
-
-some_is : {A : Type 0} (x y : A) → Some x ≡ Some y → x ≡ y
-some_is x y e = cc
-
-made : (keys number a0 n value : ℕ) (pc tag : SealTag) (others : Rest) (p : Plan SealTag) → n ≡ number → (others ≡ AsA0 → value ≡ a0) → (number ≡ 16 → keys < key_limit)
+made : (keys number a0 n value : ℕ) (pc tag : SealTag) (others : Rest) (p : Plan SealTag) → n ≡ number → (others ≡ AsA0 → value ≡ a0) → (number ≡ make_key_service → keys < key_limit)
     → given_as (answering n pc value tag others) ≡ given_as p → IsSealPlan keys number a0 p
 made keys number a0 n value pc tag others p n_is value_is below given =
-    let e : answering n pc value tag others ≡ p = plan_is (answering n pc value tag others) p given in
+    let e : answering n pc value tag others ≡ p = ok_is (answering n pc value tag others) p given in
     record {
       service = ap (λ (q : Plan SealTag). q.service) (sym e) ∙ n_is;
       range = ap (λ (q : Plan SealTag). q.range) (sym e);
       value = λ x x_is as_a0.
-          let same : (record { value = value; tag = tag; rest = others }) ≡ x = some_is (record { value = value; tag = tag; rest = others }) x (ap (λ (q : Plan SealTag). q.answer) e ∙ x_is) in
+          let same : (record { value = value; tag = tag; rest = others }) ≡ x = same_Some (record { value = value; tag = tag; rest = others }) x (ap (λ (q : Plan SealTag). q.answer) e ∙ x_is) in
           ap (λ (y : Answer SealTag). y.value) (sym same) ∙ value_is (ap (λ (y : Answer SealTag). y.rest) same ∙ as_a0);
       below = below;
     }
 
-no_plan : {P : Type 0} (end : PlanEnd) (p : Plan SealTag) → Err end ≡ Ok p → P
-no_plan end p e = cc
-
-sealed_plan : (keys number : ℕ) (a : Args SealTag) (pc : SealTag) (p : Plan SealTag) (t0 t1 : SealTag) → 17 ≡ number → (number ≡ 16 → keys < key_limit)
+sealed_plan : (keys number : ℕ) (a : Args SealTag) (pc : SealTag) (p : Plan SealTag) (t0 t1 : SealTag) → seal_service ≡ number → (number ≡ make_key_service → keys < key_limit)
     → seal_plan a pc t0 t1 ≡ Ok p → IsSealPlan keys number a.a0 p
-sealed_plan keys number a pc p Data (Key k) is below e = made keys number a.a0 17 a.a0 pc (Sealed k) rest.AsA0 p is (λ _. refl) below e
-sealed_plan keys number a pc p Data Data is below e = no_plan _ p e
-sealed_plan keys number a pc p Data (Sealed k) is below e = no_plan _ p e
-sealed_plan keys number a pc p (Key k) t1 is below e = no_plan _ p e
-sealed_plan keys number a pc p (Sealed k) t1 is below e = no_plan _ p e
+sealed_plan keys number a pc p Data (Key k) is below e = made keys number a.a0 seal_service a.a0 pc (Sealed k) rest.AsA0 p is (λ _. refl) below e
+sealed_plan keys number a pc p Data Data is below e = not_refused e
+sealed_plan keys number a pc p Data (Sealed k) is below e = not_refused e
+sealed_plan keys number a pc p (Key k) t1 is below e = not_refused e
+sealed_plan keys number a pc p (Sealed k) t1 is below e = not_refused e
 
-unsealed_by : (same : Bool) (keys number : ℕ) (a : Args SealTag) (pc : SealTag) (p : Plan SealTag) → 18 ≡ number → (number ≡ 16 → keys < key_limit)
-    → (if same then Ok (answering 18 pc a.a0 Data rest.AsA0) else refused_plan why.WrongKey) ≡ Ok p → IsSealPlan keys number a.a0 p
-unsealed_by true keys number a pc p is below e = made keys number a.a0 18 a.a0 pc Data rest.AsA0 p is (λ _. refl) below e
-unsealed_by false keys number a pc p is below e = no_plan _ p e
+unsealed_by : (same : Bool) (keys number : ℕ) (a : Args SealTag) (pc : SealTag) (p : Plan SealTag) → unseal_service ≡ number → (number ≡ make_key_service → keys < key_limit)
+    → (if same then Ok (answering unseal_service pc a.a0 Data rest.AsA0) else refused_plan why.WrongKey) ≡ Ok p → IsSealPlan keys number a.a0 p
+unsealed_by true keys number a pc p is below e = made keys number a.a0 unseal_service a.a0 pc Data rest.AsA0 p is (λ _. refl) below e
+unsealed_by false keys number a pc p is below e = not_refused e
 
-unsealed_plan : (keys number : ℕ) (a : Args SealTag) (pc : SealTag) (p : Plan SealTag) (t0 t1 : SealTag) → 18 ≡ number → (number ≡ 16 → keys < key_limit)
+unsealed_plan : (keys number : ℕ) (a : Args SealTag) (pc : SealTag) (p : Plan SealTag) (t0 t1 : SealTag) → unseal_service ≡ number → (number ≡ make_key_service → keys < key_limit)
     → unseal_plan a pc t0 t1 ≡ Ok p → IsSealPlan keys number a.a0 p
 unsealed_plan keys number a pc p (Sealed k) (Key j) is below e = unsealed_by (k == j) keys number a pc p is below e
-unsealed_plan keys number a pc p (Sealed k) Data is below e = no_plan _ p e
-unsealed_plan keys number a pc p (Sealed k) (Sealed j) is below e = no_plan _ p e
-unsealed_plan keys number a pc p Data t1 is below e = no_plan _ p e
-unsealed_plan keys number a pc p (Key k) t1 is below e = no_plan _ p e
+unsealed_plan keys number a pc p (Sealed k) Data is below e = not_refused e
+unsealed_plan keys number a pc p (Sealed k) (Sealed j) is below e = not_refused e
+unsealed_plan keys number a pc p Data t1 is below e = not_refused e
+unsealed_plan keys number a pc p (Key k) t1 is below e = not_refused e
 
-key_made : (few : Bool) (keys number a0 : ℕ) (pc : SealTag) (p : Plan SealTag) → (few ≡ true → keys < key_limit) → 16 ≡ number
-    → (if few then Ok (answering 16 pc keys (Key keys) rest.Plain) else Err plan_end.Spent) ≡ Ok p → IsSealPlan keys number a0 p
+key_made : (few : Bool) (keys number a0 : ℕ) (pc : SealTag) (p : Plan SealTag) → (few ≡ true → keys < key_limit) → make_key_service ≡ number
+    → (if few then Ok (answering make_key_service pc keys (Key keys) rest.Plain) else Err plan_end.Spent) ≡ Ok p → IsSealPlan keys number a0 p
 key_made true keys number a0 pc p below is e =
-    made keys number a0 16 keys pc (Key keys) rest.Plain p is (λ plain. cc) (λ _. below refl) e
-key_made false keys number a0 pc p below is e = no_plan _ p e
+    made keys number a0 make_key_service keys pc (Key keys) rest.Plain p is (λ plain. cc) (λ _. below refl) e
+key_made false keys number a0 pc p below is e = not_refused e
 
 planned_by : (first second : Bool) (keys number : ℕ) (a : Args SealTag) (pc : SealTag) (p : Plan SealTag)
-    → (first ≡ true → 16 ≡ number) → (second ≡ true → 17 ≡ number) → (first ≡ false → second ≡ false → 18 ≡ number)
+    → (first ≡ true → make_key_service ≡ number) → (second ≡ true → seal_service ≡ number) → (first ≡ false → second ≡ false → unseal_service ≡ number)
     → (if first then key_plan keys pc else if second then seal_plan a pc a.t0 a.t1 else unseal_plan a pc a.t0 a.t1) ≡ Ok p
     → IsSealPlan keys number a.a0 p
 planned_by true second keys number a pc p one two three e =
     key_made (nat_lt keys key_limit) keys number a.a0 pc p (λ few. grind (arith, nat_tests)) (one refl) e
 planned_by false true keys number a pc p one two three e =
-    let is : 17 ≡ number = two refl in sealed_plan keys number a pc p a.t0 a.t1 is (λ sixteen. absurd (omega arith)) e
+    let is : seal_service ≡ number = two refl in sealed_plan keys number a pc p a.t0 a.t1 is (λ sixteen. absurd (omega arith)) e
 planned_by false false keys number a pc p one two three e =
-    let is : 18 ≡ number = three refl refl in unsealed_plan keys number a pc p a.t0 a.t1 is (λ sixteen. absurd (omega arith)) e
+    let is : unseal_service ≡ number = three refl refl in unsealed_plan keys number a pc p a.t0 a.t1 is (λ sixteen. absurd (omega arith)) e
 
 planned : (keys number : ℕ) (a : Args SealTag) (pc : SealTag) (p : Plan SealTag) → IsTrue (sealing_knows number)
     → sealing_plan keys number a pc ≡ Ok p → IsSealPlan keys number a.a0 p
 planned keys number a pc p known e =
-    planned_by (number == 16) (number == 17) keys number a pc p (λ one. grind (arith, nat_tests)) (λ two. grind (arith, nat_tests)) (λ one two. grind (arith, nat_tests, known)) e
+    planned_by (number == make_key_service) (number == seal_service) keys number a pc p (λ one. grind (arith, nat_tests)) (λ two. grind (arith, nat_tests)) (λ one two. grind (arith, nat_tests, known)) e
 
 stays_by : (sixteen : Bool) (keys : ℕ) → (sixteen ≡ true → keys < key_limit) → HasFewKeys keys → HasFewKeys (if sixteen then keys + 1 else keys)
 stays_by true keys below few = let h : keys < key_limit = below refl in omega arith
 stays_by false keys below few = few
-
-no_range : {P : Type 0} (x : Words) → None ≡ Some x → P
-no_range x e = cc
 
 uses_by : (sixteen : Bool) → (if sixteen then 0 else 2) ≤ 3
 uses_by true = omega arith
@@ -150,11 +140,11 @@ sealing_laws = record {
   };
   stays = λ keys p given few.
       let plan : IsSealPlan keys p.service given.arguments.a0 p = planned keys p.service given.arguments given.pc p given.can.known given.given in
-      stays_by (p.service == 16) keys (λ sixteen. plan.below (grind (arith, nat_tests))) few;
+      stays_by (p.service == make_key_service) keys (λ sixteen. plan.below (grind (arith, nat_tests))) few;
   ranges = λ keys k a pc p can few given x x_is.
       let plan : IsSealPlan keys k a.a0 p = planned keys k a pc p can.known given in
-      no_range x (sym plan.range ∙ x_is);
-  few = λ keys k known. uses_by (k == 16);
+      absurd (none-some x (sym plan.range ∙ x_is));
+  few = λ keys k known. uses_by (k == make_key_service);
   service = λ keys k a pc p known given. let plan : IsSealPlan keys k a.a0 p = planned keys k a pc p known given in plan.service;
   value = λ keys k a pc p known given x x_is. let plan : IsSealPlan keys k a.a0 p = planned keys k a pc p known given in plan.value x x_is;
 }

@@ -5,6 +5,7 @@ use Rattle.std.specs.Char.{digit_value, is_digit}
 use Rattle.std.specs.Option.{ok_or}
 use Rattle.std.specs.Str.Parse.{AllDigits, IsNumeral, digits_value}
 use Rattle.std.proofs.Math.Nat.{pow-le-pow_right}
+use Rattle.std.proofs.lemmas.Bool.{and_parts}
 use Rattle.std.proofs.lemmas.Bool.Decides.{nat_tests}
 use Rattle.std.proofs.lemmas.Grind.{common_steps}
 use Rattle.std.proofs.lemmas.Int.Digits.{digits_more, digits_value_more}
@@ -12,15 +13,11 @@ use borrow.Author.Tests.{leb-true}
 use Rattle.shell_lang.specs.declared.bad_command.BadCommand.TheVariants.{Malformed}
 use Rattle.shell_lang.specs.Operands.{are_digits, is_numeral}
 
-both_true : {a b : Bool} → a && b ≡ true → (a ≡ true) × (b ≡ true)
-both_true {a = true} h = (refl, h)
-both_true {a = false} h = cc
-
 -- the test for digits says what it asks
 pub all_digits : (radix : ℕ) (text : List ℕ) → are_digits radix text ≡ true → AllDigits radix text
 all_digits radix [] h = tt
 all_digits radix (c ∷ cs) h =
-    let parts = both_true {a = is_digit c radix} {b = are_digits radix cs} h in
+    let parts = and_parts (is_digit c radix) (are_digits radix cs) h in
     (grind (arith, nat_tests, parts.0), all_digits radix cs parts.1)
 
 pub are_digits_true : (radix : ℕ) (text : List ℕ) → AllDigits radix text → are_digits radix text ≡ true
@@ -31,8 +28,8 @@ are_digits_true radix (c ∷ cs) h =
 
 numeral_true : (radix most : ℕ) (text : List ℕ) → is_numeral radix most text ≡ true → IsNumeral radix text × (length text ≤ most)
 numeral_true radix most text h =
-    let ends = both_true {a = nat_le 1 (length text) && nat_le (length text) most} {b = are_digits radix text} h in
-    let sizes = both_true {a = nat_le 1 (length text)} {b = nat_le (length text) most} ends.0 in
+    let ends = and_parts (nat_le 1 (length text) && nat_le (length text) most) (are_digits radix text) h in
+    let sizes = and_parts (nat_le 1 (length text)) (nat_le (length text) most) ends.0 in
     ((omega (arith, leb-true), all_digits radix text ends.1), omega (arith, leb-true))
 
 is_numeral_true : (radix most : ℕ) (text : List ℕ) → IsNumeral radix text × (length text ≤ most) → is_numeral radix most text ≡ true

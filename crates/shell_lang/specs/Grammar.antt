@@ -8,7 +8,7 @@ use Rattle.shell_lang.specs.declared.bad_command.BadCommand.TheVariants.{Unknown
 use Rattle.shell_lang.specs.declared.command.Command.{Command}
 use Rattle.shell_lang.specs.declared.command.Command.TheVariants.{Blank, Step, Run, Turns, Feed, Regs, Pc, Mem, Tags, Dis, Why, Blocks, Stats, Break, Clear, Reset, Quit}
 use Rattle.shell_lang.specs.Operands.{no_operand, one_operand, two_operands, number_in, address_in, digits_in, bytes_in, within, word_address}
-use Rattle.shell_lang.specs.Refusals.{◌>>=◌}
+use Rattle.shared_terms.specs.Steps.{◌>>=◌}
 use Rattle.shell_lang.specs.Words.{Text, words_of}
 
 -- what is answered to a line

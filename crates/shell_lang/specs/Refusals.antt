@@ -1,12 +1,7 @@
--- Steps in a row, each of which may refuse the line: the first refusal decides. These are the steps of a `do` block.
-use Rattle.std.specs.Prelude.{ℕ, Result, Ok, Err}
+-- The refusals of a line.
+use Rattle.std.specs.Prelude.{ℕ}
 use Rattle.shell_lang.specs.declared.bad_command.BadCommand.{BadCommand}
 use Rattle.shell_lang.specs.declared.bad_command.BadCommand.TheVariants.{UnknownWord, OperandCount, Malformed, OutOfRange, OddHexadecimal, TooLong}
-
-infixl 10 ◌>>=◌
-abbrev pub ◌>>=◌ : {A B : Type 0} → Result A BadCommand → (A → Result B BadCommand) → Result B BadCommand
-(Ok x) >>= f = f x
-(Err refusal) >>= f = Err refusal
 
 -- the number by which a refusal is told
 abbrev pub number_of : BadCommand → ℕ

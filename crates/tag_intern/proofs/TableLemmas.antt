@@ -46,6 +46,10 @@ module _ {T : Type 0} where
   pub same_words : (a b : List T) → Extends a b → (i : ℕ) → i < length a → slice_get b i ≡ slice_get a i
   same_words a b p i h = ap (λ l. slice_get l i) p.1 ∙ slice_get-append a p.0 i h
 
+  -- a tag keeps its word
+  pub grown_word : (a b : List T) → Extends a b → (word : ℕ) (tag : T) → slice_get a word ≡ Some tag → slice_get b word ≡ Some tag
+  grown_word a b grows word tag has = same_words a b grows word (slice_get_within a word tag has) ∙ has
+
   pub front : (a b : List T) → Extends a b → take (length a) b ≡ a
   front a b p = ap (take (length a)) p.1 ∙ take-append_seam a p.0
 

@@ -7,7 +7,7 @@ use Rattle.rv_decode.specs.declared.groups.Group.TheVariants as group
 use Rattle.rv_step.specs.declared.faults.Fault.{Fault}
 use Rattle.rv_step.specs.declared.faults.Fault.TheVariants.{Fetch, Illegal, LoadAlign, StoreAlign, LoadRange, StoreRange, JumpAlign, NoService, Spent}
 use Rattle.policy_trait.specs.declared.rules.Part.{Part}
-use Rattle.policy_trait.specs.declared.rules.Part.TheVariants.{Seal, Comp, Flow, Heap}
+use Rattle.policy_trait.specs.declared.rules.Part.TheVariants.{Seal, Comp, Flow, Heap, Own}
 use Rattle.policy_trait.specs.declared.rules.Why.{Why}
 use Rattle.policy_trait.specs.declared.rules.Why.TheVariants as why
 use Rattle.turn_steps.specs.declared.stop.Stop.{Stop}
@@ -41,12 +41,13 @@ group_text group.Get = codes "get"
 group_text group.Break = codes "break"
 group_text group.Call = codes "call"
 
--- the name of a policy
+-- the name of a policy; an author's own goes by one
 abbrev pub part_text : Part → List ℕ
 part_text Seal = codes "seal"
 part_text Comp = codes "comp"
 part_text Flow = codes "flow"
 part_text Heap = codes "heap"
+part_text Own = codes "own"
 
 -- why a policy refused
 abbrev pub why_text : Why → List ℕ

@@ -28,7 +28,7 @@ const FAULTS: [(Fault, &[u8]); 9] = [
 ];
 
 // A policy, why it refused, and the line of hart 3 stopped at 0000001C.
-const REFUSALS: [(Part, Why, &[u8]); 8] = [
+const REFUSALS: [(Part, Why, &[u8]); 10] = [
     (
         Part::Seal,
         Why::WrongKey,
@@ -68,6 +68,16 @@ const REFUSALS: [(Part, Why, &[u8]); 8] = [
         Part::Heap,
         Why::NotLive,
         b"stop 3 violation heap notlive pc 0000001C\n",
+    ),
+    (
+        Part::Own,
+        Why::Lend,
+        b"stop 3 violation own lend pc 0000001C\n",
+    ),
+    (
+        Part::Own,
+        Why::Rule(Group::Jalr),
+        b"stop 3 violation own rule(jalr) pc 0000001C\n",
     ),
 ];
 

@@ -102,13 +102,14 @@ pub fn write_number(line: &mut Line, text: &[u8], number: u64)
 fn write_part(line: &mut Line, part: Part)
     requires { array_vec_len line.old + 4 ≤ 512 }
     ensures text { line.new.items ≡ line.old.items ++ part_text part }
-    ensures len { array_vec_len line.new ≡ array_vec_len line.old + 4 }
+    ensures short { array_vec_len line.new ≤ array_vec_len line.old + 4 }
 {
     match part {
         Part::Seal => write_text(line, b"seal"),
         Part::Comp => write_text(line, b"comp"),
         Part::Flow => write_text(line, b"flow"),
         Part::Heap => write_text(line, b"heap"),
+        Part::Own => write_text(line, b"own"),
     }
 }
 

@@ -1,5 +1,6 @@
 -- Each input that a row does not ignore changes an answer: where all is clean, taint in its place.
-use Rattle.std.proofs.Common.{◌≡◌, Bool, true, false, Result, Ok, Err, ap}
+use Rattle.std.proofs.Common.{◌≡◌, Bool, true, false, Result, Ok, Err, ap, true≢false}
+use Rattle.shared_terms.proofs.CaseLemmas.{not_refused}
 use Rattle.rv_decode.specs.declared.groups.Group.{Group}
 use Rattle.policy_trait.specs.UseLaws.{ignored_input}
 use Rattle.policy_trait.specs.Uses.{Input, Pc, Instruction, First, Second, Word, UsesExactly, is_ignored, with_input}
@@ -21,20 +22,12 @@ all_clean = record { pc = Clean; ci = Clean; t1 = Clean; t2 = Clean; tm = Clean 
 abbrev gives : TaintTag → Result (Outs TaintTag) Refused
 gives tag = Ok (record { pc = Clean; result = tag })
 
--- no rule answers two of these
-
-not_refused : {P : Type 0} (refused : Refused) (tag : TaintTag) → Err refused ≡ gives tag → P
-not_refused refused tag e = cc
-
 not_tainted : {P : Type 0} → gives Tainted ≡ gives Clean → P
 not_tainted e = let same : Tainted ≡ Clean = ap result_in e in cc
   where
     result_in : Result (Outs TaintTag) Refused → TaintTag
     result_in (Ok outs) = outs.result
     result_in (Err refused) = Clean
-
-unignored : {P : Type 0} → true ≡ false → P
-unignored e = cc
 
 abbrev row : Bool → Source → Row
 row is_guarded result = record { is_guarded = is_guarded; result = result }
@@ -44,18 +37,18 @@ Differs row i = (g : Group) → is_ignored (row_ignores row) i ≡ false
     → ¬ (rule_by row g (with_input i Tainted all_clean) ≡ rule_by row g all_clean)
 
 instruction_used : (is_guarded : Bool) (from : Source) → Differs (row is_guarded from) Instruction
-instruction_used true from g is e = not_refused _ _ e
-instruction_used false from g is e = not_refused _ _ e
+instruction_used true from g is e = not_refused e
+instruction_used false from g is e = not_refused e
 
 first_used : (is_guarded : Bool) (from : Source) → Differs (row is_guarded from) First
-first_used true from g is e = not_refused _ _ e
+first_used true from g is e = not_refused e
 first_used false source.First g is e = not_tainted e
 first_used false source.FirstOrSecond g is e = not_tainted e
 first_used false source.FirstOrWord g is e = not_tainted e
-first_used false source.Nowhere g is e = unignored is
-first_used false source.Input g is e = unignored is
-first_used false source.Second g is e = unignored is
-first_used false source.SecondOrWord g is e = unignored is
+first_used false source.Nowhere g is e = absurd (true≢false is)
+first_used false source.Input g is e = absurd (true≢false is)
+first_used false source.Second g is e = absurd (true≢false is)
+first_used false source.SecondOrWord g is e = absurd (true≢false is)
 
 second_used : (is_guarded : Bool) (from : Source) → Differs (row is_guarded from) Second
 second_used true source.Second g is e = not_tainted e
@@ -64,24 +57,24 @@ second_used true source.SecondOrWord g is e = not_tainted e
 second_used false source.Second g is e = not_tainted e
 second_used false source.FirstOrSecond g is e = not_tainted e
 second_used false source.SecondOrWord g is e = not_tainted e
-second_used is_guarded source.Nowhere g is e = unignored is
-second_used is_guarded source.Input g is e = unignored is
-second_used is_guarded source.First g is e = unignored is
-second_used is_guarded source.FirstOrWord g is e = unignored is
+second_used is_guarded source.Nowhere g is e = absurd (true≢false is)
+second_used is_guarded source.Input g is e = absurd (true≢false is)
+second_used is_guarded source.First g is e = absurd (true≢false is)
+second_used is_guarded source.FirstOrWord g is e = absurd (true≢false is)
 
 word_used : (is_guarded : Bool) (from : Source) → Differs (row is_guarded from) Word
 word_used true source.FirstOrWord g is e = not_tainted e
 word_used true source.SecondOrWord g is e = not_tainted e
 word_used false source.FirstOrWord g is e = not_tainted e
 word_used false source.SecondOrWord g is e = not_tainted e
-word_used is_guarded source.Nowhere g is e = unignored is
-word_used is_guarded source.Input g is e = unignored is
-word_used is_guarded source.First g is e = unignored is
-word_used is_guarded source.Second g is e = unignored is
-word_used is_guarded source.FirstOrSecond g is e = unignored is
+word_used is_guarded source.Nowhere g is e = absurd (true≢false is)
+word_used is_guarded source.Input g is e = absurd (true≢false is)
+word_used is_guarded source.First g is e = absurd (true≢false is)
+word_used is_guarded source.Second g is e = absurd (true≢false is)
+word_used is_guarded source.FirstOrSecond g is e = absurd (true≢false is)
 
 differs : (row : Row) (i : Input) → Differs row i
-differs row Pc = λ g is. unignored is
+differs row Pc = λ g is. absurd (true≢false is)
 differs row Instruction = instruction_used row.is_guarded row.result
 differs row First = first_used row.is_guarded row.result
 differs row Second = second_used row.is_guarded row.result

@@ -110,9 +110,9 @@ row_ignores row = record {
   tm = not (has_word row.result);
 }
 
--- a refusal goes by the name of control flow: there is a name for each policy of the program alone
+-- a refusal goes by the name that authors' own policies have
 abbrev pub refusal_for : Why → Refused
-refusal_for reason = record { part = part.Flow; why = reason }
+refusal_for reason = record { part = part.Own; why = reason }
 
 -- the rule of a group with this row; the pc stays clean, so what a branch decides by tainted operands taints nothing
 abbrev pub rule_by : Row → Group → Ins TaintTag → Result (Outs TaintTag) Refused

@@ -1,5 +1,6 @@
 -- Taint keeps the laws of a policy.
-use Rattle.std.proofs.Common.{◌≡◌, false, IsTrue, refl}
+use Rattle.std.proofs.Common.{◌≡◌, false, refl}
+use Rattle.std.proofs.lemmas.Bool.{false≢true}
 use Rattle.rv_decode.specs.declared.groups.Group.{Group}
 use Rattle.rv_decode.specs.declared.groups.Group.TheVariants as group
 use Rattle.policy_trait.specs.PolicyLaws.{KeepsLaws}
@@ -35,10 +36,6 @@ rule_masked = elim [
   | group.Call ↦ λ x. refl
 ]
 
--- no service is known
-unknown : {P : Type 0} → IsTrue false → P
-unknown known = cc
-
 pub taint_laws : KeepsLaws taint HoldsAlways
 taint_laws = record {
   masks = λ policy g x. rule_masked g x;
@@ -56,8 +53,8 @@ taint_laws = record {
     text = λ t. refl;
   };
   stays = λ policy p given held. held;
-  ranges = λ policy k a pc p can held given. unknown can.known;
-  few = λ policy k known. unknown known;
-  service = λ policy k a pc p known given. unknown known;
-  value = λ policy k a pc p known given. unknown known;
+  ranges = λ policy k a pc p can held given. absurd (false≢true can.known);
+  few = λ policy k known. absurd (false≢true known);
+  service = λ policy k a pc p known given. absurd (false≢true known);
+  value = λ policy k a pc p known given. absurd (false≢true known);
 }

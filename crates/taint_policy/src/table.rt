@@ -96,13 +96,12 @@ fn merged_tag(one: TaintTag, other: TaintTag) -> TaintTag
     }
 }
 
-/// A refusal by this policy. `Part` has a name for each policy of the program alone, and this one is not among them: it takes
-/// that of the policy whose jumps it stops too.
+/// A refusal by this policy.
 pub(crate) fn refusal(why: Why) -> Refused
     ensures { result ≡ refusal_for why }
 {
     Refused {
-        part: Part::Flow,
+        part: Part::Own,
         why,
     }
 }

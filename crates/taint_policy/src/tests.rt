@@ -46,7 +46,7 @@ fn inputs(ci: TaintTag, t1: TaintTag, t2: TaintTag, tm: TaintTag) -> Ins<TaintTa
 
 fn refusal(why: Why) -> Refused {
     Refused {
-        part: Part::Flow,
+        part: Part::Own,
         why,
     }
 }

@@ -1,7 +1,7 @@
 -- A change of each tag goes through the steps of a turn.
 use Rattle.std.proofs.Common.{◌≡◌, ℕ, List, Option, Some, None, Result, Ok, Err, refl, ap, ◌∙◌}
 use Rattle.policy_trait.specs.Maps.{ins_by, ok_by, outs_by}
-use Rattle.policy_trait.specs.Steps.{◌>>=◌}
+use Rattle.shared_terms.specs.Steps.{◌>>=◌}
 use Rattle.policy_trait.specs.declared.rules.Ins.{Ins}
 use Rattle.policy_trait.specs.declared.rules.Outs.{Outs}
 use Rattle.rv_decode.specs.Groups.{a0, a7, group_of, places_of, reads_of}

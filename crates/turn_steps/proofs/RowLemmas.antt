@@ -3,6 +3,7 @@ use Rattle.std.proofs.Common.{◌≡◌, ◌≢◌, ℕ, zero, suc, ◌+◌, ◌
 use Rattle.std.specs.Prelude.{slice_get}
 use Rattle.std.specs.List.{All}
 use Rattle.std.proofs.lemmas.List.Elements.{All-head, All-tail}
+use Rattle.std.proofs.lemmas.Option.{same_Some}
 use Rattle.tag_memory.specs.Ram.{IsPlace, IsRam, RamState, ram_bytes, ram_tag, ram_word, with_ram_tag, with_ram_word}
 use Rattle.tag_memory.specs.Rows.{LiesOutsideRow, StandFrom}
 use Rattle.tag_memory.proofs.RamLemmas.{word_bytes, word_keeps, word_tag_keeps, writes_word, writes_word_tag}
@@ -64,9 +65,6 @@ module _ {T : Type 0} where
   first_place : (base : ℕ) (word : ℕ × ℕ × T) (words : List (ℕ × ℕ × T)) → StandFrom base (word ∷ words) → word.0 ≡ base
   first_place base word words row = row 0 word refl ∙ (let e : base + 4 * 0 ≡ base = omega arith in e)
 
-  some_is : (word item : ℕ × ℕ × T) → Some word ≡ Some item → word ≡ item
-  some_is word item e = cc
-
   rest_stands : (base : ℕ) (word : ℕ × ℕ × T) (words : List (ℕ × ℕ × T)) → StandFrom base (word ∷ words) → StandFrom (base + 4) words
   rest_stands base word words row k item is = row (suc k) item is ∙ next_place base k
 
@@ -96,7 +94,7 @@ module _ {T : Type 0} where
       ∙ other_words (put ram word) (base + 4) words (omega arith) (rest_stands base word words row) (rest_places ram word words places) base (before_rest base (length words))
       ∙ ap (ram_word (put ram word)) (sym (first_place base word words row))
       ∙ word_here ram word (All-head (λ (word : ℕ × ℕ × T). IsPlace (ram_bytes ram) word.0) word words places)
-      ∙ ap (λ (item : ℕ × ℕ × T). item.1) (some_is word item is)
+      ∙ ap (λ (item : ℕ × ℕ × T). item.1) (same_Some word item is)
   row_words ram base (word ∷ words) aligned row places (suc k) item is =
       ap (ram_word (with_words (put ram word) words)) (next_place base k)
       ∙ row_words (put ram word) (base + 4) words (omega arith) (rest_stands base word words row) (rest_places ram word words places) k item is
@@ -109,7 +107,7 @@ module _ {T : Type 0} where
       ∙ other_tags (put ram word) (base + 4) words (put_is ram word ram_is) (omega arith) (rest_stands base word words row) (rest_places ram word words places) base (before_rest base (length words))
       ∙ ap (ram_tag (put ram word)) (sym (first_place base word words row))
       ∙ tag_here ram word ram_is (All-head (λ (word : ℕ × ℕ × T). IsPlace (ram_bytes ram) word.0) word words places)
-      ∙ ap (λ (item : ℕ × ℕ × T). item.2) (some_is word item is)
+      ∙ ap (λ (item : ℕ × ℕ × T). item.2) (same_Some word item is)
   row_tags ram base (word ∷ words) ram_is aligned row places (suc k) item is =
       ap (ram_tag (with_words (put ram word) words)) (next_place base k)
       ∙ row_tags (put ram word) (base + 4) words (put_is ram word ram_is) (omega arith) (rest_stands base word words row) (rest_places ram word words places) k item is

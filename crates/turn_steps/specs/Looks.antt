@@ -1,6 +1,6 @@
 -- What a hart is about to do: the checks of a turn that no policy decides, in their order, and what a rule is asked with.
 use Rattle.std.specs.Prelude.{ℕ, ◌/◌, Bool, true, false, Option, Some, None, Result, Ok, Err, slice_get}
-use Rattle.policy_trait.specs.Steps.{◌>>=◌}
+use Rattle.shared_terms.specs.Steps.{◌>>=◌}
 use Rattle.rv_decode.specs.Decoding.{instr_of_word}
 use Rattle.rv_decode.specs.Groups.{a7, group_of, places_of, reads_of}
 use Rattle.rv_decode.specs.declared.groups.Group.{Group}

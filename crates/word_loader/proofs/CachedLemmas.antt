@@ -4,17 +4,16 @@ use Rattle.std.specs.List.{All, range_with_len}
 use Rattle.std.proofs.lemmas.List.{length-map, length-replicate}
 use Rattle.std.proofs.lemmas.List.FromFn.{length-map-range_with_len}
 use Rattle.std.proofs.lemmas.Option.{get_or_from_slice_get, slice_get_within}
-use Rattle.std.proofs.lemmas.Simd.{map-map}
 use Rattle.image_format.specs.Conditions.{IsPlace}
 use Rattle.image_format.specs.Picture.{Picture}
 use Rattle.policy_trait.specs.Model.{PolicyModel}
 use Rattle.tag_memory.specs.Hart.{HartState}
-use Rattle.tag_memory.specs.Maps.{ram_by}
 use Rattle.tag_memory.specs.Ram.{IsRam, RamState}
 use Rattle.turn_steps.specs.declared.stop.Stop.{Stop}
 use Rattle.engine_trait.specs.Accounts.{plain_account, with_tags}
 use Rattle.engine_trait.specs.Machine.{CoreState, IsMachine, fresh_core}
 use Rattle.engine_trait.specs.Maps.{core_by}
+use Rattle.engine_trait.proofs.MapLemmas.{core_on}
 use Rattle.rule_cache.specs.Stores.{empty_store}
 use Rattle.tag_intern.specs.Table.{TableState}
 use Rattle.tag_intern.specs.Words.{tag_at}
@@ -24,16 +23,8 @@ use Rattle.pump_engine.specs.Steps.{pump_start}
 use Rattle.word_loader.specs.Named.{AreHartsOf, AreWordsOf, Named}
 use Rattle.tag_loader.specs.Start.{memory_of, start_hart, start_harts, start_machine, start_ram, start_tag, start_tags}
 use Rattle.word_loader.specs.CachedStart.{cached_standing, first_tags}
-use Rattle.word_loader.proofs.NamedLemmas.{harts_on, tag_of, word_of}
+use Rattle.word_loader.proofs.NamedLemmas.{tag_of, word_of}
 use Rattle.tag_loader.proofs.StartLemmas.{harts_are_plain}
-
--- two changes of each tag in a row are one
-module _ {A B C : Type 0} (f : A → B) (g : B → C) where
-  ram_on : (ram : RamState A) → ram_by g (ram_by f ram) ≡ ram_by (λ x. g (f x)) ram
-  ram_on ram = ap (λ tags. record (ram_by (λ x. g (f x)) ram) { tags = tags }) (map-map g f ram.tags)
-
-  core_on : (core : CoreState A) → core_by g (core_by f core) ≡ core_by (λ x. g (f x)) core
-  core_on core = λ j. record { harts = harts_on f g core.harts j; stops = core.stops; ram = ram_on core.ram j }
 
 -- what an image says of its sizes and its entries
 pub record HasSizes (g : Picture) : Type 0 where

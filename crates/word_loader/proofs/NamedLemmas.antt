@@ -6,23 +6,15 @@ use Rattle.std.specs.List.{range_with_len}
 use Rattle.std.proofs.lemmas.Bool.{cases_lt}
 use Rattle.std.proofs.lemmas.Grind.{div_ceil_times}
 use Rattle.std.proofs.lemmas.List.{map-append}
-use Rattle.std.proofs.lemmas.Option.{slice_get_within}
 use Rattle.std.proofs.lemmas.Simd.{map-map}
 use Rattle.tag_memory.specs.Hart.{HartState, fresh_hart}
 use Rattle.tag_memory.specs.Maps.{hart_by}
 use Rattle.engine_trait.specs.Accounts.{with_tag, with_tags}
 use Rattle.tag_intern.specs.Table.{Extends}
 use Rattle.tag_intern.proofs.ComingLemmas.{read_more, tags_over, with_tags-append, with_twice}
-use Rattle.tag_intern.proofs.TableLemmas.{same_words}
+use Rattle.engine_trait.proofs.MapLemmas.{harts_on}
+use Rattle.tag_intern.proofs.TableLemmas.{grown_word}
 use Rattle.word_loader.specs.Named.{AreHartsOf, AreWordsOf, Named}
-
--- two changes of each tag in a row are one
-module _ {A B C : Type 0} (f : A → B) (g : B → C) where
-  hart_on : (hart : HartState A) → hart_by g (hart_by f hart) ≡ hart_by (λ x. g (f x)) hart
-  hart_on hart = ap (λ tags. record (hart_by (λ x. g (f x)) hart) { tags = tags }) (map-map g f hart.tags)
-
-  pub harts_on : (harts : List (HartState A)) → map (hart_by g) (map (hart_by f) harts) ≡ map (hart_by (λ x. g (f x))) harts
-  harts_on harts = map-map (hart_by g) (hart_by f) harts ∙ (λ j. map (λ hart. hart_on hart j) harts)
 
 -- ---- a table that grows
 
@@ -32,9 +24,6 @@ module _ {T : Type 0} where
 
   abbrev pub tag_of : {tags : List T} → Named tags → T
   tag_of n = n.tag
-
-  pub grown_word : (a b : List T) → Extends a b → (word : ℕ) (tag : T) → slice_get a word ≡ Some tag → slice_get b word ≡ Some tag
-  grown_word a b grows word tag has = same_words a b grows word (slice_get_within a word tag has) ∙ has
 
   module _ (a b : List T) (grows : Extends a b) where
     -- a tag keeps its word

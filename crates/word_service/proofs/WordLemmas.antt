@@ -15,7 +15,7 @@ use Rattle.tag_intern.specs.Words.{tag_at}
 use Rattle.tag_intern.specs.declared.table.InternEnd.{InternEnd}
 use Rattle.tag_intern.specs.declared.table.InternEnd.TheVariants as intern_end
 use Rattle.tag_intern.proofs.ComingLemmas.{all_read, read_more, tag_came, tag_over, with_tags-append}
-use Rattle.tag_intern.proofs.TableLemmas.{extends_with_tags, longer, same_words, with_word}
+use Rattle.tag_intern.proofs.TableLemmas.{extends_with_tags, grown_word, longer, with_word}
 use Rattle.word_service.specs.Written.{AnswerStandsFor, IsAnswerBelow, IsWordBelow, StandFor, tags_of}
 
 -- ---- an error that is passed on
@@ -121,9 +121,6 @@ module _ {T : Type 0} where
     rest : StandFor tags written words
     rest = same_tail (w.0, w.1, slice_get tags w.2) (x.0, x.1, Some x.2) (words_by (slice_get tags) written) (words_by Some words) stand
 
-  grown_tag : (a b : List T) → Extends a b → (i : ℕ) (tag : T) → slice_get a i ≡ Some tag → slice_get b i ≡ Some tag
-  grown_tag a b grows i tag e = same_words a b grows i (slice_get_within a i tag e) ∙ e
-
   -- words keep what they stand for
   pub stand_on : (a b : List T) → Extends a b → (written : List (ℕ × ℕ × ℕ)) (words : List (ℕ × ℕ × T)) → StandFor a written words → StandFor b written words
   stand_on a b grows [] [] stand = refl
@@ -132,7 +129,7 @@ module _ {T : Type 0} where
   stand_on a b grows (w ∷ written) (x ∷ words) stand =
       let is = first a w x written words stand in
       let more = stand_on a b grows written words (rest a w x written words stand) in
-      λ j. (is.address j, is.value j, grown_tag a b grows w.2 x.2 is.tag j) ∷ more j
+      λ j. (is.address j, is.value j, grown_word a b grows w.2 x.2 is.tag j) ∷ more j
 
   words_by-append : {U : Type 0} (f : T → U) (words more : List (ℕ × ℕ × T)) → words_by f (words ++ more) ≡ words_by f words ++ words_by f more
   words_by-append f [] more = refl

@@ -1,31 +1,18 @@
 -- Numbers of 1 to 1024 in decimal, and how far jumps go. Where there are few numbers all are tried.
-use Rattle.std.proofs.Common.{◌≡◌, ◌≢◌, ◌⊎◌, ℕ, zero, suc, ◌+◌, ◌-◌, ◌%◌, ◌^◌, ◌<◌, ◌≤◌, Bool, true, false, [], ◌∷◌, ◌++◌, inl, inr, ⊎_elim, refl, ap, ◌∙◌, arith}
-use Rattle.std.proofs.Common.{ltb}
+use Rattle.std.proofs.Common.{◌≡◌, ◌⊎◌, ℕ, ◌+◌, ◌%◌, ◌^◌, ◌<◌, ◌≤◌, Bool, true, false, [], ◌∷◌, ◌++◌, inl, inr, refl, ap, arith}
 use Rattle.std.specs.Prelude.{◌==◌, ◌&&◌, codes, nat_le, ℤ, pos, negsuc, neg_ℤ, is_none, Option, Some, None, Ok}
 use Rattle.std.specs.Fmt.{decimal, digits}
 use Rattle.std.specs.List.{list_all}
-use Rattle.std.proofs.lemmas.Bool.{cases_eq, eqb-true}
+use Rattle.std.proofs.lemmas.Bool.{agree_below, agree_below_at, and_parts, eqb-true}
 use Rattle.std.proofs.lemmas.Bool.Decides.{nat_tests}
-use Rattle.pump_words.specs.Words.{signed}
 use Rattle.asm_text.specs.Bytes.{is_allowed}
 use Rattle.asm_text.specs.Cuts.{after, before, without_blanks}
 use Rattle.asm_text.specs.Numbers.{number_of, numeral, unsigned_of}
 use Rattle.asm_read.specs.Operands.{Text}
-use Rattle.asm_words.specs.Ranges.{distance, even_within, is_short, is_within, jump_offset, word_modulo}
-use Rattle.workload_laws.proofs.LineLemmas.{and_left, and_right}
+use Rattle.asm_words.specs.Ranges.{distance, is_short, is_within, jump_offset, word_modulo}
+use Rattle.asm_words.proofs.OffsetLemmas.{jump_within}
+use Rattle.asm_words.proofs.RangeLemmas.{signed_by}
 use Rattle.workload_laws.proofs.StatementLemmas.{is_line}
-
--- ---- tests of all numbers below another
-
-abbrev holds_below : (ℕ → Bool) → ℕ → Bool
-holds_below p zero = true
-holds_below p (suc k) = p k && holds_below p k
-
-below : (p : ℕ → Bool) (n k : ℕ) → holds_below p n ≡ true → k < n → p k ≡ true
-below p zero k all lt = absurd (omega arith)
-below p (suc n) k all lt =
-    ⊎_elim (λ (e : k ≡ n). ap p e ∙ and_left (p n) (holds_below p n) all)
-    (λ (apart : k ≢ n). below p n k (and_right (p n) (holds_below p n) all) (omega arith)) (cases_eq k n)
 
 -- ---- tests that two values are the same
 
@@ -40,8 +27,8 @@ same_is [] [] e = refl
 same_is [] (y ∷ ys) e = absurd cc
 same_is (x ∷ xs) [] e = absurd cc
 same_is (x ∷ xs) (y ∷ ys) e =
-    let first : x ≡ y = eqb-true x y (and_left (x == y) (same_text xs ys) e) in
-    let more : xs ≡ ys = same_is xs ys (and_right (x == y) (same_text xs ys) e) in
+    let first : x ≡ y = eqb-true x y (and_parts (x == y) (same_text xs ys) e).0 in
+    let more : xs ≡ ys = same_is xs ys (and_parts (x == y) (same_text xs ys) e).1 in
     cc
 
 abbrev number_is : Option ℤ → ℕ → Bool
@@ -88,51 +75,43 @@ is_operand n = same_text (before 44 (decimal n)) (decimal n) && is_none (after 4
 abbrev is_number : ℕ → Bool
 is_number n = same_text (without_blanks (32 ∷ decimal n)) (decimal n) && number_is (number_of (decimal n)) n
 
-all_cut : holds_below is_cut 1025 ≡ true
+all_cut : agree_below is_cut (λ n. true) 1025 ≡ true
 unfolding digits
 all_cut = refl
 
-all_whole : holds_below is_whole 1025 ≡ true
+all_whole : agree_below is_whole (λ n. true) 1025 ≡ true
 unfolding digits
 all_whole = refl
 
-all_operands : holds_below is_operand 1025 ≡ true
+all_operands : agree_below is_operand (λ n. true) 1025 ≡ true
 unfolding digits
 all_operands = refl
 
-all_numbers : holds_below is_number 1025 ≡ true
+all_numbers : agree_below is_number (λ n. true) 1025 ≡ true
 unfolding digits number_of unsigned_of numeral
 all_numbers = refl
 
 pub decimal_read : (n : ℕ) → n ≤ 1024 → Decimal n
 decimal_read n small =
-    let cut : is_cut n ≡ true = below is_cut 1025 n all_cut (omega arith) in
+    let cut : is_cut n ≡ true = agree_below_at is_cut (λ n. true) 1025 n all_cut (omega arith) in
     let rest : (list_all is_allowed (number_line n) && same_text (before 35 (decimal n)) (decimal n)) ≡ true =
-    and_right (is_line (number_line n)) (list_all is_allowed (number_line n) && same_text (before 35 (decimal n)) (decimal n)) cut in
-    let whole : is_whole n ≡ true = below is_whole 1025 n all_whole (omega arith) in
-    let operand : is_operand n ≡ true = below is_operand 1025 n all_operands (omega arith) in
-    let number : is_number n ≡ true = below is_number 1025 n all_numbers (omega arith) in
+    (and_parts (is_line (number_line n)) (list_all is_allowed (number_line n) && same_text (before 35 (decimal n)) (decimal n)) cut).1 in
+    let whole : is_whole n ≡ true = agree_below_at is_whole (λ n. true) 1025 n all_whole (omega arith) in
+    let operand : is_operand n ≡ true = agree_below_at is_operand (λ n. true) 1025 n all_operands (omega arith) in
+    let number : is_number n ≡ true = agree_below_at is_number (λ n. true) 1025 n all_numbers (omega arith) in
     record {
-      line = and_left (is_line (number_line n)) (list_all is_allowed (number_line n) && same_text (before 35 (decimal n)) (decimal n)) cut;
-      allowed = and_left (list_all is_allowed (number_line n)) (same_text (before 35 (decimal n)) (decimal n)) rest;
-      before_hash = same_is (before 35 (decimal n)) (decimal n) (and_right (list_all is_allowed (number_line n)) (same_text (before 35 (decimal n)) (decimal n)) rest);
-      after_colon = is_nothing (after 58 (decimal n)) (and_left (is_none (after 58 (decimal n))) (same_text (without_blanks (number_line n)) (number_line n)) whole);
-      trimmed_line = same_is (without_blanks (number_line n)) (number_line n) (and_right (is_none (after 58 (decimal n))) (same_text (without_blanks (number_line n)) (number_line n)) whole);
-      before_comma = same_is (before 44 (decimal n)) (decimal n) (and_left (same_text (before 44 (decimal n)) (decimal n)) (is_none (after 44 (decimal n))) operand);
-      after_comma = is_nothing (after 44 (decimal n)) (and_right (same_text (before 44 (decimal n)) (decimal n)) (is_none (after 44 (decimal n))) operand);
-      trimmed_number = same_is (without_blanks (32 ∷ decimal n)) (decimal n) (and_left (same_text (without_blanks (32 ∷ decimal n)) (decimal n)) (number_is (number_of (decimal n)) n) number);
-      value = some_number (number_of (decimal n)) n (and_right (same_text (without_blanks (32 ∷ decimal n)) (decimal n)) (number_is (number_of (decimal n)) n) number);
+      line = (and_parts (is_line (number_line n)) (list_all is_allowed (number_line n) && same_text (before 35 (decimal n)) (decimal n)) cut).0;
+      allowed = (and_parts (list_all is_allowed (number_line n)) (same_text (before 35 (decimal n)) (decimal n)) rest).0;
+      before_hash = same_is (before 35 (decimal n)) (decimal n) (and_parts (list_all is_allowed (number_line n)) (same_text (before 35 (decimal n)) (decimal n)) rest).1;
+      after_colon = is_nothing (after 58 (decimal n)) (and_parts (is_none (after 58 (decimal n))) (same_text (without_blanks (number_line n)) (number_line n)) whole).0;
+      trimmed_line = same_is (without_blanks (number_line n)) (number_line n) (and_parts (is_none (after 58 (decimal n))) (same_text (without_blanks (number_line n)) (number_line n)) whole).1;
+      before_comma = same_is (before 44 (decimal n)) (decimal n) (and_parts (same_text (before 44 (decimal n)) (decimal n)) (is_none (after 44 (decimal n))) operand).0;
+      after_comma = is_nothing (after 44 (decimal n)) (and_parts (same_text (before 44 (decimal n)) (decimal n)) (is_none (after 44 (decimal n))) operand).1;
+      trimmed_number = same_is (without_blanks (32 ∷ decimal n)) (decimal n) (and_parts (same_text (without_blanks (32 ∷ decimal n)) (decimal n)) (number_is (number_of (decimal n)) n) number).0;
+      value = some_number (number_of (decimal n)) n (and_parts (same_text (without_blanks (32 ∷ decimal n)) (decimal n)) (number_is (number_of (decimal n)) n) number).1;
     }
 
 -- ---- words
-
--- what holds of a word's signed number, by cases on its sign
-signed_by : (P : ℤ → Type 0) (w : ℕ) → (w < 2 ^ 31 → P (pos w)) → (2 ^ 31 ≤ w → P (negsuc (2 ^ 32 - suc w))) → P (signed w)
-signed_by P w low high = go (ltb w (2 ^ 31)) refl
-  where
-    go : (t : Bool) → ltb w (2 ^ 31) ≡ t → P (signed w)
-    go true e = rw e (low (grind (arith, nat_tests, e)))
-    go false e = rw e (high (grind (arith, nat_tests, e)))
 
 -- a small number is written by one instruction
 pub wrapped_small : (n : ℕ) → n ≤ 1024 → word_modulo (pos n) ≡ n
@@ -144,15 +123,6 @@ short_small n small =
     (λ low. grind (arith, nat_tests)) (λ high. absurd (omega arith))
 
 -- ---- jumps
-
-jump_test : (w : ℕ) → (w ≤ 1048574) ⊎ (2 ^ 32 ≤ w + 1048576) → w < 2 ^ 32 → w % 2 ≡ 0 → (is_within (neg_ℤ (pos 1048576)) (pos 1048574) (signed w) && (w % 2 == 0)) ≡ true
-jump_test w near fits even =
-    signed_by (λ z. (is_within (neg_ℤ (pos 1048576)) (pos 1048574) z && (w % 2 == 0)) ≡ true) w
-    (λ low. grind (arith, nat_tests)) (λ high. grind (arith, nat_tests))
-
-jump_within : (w : ℕ) → (w ≤ 1048574) ⊎ (2 ^ 32 ≤ w + 1048576) → w < 2 ^ 32 → w % 2 ≡ 0 → even_within (neg_ℤ (pos 1048576)) (pos 1048574) w ≡ Ok w
-unfolding even_within
-jump_within w near fits even = rw (jump_test w near fits even) refl
 
 distance_near : (place target : ℕ) → place ≤ 65536 → target ≤ 65536 → (distance place target ≤ 1048574) ⊎ (2 ^ 32 ≤ distance place target + 1048576)
 distance_near place target inside near = go (nat_le place target) refl

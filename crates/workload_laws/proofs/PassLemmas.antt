@@ -3,6 +3,7 @@ use Rattle.std.proofs.Common.{◌≡◌, ℕ, zero, suc, ◌+◌, ◌*◌, ◌%�
 use Rattle.std.specs.Prelude.{nat_le, Ok}
 use Rattle.std.specs.List.{list_all}
 use Rattle.std.proofs.lemmas.Bool.Decides.{nat_tests}
+use Rattle.std.proofs.lemmas.Bool.{and_from}
 use Rattle.asm_read.specs.declared.statements.Line.{Line}
 use Rattle.asm_read.specs.declared.statements.Statement.{Statement}
 use Rattle.asm_read.specs.Source.{lines_of}
@@ -11,7 +12,6 @@ use Rattle.asm_words.specs.Emission.{Places}
 use Rattle.asm_places.specs.Places.{next_place, places_from}
 use Rattle.asm_emit.specs.declared.values.Addition.{Addition}
 use Rattle.asm_emit.specs.Assembled.{additions_of}
-use Rattle.workload_laws.proofs.LineLemmas.{both}
 use Rattle.workload_laws.proofs.StatementLemmas.{AreGood, Comment, IsGood, IsSaid, Row, Said, added, end, is_line, numbered, past, places, text_in, texts_of, unnamed}
 
 -- ---- the rows
@@ -26,7 +26,7 @@ row_line (Said text statement size addition) good = good.line
 
 pub rows_lines : (rows : List Row) → AreGood rows → list_all is_line (texts_of rows) ≡ true
 rows_lines [] good = refl
-rows_lines (row ∷ rows) good = both (is_line (text_in row)) (list_all is_line (texts_of rows)) (row_line row good.0) (rows_lines rows good.1)
+rows_lines (row ∷ rows) good = and_from (is_line (text_in row)) (list_all is_line (texts_of rows)) (row_line row good.0) (rows_lines rows good.1)
 
 -- ---- reading
 

@@ -20,7 +20,7 @@ use Rattle.asm_read.specs.Values.{target_at}
 use Rattle.rv_decode.specs.declared.instructions.Instr.{Instr}
 use Rattle.rv_decode.specs.declared.instructions.Instr.TheVariants as instrs
 use Rattle.asm_words.specs.declared.emissions.Emission.TheVariants.{One}
-use Rattle.asm_words.specs.Emission.{Places, address_of, count_of, emission_of}
+use Rattle.asm_words.specs.Emission.{address_of, count_of, emission_of}
 use Rattle.asm_words.specs.Emission as words
 use Rattle.asm_words.specs.Encoding.{word_of_instr}
 use Rattle.asm_words.specs.Ranges.{distance, within}

@@ -1,6 +1,6 @@
 // Files in memory that never fail.
 ghost use Rattle.std.specs.Prelude.{◌≡◌, ◌≢◌, ◌↔◌, ℕ, ◌<◌, ◌≤◌, true, List, length, Some, Err, All, IfOk, OnOk, OnErr, IsOkUnless, vec_len};
-ghost use Rattle.host_io.specs.Causes.{count_after};
+ghost use Rattle.shared_terms.specs.Counts.{next_count};
 ghost use Rattle.host_io.specs.Held.{files_of, bytes_held, sure_bytes, AreNamesDistinct};
 
 use super::held_files::{HeldFiles, copied_within};
@@ -64,7 +64,7 @@ impl Files for SureFiles {
             (limit < length (sure_bytes self.old.files name.now)) }
         ensures within { IfOk result (λ bytes. vec_len bytes ≤ limit) }
         ensures sure { result ≢ Err LoadFile.Failed }
-        ensures counted { self.new.calls ≡ count_after self.old.calls }
+        ensures counted { self.new.calls ≡ next_count self.old.calls }
         ensures files { self.new.files ≡ self.old.files }
     {
         self.calls = self.calls.saturating_add(1);
@@ -81,7 +81,7 @@ impl Files for SureFiles {
         ensures err { OnErr result (self.new.files ≡ self.old.files) }
         ensures distinct { AreNamesDistinct self.old.files → AreNamesDistinct self.new.files }
         ensures sure { IsOkUnless result SaveFile.Memory }
-        ensures counted { self.new.calls ≡ count_after self.old.calls }
+        ensures counted { self.new.calls ≡ next_count self.old.calls }
     {
         self.calls = self.calls.saturating_add(1);
         self.files

@@ -1,7 +1,8 @@
 // Files over a file system of std.
 ghost use Rattle.std.specs.Prelude.{◌≡◌, ◌≢◌, ◌<◌, ◌≤◌, false, length, None, Err, IfOk, IfSome, vec_len};
 ghost use Rattle.std.specs.IoError.{error_kind};
-ghost use Rattle.host_io.specs.Causes.{LoadCause, SaveCause, count_after};
+ghost use Rattle.host_io.specs.Causes.{LoadCause, SaveCause};
+ghost use Rattle.shared_terms.specs.Counts.{next_count};
 
 use super::std_sink::write_through;
 use crate::{Files, LoadFile, SaveFile};
@@ -90,7 +91,7 @@ impl<S: FileSystem + Drop> Files for StdFiles<S> {
         ensures cause { LoadCause (λ _. self.old.read_faults) (λ _. self.new.read_faults)
             name.now result }
         ensures writes { self.new.write_faults ≡ self.old.write_faults }
-        ensures counted { self.new.calls ≡ count_after self.old.calls }
+        ensures counted { self.new.calls ≡ next_count self.old.calls }
     {
         self.calls = self.calls.saturating_add(1);
         let loaded = match fs::open(&self.system, name) {
@@ -107,7 +108,7 @@ impl<S: FileSystem + Drop> Files for StdFiles<S> {
         ensures cause { SaveCause (λ _. self.old.write_faults) (λ _. self.new.write_faults)
             name.now result }
         ensures reads { self.new.read_faults ≡ self.old.read_faults }
-        ensures counted { self.new.calls ≡ count_after self.old.calls }
+        ensures counted { self.new.calls ≡ next_count self.old.calls }
     {
         self.calls = self.calls.saturating_add(1);
         let saved = match fs::create(&self.system, name) {

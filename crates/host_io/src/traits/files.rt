@@ -1,7 +1,8 @@
 // Files that are loaded and saved by name.
 ghost use Rattle.std.specs.Prelude.{◌≡◌, ◌≢◌, ℕ, ◌<◌, ◌≤◌, Bool, List, length, Option, Err, IfOk, OnOk, IfSome, vec_len};
 ghost use Rattle.std.specs.Bool.{then_some};
-ghost use Rattle.host_io.specs.Causes.{LoadCause, SaveCause, count_after};
+ghost use Rattle.host_io.specs.Causes.{LoadCause, SaveCause};
+ghost use Rattle.shared_terms.specs.Counts.{next_count};
 
 use std::alloc::Global;
 
@@ -53,7 +54,7 @@ pub trait Files {
             IfSome (held self.old name.now) (λ all. limit < length all) }
         ensures cause { LoadCause (read_faults self.old) (read_faults self.new) name.now result }
         ensures writes { write_faults self.new ≡ write_faults self.old }
-        ensures counted { calls self.new ≡ count_after (calls self.old) }
+        ensures counted { calls self.new ≡ next_count (calls self.old) }
         ensures unchanged { held self.new ≡ held self.old };
 
     /// Makes the file `name` hold exactly these bytes, whether or not there was one of that name.
@@ -65,5 +66,5 @@ pub trait Files {
         ensures memory { result ≡ Err SaveFile.Memory → held self.new ≡ held self.old }
         ensures cause { SaveCause (write_faults self.old) (write_faults self.new) name.now result }
         ensures reads { read_faults self.new ≡ read_faults self.old }
-        ensures counted { calls self.new ≡ count_after (calls self.old) };
+        ensures counted { calls self.new ≡ next_count (calls self.old) };
 }

@@ -1,5 +1,5 @@
 use Rattle.std.proofs.Common.{ℕ, List, refl, ap, subst, ◌∙◌}
-use Rattle.host_io.specs.Causes.{count_after}
+use Rattle.shared_terms.specs.Counts.{next_count}
 use Rattle.pump_line.specs.Task.{assemble, disassemble}
 use Rattle.pump_line.specs.Told.{assemble_value, disassemble_value, load_value}
 use Rattle.pump_cli.specs.Early.{WriteRoseBy}
@@ -17,7 +17,7 @@ returns-in-Ok g c =
     (λ other differs. save.others other differs ∙ ap (λ held. held other) read.held)
     (λ memory. save.memory memory ∙ read.held) save.done
     (subst (λ (before : List ℕ → ℕ). WriteRoseBy before (g.F.Files.write_faults c.save_image.new.files) name c.save_image.result) read.writes save.faults)
-    (save.reads ∙ read.faults) (λ memory. save.calls memory ∙ ap count_after read.calls)
+    (save.reads ∙ read.faults) (λ memory. save.calls memory ∙ ap next_count read.calls)
     (subst (λ (before : ℕ). AtMost 1 before (g.F.Files.calls c.save_image.new.files)) read.calls save.at_most)
     refl refl refl refl refl)
 

@@ -6,7 +6,8 @@ use Rattle.tag_intern.proofs.TableLemmas.{extends_on}
 use Rattle.tag_loader.specs.Start.{start_harts, start_tags}
 use Rattle.word_loader.specs.CachedStart.{pc_tags}
 use Rattle.tag_intern.proofs.ComingLemmas.{passed_on}
-use Rattle.word_loader.proofs.NamedLemmas.{first_plain, first_seen, grown_word, harts_grow, pcs_over, plain_over, tags_out}
+use Rattle.tag_intern.proofs.TableLemmas.{grown_word}
+use Rattle.word_loader.proofs.NamedLemmas.{first_plain, first_seen, harts_grow, pcs_over, plain_over, tags_out}
 use Rattle.word_loader.proofs.start.first_words.Goals as goal
 
 pub returns-in_err-intern-clause-full : goal.returns-in_err-intern-clause-full

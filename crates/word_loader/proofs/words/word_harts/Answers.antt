@@ -8,7 +8,8 @@ use Rattle.word_loader.specs.Named.{AreHartsOf}
 use Rattle.tag_loader.specs.Start.{start_hart}
 use Rattle.word_loader.specs.CachedStart.{start_pc_tag}
 use Rattle.tag_intern.proofs.ComingLemmas.{passed_on, tag_came, tag_over}
-use Rattle.word_loader.proofs.NamedLemmas.{grown_word, hart_came, harts_grow}
+use Rattle.tag_intern.proofs.TableLemmas.{grown_word}
+use Rattle.word_loader.proofs.NamedLemmas.{hart_came, harts_grow}
 use Rattle.word_loader.proofs.StartLemmas.{harts_read, pcs_read}
 use Rattle.word_loader.proofs.words.word_harts.Goals as goal
 

@@ -3,7 +3,7 @@ use Rattle.rv_decode.specs.declared.groups.Group.{Group}
 use Rattle.policy_trait.specs.Model.{IsGiven}
 use Rattle.tag_memory.specs.Ram.{IsPlace, ram_bytes}
 use Rattle.monitor_calls.specs.Ends.{job_by}
-use Rattle.engine_trait.specs.Accounts.{next_count}
+use Rattle.shared_terms.specs.Counts.{next_count}
 use Rattle.engine_trait.specs.Turn.{core_served}
 use Rattle.miss_handler.specs.Asked.{AreOutWords}
 use Rattle.tag_intern.proofs.TableLemmas.{longer}

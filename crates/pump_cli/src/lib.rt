@@ -1,0 +1,20 @@
+//! The program over any files, input and sinks: it runs an image of a tagged RISC-V machine and tells how it ended, obeys the
+//! lines of a monitor shell over it, assembles a source to an image, lists an image's words, or runs a workload and tells its
+//! counts.
+#![tactic(auto)]
+
+mod cut;
+mod ending;
+mod listing;
+mod program;
+mod reading;
+mod refusal;
+mod runs;
+mod saving;
+mod sessions;
+mod status;
+mod texts;
+mod workloads;
+
+pub use program::pump;
+pub use status::Status;

@@ -1,0 +1,3 @@
+pub mod CaseLemmas
+pub mod ListLemmas
+pub mod StepLemmas

@@ -1,0 +1,3 @@
+//! Words that several parts of this project share, and lemmas on them: steps in a row of which the first refusal decides, and
+//! counts that never wrap. There is no code here.
+#![tactic(auto)]
