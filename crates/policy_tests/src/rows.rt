@@ -2,8 +2,7 @@
 
 use engine_trait::{Engine, Feed, Loader, TurnEnd};
 use image_format::read_image;
-use plain_engine::Plain;
-use policy_choice::{All, AllTag, read_choice};
+use policy_choice::{AllTag, read_choice};
 use policy_trait::Policy;
 use std::alloc::{AllocError, Global};
 use std::test::Fail;
@@ -49,48 +48,100 @@ fn file_of(alloc: Global, row: &Row) -> Result<Vec<u8>, AllocError> {
     Ok(bytes)
 }
 
-/// The engine after the row's turns, and how the last of them ended. A copy of a turn in each test would take long to build,
-/// and so would the proof of each test that holds an engine of all policies.
-#[inline(never)]
-fn ran(alloc: Global, row: &Row) -> Result<(Plain<All>, TurnEnd), Fail> {
-    let bytes = file_of(alloc, row)?;
-    let image = read_image(alloc, &bytes).ok().ok_or("no image")?;
-    let choice = read_choice(row.policies).ok_or("no list of policies")?;
-    let loaded = PlainLoad::new(alloc, &image, choice).load().ok();
-    let mut engine = loaded.ok_or("no engine")?;
+/// What is looked at after the turns: register a0 of a hart, the word of a number, and what the policies list at a place.
+#[derive(Clone, Copy)]
+struct Places {
+    hart: u32,
+    word: u8,
+    listed: u32,
+}
+
+/// The first of each.
+const FIRST: Places = Places {
+    hart: 0,
+    word: 0,
+    listed: 0,
+};
+
+/// How the last turn ended, and what stands at the places: none where there is no such hart or word, or nothing is listed.
+#[derive(Drop)]
+struct Seen<T> {
+    last: TurnEnd,
+    a0: Option<(u32, T)>,
+    word_tag: Option<T>,
+    listed: Option<(u32, u32, u32)>,
+}
+
+/// The tag of the word of that number.
+fn word_tag_of<E: Engine>(engine: &E, word: u8) -> Option<<E::P as Policy>::Tag> {
+    let address = 4 * u32::from(word);
+    if address >= engine.ram() {
+        return None;
+    }
+    Some(engine.word_tag(address))
+}
+
+/// The value and the tag of a0 of that hart.
+fn a0_of<E: Engine>(engine: &E, hart: u32) -> Option<(u32, <E::P as Policy>::Tag)> {
+    if hart >= engine.harts() {
+        return None;
+    }
+    Some((engine.reg(hart, 10), engine.reg_tag(hart, 10)))
+}
+
+/// What is seen after the turns of these harts. It speaks of any engine, since the proof of what holds one of all policies takes
+/// long.
+fn seen_after<L: Loader>(
+    alloc: Global,
+    loader: &L,
+    order: &[u32],
+    places: Places,
+) -> Result<Seen<<<L::E as Engine>::P as Policy>::Tag>, Fail> {
+    let mut engine = loader.load().ok().ok_or("no engine")?;
     let mut feed = Feed::new(alloc);
     let mut last = TurnEnd::Idle;
-    for h in row.order {
+    for h in order {
         if *h < engine.harts() {
             last = engine.turn(*h, &mut feed);
         }
     }
-    Ok((engine, last))
+    Ok(Seen {
+        last,
+        a0: a0_of(&engine, places.hart),
+        word_tag: word_tag_of(&engine, places.word),
+        listed: engine.policy().listed(places.listed),
+    })
+}
+
+/// What is seen after the row's turns under its policies. A copy of a turn in each test would take long to build.
+#[inline(never)]
+fn seen_of(alloc: Global, row: &Row, places: Places) -> Result<Seen<AllTag>, Fail> {
+    let bytes = file_of(alloc, row)?;
+    let image = read_image(alloc, &bytes).ok().ok_or("no image")?;
+    let choice = read_choice(row.policies).ok_or("no list of policies")?;
+    seen_after(
+        alloc,
+        &PlainLoad::new(alloc, &image, choice),
+        row.order,
+        places,
+    )
 }
 
 /// How the last of the row's turns ended.
 pub(crate) fn end_of(alloc: Global, row: &Row) -> Result<TurnEnd, Fail> {
-    let (_engine, last) = ran(alloc, row)?;
-    Ok(last)
+    Ok(seen_of(alloc, row, FIRST)?.last)
 }
 
 /// The value and the tag of a0 of that hart after the row's turns.
 pub(crate) fn a0_after(alloc: Global, row: &Row, hart: u32) -> Result<(u32, AllTag), Fail> {
-    let (engine, _last) = ran(alloc, row)?;
-    if hart >= engine.harts() {
-        return Err("no hart")?;
-    }
-    Ok((engine.reg(hart, 10), engine.reg_tag(hart, 10)))
+    let places = Places { hart, ..FIRST };
+    Ok(seen_of(alloc, row, places)?.a0.ok_or("no hart")?)
 }
 
 /// The tag of the word of that number after the row's turns.
-pub(crate) fn word_tag_after(alloc: Global, row: &Row, place: u8) -> Result<AllTag, Fail> {
-    let (engine, _last) = ran(alloc, row)?;
-    let address = 4 * u32::from(place);
-    if address >= engine.ram() {
-        return Err("no word")?;
-    }
-    Ok(engine.word_tag(address))
+pub(crate) fn word_tag_after(alloc: Global, row: &Row, word: u8) -> Result<AllTag, Fail> {
+    let places = Places { word, ..FIRST };
+    Ok(seen_of(alloc, row, places)?.word_tag.ok_or("no word")?)
 }
 
 /// What the policies list at that place after the row's turns: number, base and words of a live block.
@@ -99,6 +150,9 @@ pub(crate) fn listed_after(
     row: &Row,
     place: u32,
 ) -> Result<Option<(u32, u32, u32)>, Fail> {
-    let (engine, _last) = ran(alloc, row)?;
-    Ok(engine.policy().listed(place))
+    let places = Places {
+        listed: place,
+        ..FIRST
+    };
+    Ok(seen_of(alloc, row, places)?.listed)
 }
