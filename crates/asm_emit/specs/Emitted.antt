@@ -58,6 +58,7 @@ pub record WordLists : Type 0 where
   pub labels : List Label
   pub compartments : List CompartmentRange
 
+-- where no word is emitted all four are empty
 abbrev pub no_lists : WordLists
 no_lists = record { segments = []; code = []; labels = []; compartments = [] }
 
@@ -71,10 +72,12 @@ with_next_word lists w = record {
   compartments = with_protected w.marks.protection lists.compartments w.address;
 }
 
+-- the lists, with these words added one after another
 unfoldable pub lists_of : WordLists → List Word → WordLists
 lists_of lists [] = lists
 lists_of lists (word ∷ words) = lists_of (with_next_word lists word) words
 
+-- the four lists of a draft that its words make
 abbrev pub lists_in : Draft → WordLists
 lists_in draft = record { segments = draft.segments; code = draft.code; labels = draft.labels; compartments = draft.compartments }
 
@@ -95,5 +98,6 @@ pub record IsMadeOfWords (additions : List (ℕ × Addition)) (draft : Draft) : 
   pub lists : lists_in draft ≡ lists_of no_lists (words_of_additions first_marks additions)
   pub edges : draft.edges ≡ edges_of additions
 
+-- the law of each draft that lines make out of an empty one, for any number of harts
 abbrev pub AreMadeOfWords : Type 0
 AreMadeOfWords = (harts : ℕ) (additions : List (ℕ × Addition)) → IsMadeOfWords additions (with_additions (empty_draft harts) additions)

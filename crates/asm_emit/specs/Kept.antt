@@ -28,6 +28,7 @@ pub record AreUpTo {A B : Type 0} (part : B → A) (fits : B → Bool) (follows 
 abbrev pub label_end : Label → ℕ
 label_end label = label.address + 4
 
+-- the address behind the last word of the row
 abbrev pub compartment_end : CompartmentRange → ℕ
 compartment_end row = range_end row.range
 
@@ -35,6 +36,7 @@ compartment_end row = range_end row.range
 abbrev pub is_protection : Protection → Bool
 is_protection protection = is_owner protection.owner && is_u32 protection.into && is_u32 protection.write
 
+-- no label, or an id of four bytes
 abbrev pub is_label_id : Option ℕ → Bool
 is_label_id None = true
 is_label_id (Some id) = is_u32 id

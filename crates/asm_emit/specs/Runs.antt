@@ -18,6 +18,7 @@ with_run joined (first ∷ second ∷ runs) next = first ∷ with_run joined (se
 
 -- ---- ranges of words
 
+-- the address behind the last word of the range
 abbrev pub range_end : WordRange → ℕ
 range_end range = range.address + 4 * range.words
 
@@ -46,6 +47,7 @@ is_same_protection a b = a.owner == b.owner && a.into == b.into && a.write == b.
 abbrev pub no_protection : Protection
 no_protection = record { owner = 0; into = 0; write = 0 }
 
+-- the row that gives the words of the range this protection
 abbrev pub protected_range : Protection → WordRange → CompartmentRange
 protected_range protection range = record { range = range; owner = protection.owner; into = protection.into; write = protection.write }
 

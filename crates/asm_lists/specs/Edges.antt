@@ -5,6 +5,7 @@ use Rattle.std.specs.Ordering.{nat_cmp, ordering_then}
 use Rattle.image_format.specs.Conditions.{are_rows, is_edge, is_edge_after, whole}
 use Rattle.image_format.specs.declared.rows.Edge.{Edge}
 
+-- the edge of a pair, and the pair of an edge: the id of the source's label first, then that of the target's
 abbrev pub edge_of : ℕ × ℕ → Edge
 edge_of pair = record { source = pair.0; target = pair.1 }
 

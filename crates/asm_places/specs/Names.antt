@@ -12,6 +12,7 @@ abbrev pub is_some_words : Option ℕ → Bool
 is_some_words None = false
 is_some_words (Some words) = nat_lt 0 words
 
+-- a line with this statement emits at least one word; one without a statement emits none
 abbrev pub is_emitting : Option Statement → Bool
 is_emitting statement = is_some_words (count_in statement)
 

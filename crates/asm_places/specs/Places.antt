@@ -19,6 +19,7 @@ abbrev pub origin_in : Option Statement → Option ℤ
 origin_in (Some (statements.Origin number)) = Some number
 origin_in _ = None
 
+-- a number is asked for, and it lies below the place
 abbrev pub is_below : ℕ → Option ℤ → Bool
 is_below place None = false
 is_below place (Some number) = int_lt number (pos place)

@@ -21,6 +21,7 @@ abbrev pub is_named : Option (List ℕ) → List Line → Bool
 is_named None before = false
 is_named (Some name) before = list_any (λ line. is_label name line.label) before
 
+-- a `.heap`
 abbrev pub sets_heap : Option Statement → Bool
 sets_heap (Some (statements.Heap base bytes)) = true
 sets_heap _ = false

@@ -9,6 +9,7 @@ use Rattle.asm_read.specs.Operands.{Text, two_operands}
 use Rattle.shared_terms.specs.Steps.{◌>>=◌, demand}
 use Rattle.asm_read.specs.Values.{number_at, register_at}
 
+-- the parentheses of `n(r)`, as bytes
 abbrev pub opening : ℕ
 opening = 40
 

@@ -9,6 +9,7 @@ use Rattle.asm_read.specs.Operands.{Text, no_operand, one_operand, three_operand
 use Rattle.shared_terms.specs.Steps.{◌>>=◌}
 use Rattle.asm_read.specs.Values.{number_at, target_at}
 
+-- one number, or two: `Operand` where their count is another or one is empty, `Number` where one is no number
 unfoldable pub one_number : Text → Result ℤ AsmErrorKind
 one_number text = do
   only ← one_operand text
@@ -63,6 +64,7 @@ compartment text = do
   write ← number_at texts.2
   Ok (statements.Compartment owner into write)
 
+-- the statement of the directive, by the text behind its first word
 unfoldable pub directive_of : Directive → Text → Result Statement AsmErrorKind
 directive_of directives.Harts text = of_number statements.Harts text
 directive_of directives.Ram text = of_number statements.Ram text

@@ -40,6 +40,7 @@ statement_of forms.LoadNumber text = load_number text
 statement_of forms.LoadAddress text = load_address text
 statement_of (forms.Directive directive) text = directive_of directive text
 
+-- the bytes that begin a comment, begin a directive, and end a name
 abbrev pub hash : ℕ
 hash = 35
 
@@ -54,6 +55,7 @@ abbrev pub unknown : Text → AsmErrorKind
 unknown [] = kinds.Mnemonic
 unknown (first ∷ more) = if first == dot then kinds.Directive else kinds.Mnemonic
 
+-- the form of a first word; one that is unknown is `Directive` where it begins with a dot, else `Mnemonic`
 abbrev pub form_at : Text → Result Form AsmErrorKind
 form_at word = ok_or (form_named word) (unknown word)
 
@@ -69,6 +71,7 @@ statement_in (byte ∷ more) = do
 abbrev pub label_and_rest : Text → Text → Result (Option Text × Text) AsmErrorKind
 label_and_rest name rest = if is_name name then Ok (Some name, rest) else Err kinds.Mnemonic
 
+-- the name and what is left of the text, by what stands behind the first colon; without a colon all is left
 abbrev pub label_before : Text → Option Text → Result (Option Text × Text) AsmErrorKind
 label_before text None = Ok (None, text)
 label_before text (Some rest) = label_and_rest (without_blanks (before colon text)) rest

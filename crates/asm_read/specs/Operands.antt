@@ -9,6 +9,7 @@ use Rattle.shared_terms.specs.Steps.{◌>>=◌}
 abbrev pub Text : Type 0
 Text = List ℕ
 
+-- the byte between two operands
 abbrev pub comma : ℕ
 comma = 44
 
@@ -29,10 +30,12 @@ abbrev pub no_more : Option Text → Result (Unit {0}) AsmErrorKind
 no_more None = Ok tt
 no_more (Some text) = Err kinds.Operand
 
+-- no byte at all, else `Operand`
 abbrev pub nothing : Text → Result (Unit {0}) AsmErrorKind
 nothing [] = Ok tt
 nothing (byte ∷ more) = Err kinds.Operand
 
+-- exactly so many operands, none of them empty, else `Operand`; blanks at their ends are dropped
 unfoldable pub no_operand : Text → Result (Unit {0}) AsmErrorKind
 no_operand text = nothing (without_blanks text)
 

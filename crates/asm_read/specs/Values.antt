@@ -14,12 +14,15 @@ use Rattle.asm_read.specs.Operands.{Text}
 abbrev pub register_at : Text → Result ℕ AsmErrorKind
 register_at text = ok_or (register_named text) kinds.Register
 
+-- a number from -2^31 to 2^32 - 1, decimal or hexadecimal, else `Number`
 abbrev pub number_at : Text → Result ℤ AsmErrorKind
 number_at text = ok_or (number_of text) kinds.Number
 
+-- a name by its bytes, else `Operand`
 abbrev pub name_at : Text → Result Target AsmErrorKind
 name_at text = if is_name text then Ok (targets.Name text) else Err kinds.Operand
 
+-- the number that the text writes, if it writes one, else the text as a name
 abbrev pub number_or_name : Option ℤ → Text → Result Target AsmErrorKind
 number_or_name (Some number) text = Ok (targets.Number number)
 number_or_name None text = name_at text

@@ -18,8 +18,6 @@ mod operands;
 mod pseudo;
 mod source;
 mod statements;
-#[cfg(test)]
-mod tests;
 mod values;
 
 pub use errors::{AsmEnd, AsmError, AsmErrorKind};

@@ -46,49 +46,58 @@ address_of places target = result_view word_modulo (value_of places target)
 
 -- ---- instructions
 
+-- the word of one instruction, and the words of two, one behind the other
 abbrev pub one : Instr → Emission
 one instr = emissions.One (word_of_instr instr)
 
 abbrev pub two : Instr → Instr → Emission
 two first second = emissions.Two (word_of_instr first) (word_of_instr second)
 
+-- `addi rd, rs1, n` and its like: n is -2048 to 2047, else `Range`
 unfoldable pub immediate : ImmediateOperation → ℕ → ℕ → ℤ → Result Emission AsmErrorKind
 immediate operation rd rs1 n = do
   imm ← immediate_at n
   Ok (one (with_immediate operation rd rs1 imm))
 
+-- `slli rd, rs1, n` and its like: n is 0 to 31, else `Range`
 unfoldable pub shift : ShiftOperation → ℕ → ℕ → ℤ → Result Emission AsmErrorKind
 shift operation rd rs1 n = do
   amount ← amount_at n
   Ok (one (with_amount operation rd rs1 amount))
 
+-- `lui rd, n` and its like: n is that of the upper 20 bits, 0 to 1048575, else `Range`
 unfoldable pub upper : UpperOperation → ℕ → ℤ → Result Emission AsmErrorKind
 upper operation rd n = do
   imm ← upper_at n
   Ok (one (with_upper operation rd imm))
 
+-- `lw rd, n(rs1)` and its like: n is -2048 to 2047, else `Range`
 unfoldable pub load : LoadOperation → ℕ → ℕ → ℤ → Result Emission AsmErrorKind
 load operation rd rs1 n = do
   imm ← immediate_at n
   Ok (one (load_of operation rd rs1 imm))
 
+-- `sw rs2, n(rs1)` and its like: n is -2048 to 2047, else `Range`
 unfoldable pub store : StoreOperation → ℕ → ℕ → ℤ → Result Emission AsmErrorKind
 store operation rs2 rs1 n = do
   imm ← immediate_at n
   Ok (one (store_of operation rs1 rs2 imm))
 
+-- `beq rs1, rs2, T` and its like: an even offset of -4096 to 4094 bytes, else `Range`; an unknown name is `NoName`
 unfoldable pub branch : Places → ℕ → BranchOperation → ℕ → ℕ → Target → Result Emission AsmErrorKind
 branch places place operation rs1 rs2 target = do
   address ← address_of places target
   offset ← branch_offset place address
   Ok (one (branch_of operation rs1 rs2 offset))
 
+-- `jal rd, T`: an even offset of -1048576 to 1048574 bytes, else `Range`; an unknown name is `NoName`
 unfoldable pub jump : Places → ℕ → ℕ → Target → Result Emission AsmErrorKind
 jump places place rd target = do
   address ← address_of places target
   offset ← jump_offset place address
   Ok (one (Jal rd offset))
 
+-- `jalr rd, n(rs1)`: n is -2048 to 2047, else `Range`
 unfoldable pub jump_register : ℕ → ℕ → ℤ → Result Emission AsmErrorKind
 jump_register rd rs1 n = do
   imm ← immediate_at n
@@ -111,9 +120,11 @@ load_word rd word =
     if low_part word == 0 then one (Lui rd (high_part word * 2 ^ 12)) else
     both_parts rd word
 
+-- `li rd, n`, which writes n modulo 2 ^ 32, in one word or two
 unfoldable pub load_number : ℕ → ℤ → Emission
 load_number rd n = load_word rd (word_modulo n)
 
+-- `la rd, T`, always two words; an unknown name is `NoName`
 unfoldable pub load_address : Places → ℕ → Target → Result Emission AsmErrorKind
 load_address places rd target = do
   address ← address_of places target
@@ -121,11 +132,13 @@ load_address places rd target = do
 
 -- ---- data
 
+-- `.word T`: the number modulo 2 ^ 32, or the address of the name; an unknown name is `NoName`
 unfoldable pub word : Places → Target → Result Emission AsmErrorKind
 word places target = do
   address ← address_of places target
   Ok (emissions.One address)
 
+-- `.zero n`: n words of 0; a negative n is `Range`
 abbrev pub zeros : ℤ → Result Emission AsmErrorKind
 zeros (pos count) = Ok (emissions.Zeros count)
 zeros (negsuc n) = Err kinds.Range
@@ -166,6 +179,7 @@ emission_of places place statement = computation_emission statement
 abbrev pub word_load_count : ℕ → ℕ
 word_load_count word = if is_short word then 1 else if low_part word == 0 then 1 else 2
 
+-- how many words a `.zero` of this number emits; `None` where it is negative
 abbrev pub zero_count : ℤ → Option ℕ
 zero_count (pos count) = Some count
 zero_count (negsuc n) = None

@@ -7,24 +7,30 @@ use Rattle.rv_decode.specs.declared.instructions.Instr.TheVariants.{Lui, Auipc, 
 
 -- ---- the formats: opcode, then f3 and f7 where the format has them
 
+-- R-type: f7, rs2, rs1, f3, rd, opcode, highest bits first; all six formats are those of the RISC-V unprivileged ISA
 abbrev pub register_word : ℕ → ℕ → ℕ → ℕ → ℕ → ℕ → ℕ
 register_word opcode f3 f7 rd rs1 rs2 = opcode + rd * 2 ^ 7 + f3 * 2 ^ 12 + rs1 * 2 ^ 15 + rs2 * 2 ^ 20 + f7 * 2 ^ 25
 
+-- I-type: imm[11:0], rs1, f3, rd, opcode
 abbrev pub immediate_word : ℕ → ℕ → ℕ → ℕ → ℕ → ℕ
 immediate_word opcode f3 rd rs1 imm = opcode + rd * 2 ^ 7 + f3 * 2 ^ 12 + rs1 * 2 ^ 15 + bits_of imm 0 12 * 2 ^ 20
 
+-- S-type: imm[11:5], rs2, rs1, f3, imm[4:0], opcode
 abbrev pub store_word : ℕ → ℕ → ℕ → ℕ → ℕ → ℕ
 store_word opcode f3 rs1 rs2 imm =
     opcode + bits_of imm 0 5 * 2 ^ 7 + f3 * 2 ^ 12 + rs1 * 2 ^ 15 + rs2 * 2 ^ 20 + bits_of imm 5 7 * 2 ^ 25
 
+-- B-type: imm[12], imm[10:5], rs2, rs1, f3, imm[4:1], imm[11], opcode
 abbrev pub branch_word : ℕ → ℕ → ℕ → ℕ → ℕ → ℕ
 branch_word opcode f3 rs1 rs2 imm =
     opcode + bits_of imm 11 1 * 2 ^ 7 + bits_of imm 1 4 * 2 ^ 8 + f3 * 2 ^ 12 + rs1 * 2 ^ 15 + rs2 * 2 ^ 20
     + bits_of imm 5 6 * 2 ^ 25 + bits_of imm 12 1 * 2 ^ 31
 
+-- U-type: imm[31:12], rd, opcode
 abbrev pub upper_word : ℕ → ℕ → ℕ → ℕ
 upper_word opcode rd imm = opcode + rd * 2 ^ 7 + bits_of imm 12 20 * 2 ^ 12
 
+-- J-type: imm[20], imm[10:1], imm[11], imm[19:12], rd, opcode
 abbrev pub jump_word : ℕ → ℕ → ℕ → ℕ
 jump_word opcode rd imm =
     opcode + rd * 2 ^ 7 + bits_of imm 12 8 * 2 ^ 12 + bits_of imm 11 1 * 2 ^ 20 + bits_of imm 1 10 * 2 ^ 21
@@ -32,6 +38,7 @@ jump_word opcode rd imm =
 
 -- ---- the instructions
 
+-- the opcodes, f3 and f7 are those of RV32I in the RISC-V unprivileged ISA; a FENCE keeps its word
 unfoldable pub word_of_instr : Instr → ℕ
 word_of_instr (Lui rd imm) = upper_word 0x37 rd imm
 word_of_instr (Auipc rd imm) = upper_word 0x17 rd imm

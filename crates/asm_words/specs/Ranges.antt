@@ -10,6 +10,7 @@ use Rattle.shared_terms.specs.Steps.{result_view}
 abbrev pub word_modulo : ℤ → ℕ
 word_modulo n = unsigned_abs (int_rem_euclid n (pos (2 ^ 32)))
 
+-- the number lies from `least` to `most`, both included
 abbrev pub is_within : ℤ → ℤ → ℤ → Bool
 is_within least most n = int_le least n && int_le n most
 

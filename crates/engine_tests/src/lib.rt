@@ -19,6 +19,8 @@ mod programs;
 #[cfg(test)]
 mod serving;
 #[cfg(test)]
+mod starts;
+#[cfg(test)]
 mod tainting;
 #[cfg(test)]
 mod toy;

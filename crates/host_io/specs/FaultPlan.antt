@@ -25,6 +25,7 @@ pub record Plan : Type 0 where
   pub calls : Calls
   pub faults : ℕ
 
+-- Before the first call, of which these numbers are to fail: none has failed.
 abbrev pub fresh_plan : List ℕ → Plan
 fresh_plan fails = record { calls = fresh_calls fails; faults = 0 }
 

@@ -13,6 +13,7 @@ pub record Taken : Type 0 where
   pub out : Option (List ℕ)
   pub err : Option (List ℕ)
 
+-- What the sinks have taken after a piece, or after pieces in their order. Untold bytes stay untold.
 abbrev pub with_piece : Taken → Piece → Taken
 with_piece taken (out bytes) = record taken { out = append_known taken.out bytes }
 with_piece taken (err bytes) = record taken { err = append_known taken.err bytes }
@@ -49,6 +50,7 @@ Begins None rest = Unit {0}
 Begins (Some begun) [] = ⊥
 Begins (Some begun) (piece ∷ rest) = IsFrontOf begun piece
 
+-- What they have taken after the begun piece, if there is one.
 abbrev pub with_begun : Taken → Option Piece → Taken
 with_begun taken None = taken
 with_begun taken (Some begun) = with_piece taken begun

@@ -9,8 +9,6 @@
 mod law;
 mod memory;
 mod system;
-#[cfg(test)]
-mod tests;
 mod traits;
 mod whole_input;
 

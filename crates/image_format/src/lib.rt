@@ -31,6 +31,3 @@ pub use reading::read_image;
 pub use rows::{CompartmentRange, Edge, Label, WordRange};
 pub use segments::Segments;
 pub use writing::write_image;
-
-#[cfg(test)]
-mod tests;

@@ -4,8 +4,6 @@
 mod all;
 mod choice;
 mod law;
-#[cfg(test)]
-mod tests;
 
 pub use all::{All, AllTag, choose};
 pub use choice::{Choice, read_choice};

@@ -4,6 +4,8 @@
 #[cfg(test)]
 mod attacks;
 #[cfg(test)]
+mod choices;
+#[cfg(test)]
 mod heap;
 #[cfg(test)]
 mod rows;

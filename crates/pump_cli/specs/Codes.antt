@@ -8,6 +8,7 @@ use Rattle.pump_cli.specs.declared.refusal.Refusal.TheVariants as refusal
 use Rattle.pump_cli.specs.declared.status.Status.{Status}
 use Rattle.pump_cli.specs.declared.status.Status.TheVariants.{Done, ExitedNonzero, BadWords, BadImage, BadSource, Violated, Faulted, TurnsSpent, TagsOut, ReadFailed, InputFailed, PutFailed, Memory, WriteFailed, TooLong}
 
+-- the number that the process ends with
 abbrev pub code_of : Status → ℕ
 code_of Done = 0
 code_of ExitedNonzero = 1

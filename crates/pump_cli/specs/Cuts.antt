@@ -18,10 +18,12 @@ abbrev pub cut_of_save : SaveFile → Cut
 cut_of_save save_file.Failed = cut.WriteFailed
 cut_of_save save_file.Memory = cut.Memory
 
+-- an engine cuts its rounds short for want of memory alone
 abbrev pub cut_of_rounds : RoundsEnd → Cut
 cut_of_rounds (rounds_end.Put end) = cut_of_put end
 cut_of_rounds rounds_end.Engine = cut.Memory
 
+-- what a session reads is the input
 abbrev pub cut_of_session : SessionCut → Cut
 cut_of_session session_cut.ReadFailed = cut.InputFailed
 cut_of_session session_cut.PutFailed = cut.PutFailed

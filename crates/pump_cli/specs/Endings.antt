@@ -27,6 +27,7 @@ is_of Ready None = true
 is_of NonzeroExit (Some (stop.Exit code)) = not (code == 0)
 is_of _ _ = false
 
+-- some hart's stop, or want of one, is of the kind
 abbrev pub has_any : Kind → List (Option Stop) → Bool
 has_any kind stops = list_any (is_of kind) stops
 

@@ -110,6 +110,7 @@ AtMost (suc calls) before now = (now ≡ before) ⊎ AtMost calls (next_count be
 abbrev pub IsLongFile : List ℕ → Type 0
 IsLongFile bytes = file_limit < length bytes
 
+-- the input is longer than its limit
 abbrev pub IsLongInput : List ℕ → Type 0
 IsLongInput bytes = input_limit < length bytes
 
@@ -175,6 +176,7 @@ pub record NoTaskFacts {I : Type 0} (before after : Outside I) : Type 0 where
   pub calls : after.calls ≡ before.calls
   pub input : after.input ≡ before.input
 
+-- what the task does to files and to the input; bad words ask for neither
 abbrev pub TaskFacts : {I : Type 0} → Option Task → Status → Outside I → Outside I → Type 0
 TaskFacts None status before after = NoTaskFacts before after
 TaskFacts (Some task) status before after = FileFacts task status before after

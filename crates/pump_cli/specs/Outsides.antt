@@ -2,6 +2,7 @@
 use Rattle.std.specs.Prelude.{ℕ, Bool, List, Option}
 use Rattle.host_io.specs.Outside.{Outside}
 
+-- the files, the input, standard output and standard error, each by the functions that tell of it
 abbrev pub outside : {F S K L : Type 0}
     → Bool → (F → List ℕ → Option (List ℕ)) → (F → List ℕ → ℕ) → (F → List ℕ → ℕ) → (F → ℕ)
     → (S → Option (List ℕ)) → (S → Bool) → (S → ℕ)

@@ -54,6 +54,7 @@ start_of_run task picture = record { machine = (start_of task.choice picture).ma
 abbrev pub course_of_run : RunTask → Picture → List ℕ → Course AllState AllTag
 course_of_run task picture fed = rounds all_eq all task.turns 0 (start_of_run task picture) fed
 
+-- what that course shows, the last line, and the status
 unfoldable pub outcome_of_run : RunTask → Picture → List ℕ → Outcome
 outcome_of_run task picture fed = outcome_of_course (course_of_run task picture fed)
 
@@ -69,6 +70,7 @@ outcome_of_input task picture (Some input) = Some (outcome_of_fed task picture (
 
 -- ---- `shell`
 
+-- what a session starts with, beside its image
 abbrev pub setup_of : ShellTask → Setup
 setup_of task = record { choice = task.choice; cache = task.cache; tags = task.tags }
 
@@ -79,6 +81,7 @@ outcome_of_end session_end.InputEnd = record { pieces = []; status = Done }
 outcome_of_end session_end.TooLong = refusal_outcome TooLong
 outcome_of_end session_end.TagsOut = out_at_start
 
+-- the replies, what is told after them, and the status of the end
 abbrev pub outcome_of_told : Told → Outcome
 outcome_of_told told = record { pieces = told.pieces ++ (outcome_of_end told.end).pieces; status = (outcome_of_end told.end).status }
 
@@ -86,6 +89,7 @@ outcome_of_told told = record { pieces = told.pieces ++ (outcome_of_end told.end
 unfoldable pub outcome_of_lines : ShellTask → Picture → List ℕ → Outcome
 outcome_of_lines task picture input = outcome_of_told (told_of (setup_of task) picture input_limit input)
 
+-- a session on an input whose bytes are not told has its outcome unsaid too
 abbrev pub outcome_of_session : ShellTask → Picture → Option (List ℕ) → Option Outcome
 outcome_of_session task picture None = None
 outcome_of_session task picture (Some input) = Some (outcome_of_lines task picture input)
@@ -119,6 +123,7 @@ abbrev pub outcome_of_counts : ℕ → Counts → Status → Outcome
 outcome_of_counts count counts status =
     record { pieces = out (workload_line count counts (code_of status)) ∷ []; status = status }
 
+-- by the course of a workload of so many blocks: its counts, and the status of a run that went so
 abbrev pub outcome_of_work : {S T : Type 0} → ℕ → Course S T → Outcome
 outcome_of_work count course =
     let account = course.standing.account in
@@ -148,9 +153,11 @@ abbrev pub outcome_of_content : Task → Option (List ℕ) → Option (List ℕ)
 outcome_of_content task None input = None
 outcome_of_content task (Some bytes) input = outcome_of_image task (content_read task bytes) input
 
+-- what the task comes to, by what the files hold and what the input gives, where these are told
 abbrev pub outcome_of_task : Task → (List ℕ → Option (List ℕ)) → Option (List ℕ) → Option Outcome
 outcome_of_task task held input = outcome_of_content task (content_of task held) input
 
+-- words that ask for no task are refused, whatever files and input are
 abbrev pub outcome_of_words : Option Task → (List ℕ → Option (List ℕ)) → Option (List ℕ) → Option Outcome
 outcome_of_words None held input = Some (refusal_outcome BadWords)
 outcome_of_words (Some task) held input = outcome_of_task task held input

@@ -18,6 +18,7 @@ file_limit = 33554432
 unfoldable pub input_limit : ℕ
 input_limit = 16777216
 
+-- the bytes, where they are at most `limit`, else `TooLong`
 abbrev pub within_limit : ℕ → List ℕ → Result (List ℕ) Refusal
 within_limit limit bytes = if nat_le (length bytes) limit then Ok bytes else Err refusal.TooLong
 

@@ -48,10 +48,12 @@ run_after_lines task picture lines =
 -- ---- what holds of each of them, where what they rest on is told
 
 module _ (Holds : Run → Type 0) where
+  -- of the run on these bytes; where the input is refused there is none
   abbrev pub AfterFed : RunTask → Picture → Result (List ℕ) Refusal → Type 0
   AfterFed task picture (Ok fed) = Holds (run_of_fed task picture fed)
   AfterFed task picture (Err refusal) = Unit {0}
 
+  -- of the run on this input; nothing is said where it is not told
   abbrev pub AfterInput : RunTask → Picture → Option (List ℕ) → Type 0
   AfterInput task picture None = Unit {0}
   AfterInput task picture (Some input) = AfterFed task picture (input_read input)
@@ -70,14 +72,17 @@ module _ (Holds : Run → Type 0) where
   AfterPicture (disassemble task) picture input = Unit {0}
   AfterPicture (load task) picture input = Holds (run_of_fed (run_of_load task) picture [])
 
+  -- where the content is refused no run is made
   abbrev pub AfterImage : Task → Result Picture Refusal → Option (List ℕ) → Type 0
   AfterImage task (Ok picture) input = AfterPicture task picture input
   AfterImage task (Err refusal) input = Unit {0}
 
+  -- nothing is said where the content is not told
   abbrev pub AfterContent : Task → Option (List ℕ) → Option (List ℕ) → Type 0
   AfterContent task None input = Unit {0}
   AfterContent task (Some bytes) input = AfterImage task (content_read task bytes) input
 
+  -- words that ask for no task make no run
   abbrev pub AfterWords : Option Task → (List ℕ → Option (List ℕ)) → Option (List ℕ) → Type 0
   AfterWords None held input = Unit {0}
   AfterWords (Some task) held input = AfterContent task (content_of task held) input

@@ -37,6 +37,7 @@ image_error_text (image.Field number offset) = codes "field " ++ decimal number 
 image_error_text (image.Order list row) = codes "order " ++ decimal list ++ codes " row " ++ decimal row
 image_error_text (image.Trailing offset) = codes "trailing at " ++ decimal offset
 
+-- the text of a refusal, without the newline that ends its line
 abbrev pub refusal_text : Refusal → List ℕ
 refusal_text refusal.BadWords = codes "pump: bad command line"
 refusal_text (refusal.BadImage error) = codes "pump: bad image: " ++ image_error_text error

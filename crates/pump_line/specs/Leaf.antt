@@ -12,6 +12,7 @@ use Rattle.pump_line.specs.Line.{operand_rule, option_rule}
 abbrev pub leaf_rules : List (Bor Text) → List (Bor Text) → List Rule
 leaf_rules operands options = map operand_rule (texts operands) ++ map option_rule (texts options)
 
+-- a command with this name and these rules, and no subcommand
 abbrev pub leaf_app : Text → List Rule → App
 leaf_app name rules = record { top = record (new_shape name) { rules = rules }; subs = [] }
 

@@ -29,18 +29,23 @@ limit_options = codes "cache" ∷ codes "tags" ∷ []
 abbrev pub start_options : List Text
 start_options = codes "policy" ∷ limit_options
 
+-- `run IMAGE [--policy LIST] [--cache N] [--tags N] [--turns N]`
 unfoldable pub run_shape : Shape
 run_shape = subcommand_shape (codes "run") image_operand (start_options ++ codes "turns" ∷ [])
 
+-- `shell IMAGE [--policy LIST] [--cache N] [--tags N]`
 unfoldable pub shell_shape : Shape
 shell_shape = subcommand_shape (codes "shell") image_operand start_options
 
+-- `asm SOURCE IMAGE`
 unfoldable pub asm_shape : Shape
 asm_shape = subcommand_shape (codes "asm") (codes "source" ∷ codes "image" ∷ []) []
 
+-- `dis IMAGE`
 unfoldable pub dis_shape : Shape
 dis_shape = subcommand_shape (codes "dis") image_operand []
 
+-- `load N [--cache N] [--tags N]`
 unfoldable pub load_shape : Shape
 load_shape = subcommand_shape (codes "load") (codes "count" ∷ []) limit_options
 

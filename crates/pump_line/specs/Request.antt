@@ -42,6 +42,7 @@ pub data Request : Type 0 where
   disassemble_asked : DisassembleTask → Request
   load_asked : LoadRequest → Request
 
+-- the request of each subcommand, by what stands for its arguments; `None` where an operand is missing
 unfoldable pub run_in : List Row → Option RunRequest
 run_in rows = option_map (λ image. record {
   image = image;
@@ -84,9 +85,11 @@ request_by name rows =
     else (if bytes_eq name (codes "dis") then option_map disassemble_asked (disassemble_in rows)
     else (if bytes_eq name (codes "load") then option_map load_asked (load_in rows) else None))))
 
+-- the request of the subcommand that is named, if one is
 abbrev pub request_at : Option (Text × List Row) → Option Request
 request_at = option_and_then (λ found. request_by found.0 found.1)
 
+-- the request, unless `clap` names a fault
 abbrev pub unless_faulty : Kinds → Option Request → Option Request
 unless_faulty [] request = request
 unless_faulty (kind ∷ more) request = None

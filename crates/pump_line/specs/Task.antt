@@ -62,6 +62,7 @@ choice_in (Some list) = choice_of list
 abbrev pub is_number : Text → Bool
 is_number text = nat_le 1 (length text) && nat_le (length text) 10 && all_ascii_digits text
 
+-- the number that 1 to 10 decimal digits write; `None` for any other text
 abbrev pub number_of : Text → Option ℕ
 number_of text = if is_number text then Some (digits_value 10 text) else None
 
@@ -83,6 +84,7 @@ default_cache = 1024
 abbrev pub most_cache : ℕ
 most_cache = 65536
 
+-- the value of `--cache`: how many rules are kept, 0 to 65536, or 1024 without it; `None` where it is bad
 abbrev pub cache_of : Option Text → Option ℕ
 cache_of = number_or default_cache 0 most_cache
 
@@ -94,6 +96,7 @@ default_tags = 65536
 abbrev pub most_tags : ℕ
 most_tags = 1048576
 
+-- the value of `--tags`: how many tags may have words, 1 to 1048576, or 65536 without it; `None` where it is bad
 abbrev pub tags_of : Option Text → Option ℕ
 tags_of = number_or default_tags 1 most_tags
 
@@ -105,6 +108,7 @@ default_turns = 1000000
 abbrev pub most_turns : ℕ
 most_turns = 1000000000
 
+-- the value of `--turns`: 1 to 1000000000 turns, or 1000000 without it; `None` where it is bad
 abbrev pub turns_of : Option Text → Option ℕ
 turns_of = number_or default_turns 1 most_turns
 
@@ -112,6 +116,7 @@ turns_of = number_or default_turns 1 most_turns
 abbrev pub most_blocks : ℕ
 most_blocks = 1000
 
+-- the operand of `load`: 1 to 1000 blocks; `None` where it is bad
 abbrev pub count_of : Text → Option ℕ
 count_of = number_within 1 most_blocks
 
@@ -127,6 +132,7 @@ run_with image choice cache tags turns =
       turns = turn_limit;
     }) turns) tags) cache) choice
 
+-- the run that is asked for; `None` where one of its values is bad
 unfoldable pub run_task_in : RunRequest → Option RunTask
 run_task_in request =
     run_with request.image (choice_in request.policy) (cache_of request.cache) (tags_of request.tags)
@@ -142,6 +148,7 @@ shell_with image choice cache tags =
       tags = tag_limit;
     }) tags) cache) choice
 
+-- the shell that is asked for; `None` where one of its values is bad
 unfoldable pub shell_task_in : ShellRequest → Option ShellTask
 shell_task_in request =
     shell_with request.image (choice_in request.policy) (cache_of request.cache) (tags_of request.tags)
@@ -155,9 +162,11 @@ load_with count cache tags =
       tags = tag_limit;
     }) tags) cache) count
 
+-- the workload that is asked for; `None` where one of its values is bad
 unfoldable pub load_task_in : LoadRequest → Option LoadTask
 load_task_in request = load_with (count_of request.count) (cache_of request.cache) (tags_of request.tags)
 
+-- the task that a request asks for; `None` where one of its values is bad
 abbrev pub task_in : Request → Option Task
 task_in (run_asked request) = option_map run (run_task_in request)
 task_in (shell_asked request) = option_map shell (shell_task_in request)

@@ -11,6 +11,7 @@ use Rattle.pump_line.specs.declared.task.ShellTask.{ShellTask as ShellWords}
 use Rattle.pump_line.specs.declared.task.Task.{Task as TaskWords}
 use Rattle.pump_line.specs.declared.task.Task.TheVariants.{Assemble, Disassemble, Load, Run, Shell}
 
+-- each word by the bytes of its text
 abbrev pub texts_of : {A : Type 0} → List (String A) → List (List ℕ)
 texts_of words = map string_bytes words
 
@@ -18,6 +19,7 @@ texts_of words = map string_bytes words
 abbrev pub text_value : Option (Bor (List ℕ)) → Option (List ℕ)
 text_value = option_map (λ text. text.now)
 
+-- the task of each subcommand, and any task, as the definitions see it
 abbrev pub run_value : RunWords → RunTask
 run_value task = record {
   image = task.image.now;

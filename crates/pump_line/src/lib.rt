@@ -4,8 +4,6 @@
 mod command;
 mod law;
 mod task;
-#[cfg(test)]
-mod tests;
 mod values;
 
 pub use law::match_law;

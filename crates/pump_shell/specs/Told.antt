@@ -15,6 +15,7 @@ use Rattle.pump_shell.specs.declared.ends.SessionEnd.{SessionEnd}
 use Rattle.pump_shell.specs.declared.ends.SessionEnd.TheVariants.{TagsOut}
 use Rattle.pump_shell.specs.declared.setup.Setup.{Setup}
 
+-- the replies in their order, and how the session ended
 pub record Told : Type 0 where
   pub pieces : List Piece
   pub end : SessionEnd
@@ -23,6 +24,7 @@ pub record Told : Type 0 where
 abbrev pub out_at_start : Told
 out_at_start = record { pieces = []; end = TagsOut }
 
+-- the replies and the end of a session whose input was obeyed
 abbrev pub told_by : {S T : Type 0} → Shell S T → Told
 told_by shell = record { pieces = shell.pieces; end = end_of shell.end }
 
@@ -36,5 +38,6 @@ unfoldable pub start_of_setup : Setup → Picture → Standing AllState AllTag
 start_of_setup setup g =
     if setup.cache == 0 then start_of setup.choice g else cached_start_of setup.choice setup.cache setup.tags g
 
+-- a session over this image and input, set up so; at most `limit` bytes of the input count
 abbrev pub told_of : Setup → Picture → ℕ → List ℕ → Told
 told_of setup g limit input = told_from all_eq all limit (start_of_setup setup g) input

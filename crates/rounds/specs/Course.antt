@@ -21,6 +21,7 @@ unfoldable pub first_ready : {T : Type 0} → CoreState T → ℕ → ℕ → Op
 first_ready core from zero = None
 first_ready core from (suc more) = if is_ready_in core from then Some from else first_ready core (from + 1) more
 
+-- the hart that was found in this round, else the first one of the next
 abbrev pub found_or_first : Option ℕ → Option ℕ → Option ℕ
 found_or_first (Some h) first = Some h
 found_or_first None first = first
@@ -69,6 +70,7 @@ stays e feed = record { standing = e; feed = feed; events = []; order = [] }
 abbrev pub after_turn : {S T : Type 0} → Bool → ℕ → Event T → Course S T → Course S T
 after_turn counted h event course = if counted then record course { events = event ∷ course.events; order = h ∷ course.order } else course
 
+-- `stay` where no hart is next, else what the turn of the next hart comes to
 abbrev pub taking : {S T : Type 0} → Option ℕ → Course S T → (ℕ → Course S T) → Course S T
 taking None stay go = stay
 taking (Some h) stay go = go h

@@ -17,6 +17,7 @@ shown_by h ends.Idle = []
 shown_by h ends.TagsOut = []
 shown_by h ends.Memory = []
 
+-- the same of a turn by its event
 abbrev pub event_pieces : {T : Type 0} → Event T → List Piece
 event_pieces event = shown_by event.hart event.ended
 

@@ -59,6 +59,7 @@ plain_command command operands = do
   nothing ← no_operand operands
   Ok command
 
+-- `step H N`: at most N turns of hart H, where N is at most 1000000000
 unfoldable pub step_command : List Text → Answer
 step_command operands = do
   texts ← two_operands operands
@@ -68,6 +69,7 @@ step_command operands = do
   turns ← turns_within n
   Ok (Step hart turns)
 
+-- `run N`: at most N turns of all harts in rounds, where N is at most 1000000000
 unfoldable pub run_command : List Text → Answer
 run_command operands = do
   text ← one_operand operands
@@ -75,28 +77,33 @@ run_command operands = do
   turns ← turns_within n
   Ok (Run turns)
 
+-- `turns DIGITS`: a turn for each digit, of the hart with this number
 unfoldable pub turns_command : List Text → Answer
 turns_command operands = do
   text ← one_operand operands
   digits ← digits_in text
   Ok (Turns digits)
 
+-- `feed HEX`: bytes of two hexadecimal digits each
 unfoldable pub feed_command : List Text → Answer
 feed_command operands = do
   text ← one_operand operands
   bytes ← bytes_in text
   Ok (Feed bytes)
 
+-- a command that takes a hart, 0 to 7, alone
 abbrev pub hart_command : (ℕ → Command) → List Text → Answer
 hart_command command operands = do
   hart ← hart_operand operands
   Ok (command hart)
 
+-- a command that takes the address of a word alone
 abbrev pub place_command : (ℕ → Command) → List Text → Answer
 place_command command operands = do
   address ← place_operand operands
   Ok (command address)
 
+-- a command that takes the address of a word, and how many words from there on, 1 to 1024
 abbrev pub range_command : (ℕ → ℕ → Command) → List Text → Answer
 range_command command operands = do
   range ← range_operands operands
@@ -155,5 +162,6 @@ words_answer (name ∷ operands) = unwrap_or (named_command name operands) (Err 
 abbrev pub most_bytes : ℕ
 most_bytes = 256
 
+-- the answer to a line without its newline; one of more than 256 bytes is `TooLong`, whatever it says
 unfoldable pub line_answer : Text → Answer
 line_answer line = if nat_lt most_bytes (length line) then Err TooLong else words_answer (words_of line)

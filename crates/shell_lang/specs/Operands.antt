@@ -11,6 +11,7 @@ use Rattle.shell_lang.specs.Words.{Text}
 
 -- ---- how many
 
+-- exactly so many words behind the command's name, else `OperandCount`
 abbrev pub no_operand : List Text → Result (Unit {0}) BadCommand
 no_operand [] = Ok tt
 no_operand (text ∷ more) = Err OperandCount

@@ -14,6 +14,7 @@ all_but_last [] = []
 all_but_last (line ∷ []) = []
 all_but_last (line ∷ next ∷ more) = line ∷ all_but_last (next ∷ more)
 
+-- the last line, empty where there is none
 abbrev pub last_of : List Text → Text
 last_of [] = []
 last_of (line ∷ []) = line
@@ -53,6 +54,7 @@ unfoldable pub line_along : Text → List ℕ → Text
 line_along line [] = line
 line_along line (byte ∷ more) = line_along (line_after line byte) more
 
+-- an answer, if there is one, and then the others
 abbrev pub onto_answers : Option Answer → List Answer → List Answer
 onto_answers None answers = answers
 onto_answers (Some answer) answers = answer ∷ answers

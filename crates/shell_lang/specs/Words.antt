@@ -9,6 +9,7 @@ Text = List ℕ
 abbrev pub is_space : ℕ → Bool
 is_space byte = byte == 32
 
+-- a byte that is no space, and so part of a word
 abbrev pub is_other : ℕ → Bool
 is_other byte = not (is_space byte)
 

@@ -8,8 +8,6 @@ mod grammar;
 mod law;
 mod lines;
 mod operands;
-#[cfg(test)]
-mod tests;
 mod values;
 mod words;
 

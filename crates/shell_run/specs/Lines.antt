@@ -14,6 +14,7 @@ or_dash (byte ∷ more) = byte ∷ more
 unfoldable pub register_line : ℕ → ℕ → List ℕ → List ℕ
 register_line r value tag = line (codes "x" ++ decimal r ++ codes " " ++ hex8_text value ++ codes " " ++ or_dash tag)
 
+-- a pc and its tag
 unfoldable pub pc_line : ℕ → List ℕ → List ℕ
 pc_line pc tag = line (codes "pc " ++ hex8_text pc ++ codes " " ++ or_dash tag)
 
@@ -32,6 +33,7 @@ ready_line h = line (codes "ready " ++ decimal h)
 unfoldable pub block_line : ℕ × ℕ × ℕ → List ℕ
 block_line block = line (codes "block " ++ decimal block.0 ++ codes " " ++ hex8_text block.1 ++ codes " " ++ decimal block.2)
 
+-- the counts of an engine: its turns, hits and misses
 unfoldable pub stats_line : Counts → List ℕ
 stats_line counts =
     line (codes "stats turns " ++ decimal counts.turns ++ codes " hits " ++ decimal counts.hits ++ codes " misses " ++ decimal counts.misses)

@@ -41,9 +41,11 @@ module _ {S T : Type 0} (s : SessionState S T) where
   abbrev pub breaking : ℕ → Reply S T
   breaking a = if is_kept a then silent else reply_if (nat_lt (length s.breaks) 64) (record { after = with_break a; pieces = [] })
 
+  -- the breakpoints without this one, whether it was set or not
   abbrev pub clearing : ℕ → Reply S T
   clearing a = record { after = record s { breaks = filter (λ place. not (place == a)) s.breaks }; pieces = [] }
 
+  -- the feed with these bytes behind those that are still to be read
   abbrev pub feeding : List ℕ → Reply S T
   feeding bytes = record { after = record s { feed = s.feed ++ bytes }; pieces = [] }
 
@@ -63,6 +65,7 @@ is_quit command.Quit = true
 is_quit _ = false
 
 module _ {S T : Type 0} (eq : T → T → Bool) (m : PolicyModel T S) (s : SessionState S T) where
+  -- after these turns: what they tell, and then how many of them were counted
   abbrev pub after_turns : Turns S T → Reply S T
   after_turns turns = record {
     after = record s { standing = turns.standing; feed = turns.feed };
@@ -77,6 +80,7 @@ module _ {S T : Type 0} (eq : T → T → Bool) (m : PolicyModel T S) (s : Sessi
   unfoldable pub registers_shown : ℕ → List Piece
   registers_shown h = lines_from (register_of m s.standing.machine h) 0 32
 
+  -- n words from the address a on, their tags, and their statements
   unfoldable pub words_shown : ℕ → ℕ → List Piece
   words_shown a n = lines_from (word_of m s.standing.machine a) 0 n
 
@@ -90,12 +94,14 @@ module _ {S T : Type 0} (eq : T → T → Bool) (m : PolicyModel T S) (s : Sessi
   unfoldable pub blocks_shown : List Piece
   blocks_shown = blocks m s.standing.machine 0 (bytes_in s / 4)
 
+  -- the pc of hart h; why the hart stopped, or that it is ready
   abbrev pub pc_shown : ℕ → List Piece
   pc_shown h = out (pc_of m s.standing.machine h) ∷ []
 
   abbrev pub why_shown : ℕ → List Piece
   why_shown h = out (why_line h (stop_at s.standing.machine.core h)) ∷ []
 
+  -- the counts since the start or the last reset
   abbrev pub stats_shown : List Piece
   stats_shown = out (stats_line (counts_of s.standing.account)) ∷ []
 

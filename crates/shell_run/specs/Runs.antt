@@ -15,6 +15,7 @@ module _ {S T : Type 0} (eq : T → T → Bool) (m : PolicyModel T S) where
     abbrev pub counted_turns : ℕ → Order → List Item
     counted_turns budget order = map turn (turns eq m s.breaks budget order s.standing s.feed).harts
 
+    -- those turns where `test` holds: a command that names a hart that isn't there makes none
     abbrev pub turned_if : Bool → ℕ → Order → List Item
     turned_if test budget order = if test then counted_turns budget order else []
 

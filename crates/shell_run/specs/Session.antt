@@ -5,6 +5,7 @@ use Rattle.engine_trait.specs.Standing.{Standing}
 use Rattle.tag_memory.specs.Ram.{ram_bytes}
 use Rattle.shell_turns.specs.declared.ends.ObeyEnd.{ObeyEnd}
 
+-- its start, its standing and feed by now, the breakpoints, and its early end, if it had one
 pub record SessionState (S T : Type 0) : Type 0 where
   -- the start, to which a reset goes back
   pub start : Standing S T

@@ -17,6 +17,7 @@ pub record Script (S T : Type 0) : Type 0 where
   pub quits : Bool
 
 module _ {S T : Type 0} where
+  -- no line was obeyed
   abbrev pub no_lines : SessionState S T → Script S T
   no_lines s = record { after = s; pieces = []; quits = false }
 
@@ -39,6 +40,7 @@ module _ {S T : Type 0} (eq : T → T → Bool) (m : PolicyModel T S) where
   script_of_answer s (Ok command) = record { after = (reply_to eq m s command).after; pieces = (reply_to eq m s command).pieces; quits = is_quit command }
   script_of_answer s (Err refusal) = record { after = s; pieces = out (refusal_line (number_of refusal)) ∷ []; quits = false }
 
+  -- the lines, each by its answer, obeyed in their order up to `quit`
   unfoldable pub script : SessionState S T → List Answer → Script S T
   script s [] = no_lines s
   script s (answer ∷ answers) = followed_by (script_of_answer s answer) (λ t. script t answers)
@@ -48,6 +50,7 @@ module _ {S T : Type 0} (eq : T → T → Bool) (m : PolicyModel T S) where
   items_of s items (Ok command) = items_after eq m s items command
   items_of s items (Err refusal) = items
 
+  -- the same after all of the lines, up to `quit`
   abbrev pub items_along : SessionState S T → List Item → List Answer → List Item
   items_along s items [] = items
   items_along s items (answer ∷ answers) =

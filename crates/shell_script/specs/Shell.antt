@@ -27,6 +27,7 @@ abbrev pub last_in : List ℕ → List Answer
 last_in bytes = onto_answers (end_answer (open_line bytes)) []
 
 module _ {S T : Type 0} where
+  -- a session that obeyed these lines and ended so
   abbrev pub ending_so : ShellEnd → Script S T → Shell S T
   ending_so end script = record { after = script.after; pieces = script.pieces; end = end }
 

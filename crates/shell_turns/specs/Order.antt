@@ -27,6 +27,7 @@ AreHarts count (listed harts) = All (λ h. h < count) harts
 abbrev pub Next : Type 0
 Next = Option (ℕ × Order)
 
+-- a turn of this hart, if there is one, and then the rounds from the place behind it on
 abbrev pub in_rounds : Option ℕ → Next
 in_rounds None = None
 in_rounds (Some h) = Some (h, rounds_from (h + 1))

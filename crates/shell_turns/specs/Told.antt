@@ -40,6 +40,7 @@ is_break breaks pc ends.Idle = false
 is_break breaks pc ends.TagsOut = false
 is_break breaks pc ends.Memory = false
 
+-- the line of a break of hart h at this pc, where the turn is one
 abbrev pub break_pieces : Bool → ℕ → ℕ → List Piece
 break_pieces breaks h pc = if breaks then out (break_line h pc) ∷ [] else []
 
@@ -52,6 +53,7 @@ is_out (ends.Stopped why) = false
 is_out ends.Idle = false
 is_out ends.Memory = false
 
+-- the command ends with a turn that ended so, with its hart's pc here
 abbrev pub is_last : List ℕ → ℕ → TurnEnd → Bool
 is_last breaks pc ended = is_break breaks pc ended || is_out ended
 

@@ -26,6 +26,7 @@ module _ {S T : Type 0} where
   abbrev pub pc_after : ℕ → Stepped S T → ℕ
   pc_after h stepped = (hart_at stepped.standing.machine.core h).pc
 
+  -- what a turn of hart h tells: how it ended, and then that it is a break, where it is one
   abbrev pub step_pieces : List ℕ → ℕ → Stepped S T → List Piece
   step_pieces breaks h stepped =
       end_pieces h stepped.ended ++ break_pieces (is_break breaks (pc_after h stepped) stepped.ended) h (pc_after h stepped)
@@ -36,6 +37,7 @@ module _ {S T : Type 0} where
       behind (step_pieces breaks h stepped) (counted_harts h stepped.ended)
       (if is_last breaks (pc_after h stepped) stepped.ended then no_turns stepped.standing stepped.feed else others)
 
+  -- `none` where no turn is next, else what the hart of the next turn and the order behind it make
   abbrev pub going_on : Next → Turns S T → (ℕ → Order → Turns S T) → Turns S T
   going_on None none some = none
   going_on (Some next) none some = some next.0 next.1

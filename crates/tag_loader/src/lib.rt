@@ -7,8 +7,6 @@ mod load;
 mod parts;
 mod sorted;
 mod start;
-#[cfg(test)]
-mod tests;
 mod walks;
 
 pub use births::{BirthWalk, birth};

@@ -112,5 +112,6 @@ end_lines =
 unfoldable pub lines_of_workload : ℕ → List (List ℕ)
 lines_of_workload count = head_lines ++ (lines_of_blocks count 0 count ++ end_lines)
 
+-- the bytes of these lines
 unfoldable pub source_of_workload : ℕ → List ℕ
 source_of_workload count = text_of (lines_of_workload count)

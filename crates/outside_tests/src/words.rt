@@ -1,7 +1,7 @@
 //! Command lines that ask for a run or for a shell, and bad ones.
 
-use super::{Task, WordsEnd, match_law, read_task};
 use policy_choice::Choice;
+use pump_line::{Task, WordsEnd, match_law, read_task};
 use std::alloc::{AllocError, Global};
 use std::test::Fail;
 

@@ -1,6 +1,6 @@
 //! Lines and streams, each with what is read of it.
 
-use super::{BadCommand, Command, Lines, read_command, stream_law};
+use shell_lang::{BadCommand, Command, Lines, read_command, stream_law};
 use std::alloc::{AllocError, Global};
 use std::test::Fail;
 

@@ -1,6 +1,9 @@
 //! Whole files that are read and written again, files that fail each condition, and files cut short.
 
-use super::*;
+use image_format::{
+    CompartmentRange, Edge, Image, ImageEnd, ImageError, Label, Segments, WordRange, read_image,
+    write_image,
+};
 use std::alloc::{AllocError, Global};
 use std::test::Fail;
 

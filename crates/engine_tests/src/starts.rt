@@ -1,7 +1,5 @@
 //! Small programs from their images to their turns, and the words and tags of a start.
 
-use crate::births::BirthWalk;
-use crate::{BareLoad, birth};
 use engine_trait::{Engine, Feed, Loader, Stop, TurnEnd};
 use image_format::read_image;
 use plain_engine::Plain;
@@ -10,6 +8,7 @@ use policy_trait::{Birth, CompartmentSet};
 use rv_step::Fault;
 use std::alloc::{AllocError, Global};
 use std::test::Fail;
+use tag_loader::{BareLoad, BirthWalk, birth};
 use tag_memory::{Hart, Ram};
 
 /// The file of an image of one hart with `ram` bytes of memory, whose one segment has these words at 0.

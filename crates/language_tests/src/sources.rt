@@ -1,6 +1,6 @@
 //! Sources, each with what is read of it, and lines that are wrong, each with its error.
 
-use super::{AsmEnd, Line, Name, Statement, Target, read_source};
+use asm_read::{AsmEnd, Line, Name, Statement, Target, read_source};
 use std::alloc::{AllocError, Global};
 use std::process::Abort;
 use std::test::Fail;

@@ -1,9 +1,9 @@
 //! Choices by their texts, the chosen policies of an image, and which of two refusing parts is named.
 
-use crate::{Choice, choose, read_choice};
 use compartment_policy::{CompartmentTag, Compartments};
 use flow_policy::{Flow, FlowTag};
 use image_format::{Image, read_image};
+use policy_choice::{Choice, choose, read_choice};
 use policy_product::Both;
 use policy_trait::{Args, CompartmentSet, Ins, Part, PlanEnd, Policy, Refused, TagMap, Why};
 use rv_decode::Group;
@@ -151,7 +151,7 @@ fn the_image_says_which_edges_there_are(rt: HostRuntime) -> Result<(), Fail> {
         inputs.ci.1.1.0 = Some(FlowTag::Code(Some(label)));
         assert!(rt; policy.rule(Group::Const, inputs).is_ok() == is_allowed);
     }
-    assert!(rt; policy.left().part.is_some() && policy.right().left().part.is_none());
+    assert!(rt; policy.knows(16) && !policy.knows(34));
     Ok(())
 }
 

@@ -1,8 +1,8 @@
-// The implementations in memory on small cases, and the adapters over std on what a test can reach.
+//! The implementations in memory on small cases, and the adapters over std on what a test can reach.
 ghost use Rattle.std.specs.Prelude.{IfOk};
 ghost use Rattle.host_io.specs.Held.{files_of, AreNamesDistinct};
 
-use crate::{
+use host_io::{
     Failed, Files, LoadFile, MemFiles, MemSink, MemSource, PutEnd, ReadEnd, SaveFile, Sink, Source,
     StdFiles, StdSink, StdSource, SureFiles, SureSink, SureSource, read_to_end,
 };
