@@ -1,5 +1,5 @@
 -- The policy that is nothing mirrors all policies together where none is chosen.
-use Rattle.std.proofs.Common.{◌≡◌, ℕ, Bool, true, false, not, ◌&&◌, List, None, refl}
+use Rattle.std.proofs.Common.{◌≡◌, ℕ, Bool, true, false, not, ◌&&◌, List, refl}
 use Rattle.image_format.specs.Picture.{Picture}
 use Rattle.heap_policy.specs.Heap.{HeapState}
 use Rattle.policy_trait.specs.Mirrors.{Mirrors}

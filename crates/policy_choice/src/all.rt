@@ -5,24 +5,42 @@ ghost use Rattle.heap_policy.specs.Heap.{heap};
 ghost use Rattle.policy_choice.specs.All.{all, choice_state, compartment_count, heap_of, pair_of, part_if};
 
 use crate::choice::Choice;
-use compartment_policy::{CompartmentTag, Compartments};
-use flow_policy::{Flow, FlowTag};
-use heap_policy::{Heap, HeapTag};
+use crate::tag::{
+    AllTag, closed_outs, closed_plan, closed_tag, opened_arguments, opened_inputs, opened_plan,
+};
+use compartment_policy::Compartments;
+use flow_policy::Flow;
+use heap_policy::Heap;
 use image_format::{Edge, Image};
 use policy_product::{Both, Maybe};
-use policy_trait::Policy;
-use sealing_policy::{SealTag, Sealing};
+use policy_trait::{Args, Birth, Ins, Mask, Outs, Part, Plan, PlanEnd, Policy, Refused};
+use pump_words::Line;
+use rv_decode::Group;
+use sealing_policy::Sealing;
 use std::alloc::{AllocError, Global};
+use std::marker::{Model, PhantomData};
+
+/// The four policies in the order in which they are asked, each of them on or off.
+type Parts = Both<Maybe<Sealing>, Both<Maybe<Compartments>, Both<Maybe<Flow>, Maybe<Heap>>>>;
 
 /// All policies together, each of them on or off, in the order in which they are asked: sealing, compartments, control flow,
-/// heap safety.
-pub type All = Both<Maybe<Sealing>, Both<Maybe<Compartments>, Both<Maybe<Flow>, Maybe<Heap>>>>;
+/// heap safety; `T` is the type of their tags.
+#[derive(Drop)]
+pub struct Together<T> {
+    parts: Parts,
+    tags: PhantomData<T>,
+}
 
-/// A tag of all policies together.
-pub type AllTag = (
-    Option<SealTag>,
-    (Option<CompartmentTag>, (Option<FlowTag>, Option<HeapTag>)),
-);
+impl<T> Model for Together<T> {
+    ghost use Rattle.policy_choice.specs.All.{AllState};
+
+    ghost Value = { AllState };
+
+    ghost view = { λ a. a.parts };
+}
+
+/// All policies together: a type of its own, so that what names it has no nest of types to prove.
+pub type All = Together<AllTag>;
 
 /// How many compartments an image starts with: one more than the greatest owner, or 1.
 fn compartment_count(image: &Image) -> u32
@@ -90,5 +108,91 @@ pub fn choose(alloc: Global, choice: Choice, image: &Image) -> Result<All, Alloc
     let comp = part_if(choice.comp, Compartments::new(compartment_count(image)));
     let flow = flow_of(alloc, choice.flow, image)?;
     let heap = part_if(choice.heap, heap_of(alloc, image));
-    Ok(Both::new(seal, Both::new(comp, Both::new(flow, heap))))
+    let parts = Both::new(seal, Both::new(comp, Both::new(flow, heap)));
+    Ok(Together {
+        parts,
+        tags: PhantomData,
+    })
+}
+
+impl Policy for Together<AllTag> {
+    ghost use Rattle.policy_choice.specs.All.{all};
+    ghost use Rattle.policy_choice.specs.AllLaws.{AllHold, all_laws};
+
+    type Tag = AllTag;
+
+    ghost model = { all };
+
+    ghost holds = { AllHold };
+
+    ghost longest = { 363 };
+
+    fn plain(&self) -> AllTag {
+        AllTag::of(self.parts.plain())
+    }
+
+    #[inline(always)]
+    fn rule(&self, group: Group, inputs: Ins<AllTag>) -> Result<Outs<AllTag>, Refused>
+        ensures { result ≡ all.rule self.now group inputs }
+    {
+        closed_outs(self.parts.rule(group, opened_inputs(&inputs)))
+    }
+
+    fn ignores(&self, group: Group) -> Mask {
+        self.parts.ignores(group)
+    }
+
+    fn knows(&self, number: u32) -> bool {
+        self.parts.knows(number)
+    }
+
+    fn uses(&self, number: u32) -> u8 {
+        self.parts.uses(number)
+    }
+
+    fn lend(&self, tag: AllTag) -> Result<(), Part> {
+        self.parts.lend(tag.parts())
+    }
+
+    fn plan(
+        &self,
+        number: u32,
+        arguments: &Args<AllTag>,
+        pc: AllTag,
+    ) -> Result<Plan<AllTag>, PlanEnd> {
+        let opened = opened_arguments(arguments);
+        closed_plan(self.parts.plan(number, &opened, pc.parts()))
+    }
+
+    fn retag(&self, plan: &Plan<AllTag>, old: AllTag) -> Result<AllTag, Refused> {
+        let opened = opened_plan(plan);
+        closed_tag(self.parts.retag(&opened, old.parts()))
+    }
+
+    fn wipe(&self, pc: AllTag, old: AllTag) -> Result<AllTag, Refused> {
+        closed_tag(self.parts.wipe(pc.parts(), old.parts()))
+    }
+
+    fn commit(&mut self, plan: &Plan<AllTag>) -> Result<(), AllocError> {
+        let opened = opened_plan(plan);
+        self.parts.commit(&opened)
+    }
+
+    fn start_pc(&self, birth: &Birth) -> AllTag {
+        AllTag::of(self.parts.start_pc(birth))
+    }
+
+    fn start_word(&self, birth: &Birth) -> AllTag {
+        AllTag::of(self.parts.start_word(birth))
+    }
+
+    fn show(&self, tag: AllTag, to: &mut Line) {
+        self.parts.show(tag.parts(), to)
+    }
+
+    fn listed(&self, place: u32) -> Option<(u32, u32, u32)> {
+        self.parts.listed(place)
+    }
+
+    ghost lawful = { all_laws };
 }

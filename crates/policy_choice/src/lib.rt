@@ -4,7 +4,9 @@
 mod all;
 mod choice;
 mod law;
+mod tag;
 
-pub use all::{All, AllTag, choose};
+pub use all::{All, Together, choose};
 pub use choice::{Choice, read_choice};
 pub use law::{flat_law, nothing_law};
+pub use tag::{AllTag, PartTags};

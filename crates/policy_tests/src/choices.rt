@@ -3,7 +3,7 @@
 use compartment_policy::{CompartmentTag, Compartments};
 use flow_policy::{Flow, FlowTag};
 use image_format::{Image, read_image};
-use policy_choice::{Choice, choose, read_choice};
+use policy_choice::{AllTag, Choice, choose, read_choice};
 use policy_product::Both;
 use policy_trait::{Args, CompartmentSet, Ins, Part, PlanEnd, Policy, Refused, TagMap, Why};
 use rv_decode::Group;
@@ -127,6 +127,12 @@ fn the_image_says_how_many_compartments_there_are(rt: HostRuntime) -> Result<(),
     Ok(())
 }
 
+/// The tag with this component of control flow.
+fn with_flow(tag: AllTag, flow: FlowTag) -> AllTag {
+    let (seal, (comp, (_, heap))) = tag.parts();
+    AllTag::of((seal, (comp, (Some(flow), heap))))
+}
+
 // A JALR labelled 1 led to the label 2, as an edge allows, or to the label 3.
 #[test]
 fn the_image_says_which_edges_there_are(rt: HostRuntime) -> Result<(), Fail> {
@@ -140,15 +146,13 @@ fn the_image_says_which_edges_there_are(rt: HostRuntime) -> Result<(), Fail> {
     let policy = choose(rt.alloc(), choice, &image)?;
     let plain = policy.plain();
     for (label, is_allowed) in [(2, true), (3, false)] {
-        let mut inputs = Ins {
-            pc: plain,
-            ci: plain,
+        let inputs = Ins {
+            pc: with_flow(plain, FlowTag::From(1)),
+            ci: with_flow(plain, FlowTag::Code(Some(label))),
             t1: plain,
             t2: plain,
             tm: plain,
         };
-        inputs.pc.1.1.0 = Some(FlowTag::From(1));
-        inputs.ci.1.1.0 = Some(FlowTag::Code(Some(label)));
         assert!(rt; policy.rule(Group::Const, inputs).is_ok() == is_allowed);
     }
     assert!(rt; policy.knows(16) && !policy.knows(34));

@@ -276,7 +276,7 @@ fn blocks_are_handed_out_where_they_fit(rt: HostRuntime) -> Result<(), Fail> {
         assert!(rt; end_of(rt.alloc(), row)? == TurnEnd::Ran(None));
         let (value, tags) = a0_after(rt.alloc(), row, 0)?;
         assert!(rt; value == *address);
-        assert!(rt; tags.1.1.1 == Some(*tag));
+        assert!(rt; tags.parts().1.1.1 == Some(*tag));
     }
     Ok(())
 }

@@ -88,8 +88,8 @@ fn a_refused_service_retags_no_word(rt: HostRuntime) -> Result<(), Fail> {
         pc: 12,
     };
     assert!(rt; end_of(rt.alloc(), &row)? == TurnEnd::Stopped(stop));
-    assert!(rt; word_tag_after(rt.alloc(), &row, 31)?.1.0 == Some(closed(0)));
-    assert!(rt; word_tag_after(rt.alloc(), &row, 32)?.1.0 == Some(closed(1)));
+    assert!(rt; word_tag_after(rt.alloc(), &row, 31)?.parts().1.0 == Some(closed(0)));
+    assert!(rt; word_tag_after(rt.alloc(), &row, 32)?.parts().1.0 == Some(closed(1)));
     Ok(())
 }
 
@@ -105,10 +105,10 @@ fn a_split_word_is_a_new_compartments(rt: HostRuntime) -> Result<(), Fail> {
         order: &[0, 0, 0, 0],
     };
     assert!(rt; end_of(rt.alloc(), &row)? == TurnEnd::Ran(None));
-    assert!(rt; word_tag_after(rt.alloc(), &row, 31)?.1.0 == Some(closed(1)));
-    assert!(rt; word_tag_after(rt.alloc(), &row, 32)?.1.0 == Some(closed(0)));
+    assert!(rt; word_tag_after(rt.alloc(), &row, 31)?.parts().1.0 == Some(closed(1)));
+    assert!(rt; word_tag_after(rt.alloc(), &row, 32)?.parts().1.0 == Some(closed(0)));
     let (number, tag) = a0_after(rt.alloc(), &row, 0)?;
     assert!(rt; number == 1);
-    assert!(rt; tag.0 == Some(SealTag::Data));
+    assert!(rt; tag.parts().0 == Some(SealTag::Data));
     Ok(())
 }

@@ -7,6 +7,6 @@ use Rattle.policy_choice.proofs.all.choose.Goals as goal
 pub returns-clause-room : goal.returns-clause-room
 returns-clause-room c =
     let image = c.args.image.now in
-    let is : c.new-5.result ≡ choice_state c.args.choice image = search rules in
+    let is : c.new-parts.result ≡ choice_state c.args.choice image = search rules in
     let region = subst (λ (state : HeapState). heap.room state ≤ image.ram) c.heap_of.ensures.value c.heap_of.ensures.room in
     subst (λ (policy : AllState). all.room policy ≤ image.ram) (sym is) (room_of_chosen c.args.choice image region)
