@@ -89,6 +89,7 @@ impl<T: Copy> Core<T> {
     }
 
     /// What the hart is about to do, or the first of the checks that fails.
+    #[inline(always)]
     pub fn look(&self, h: u32) -> Result<Look<T>, Fault>
         requires { h < length self.now.harts }
         ensures value { result ≡ look_result (hart_at self.now h) self.now.ram }
@@ -98,6 +99,7 @@ impl<T: Copy> Core<T> {
     }
 
     /// Carries out an instruction that the checks and the rule allowed.
+    #[inline(always)]
     #[tactic(auto, unfolding(crate::specs::Turn::core_effected, crate::specs::Turn::carried_at))]
     pub fn effect(&mut self, h: u32, feed: &mut Feed, look: &Look<T>, outs: Outs<T>) -> TurnEnd
         requires hart { h < length self.old.harts }

@@ -65,6 +65,7 @@ impl<P: Policy> Plain<P> {
     }
 
     /// Whether hart `h` can have a turn: neither it nor the engine has stopped.
+    #[inline(always)]
     fn is_ready(&self, h: u32) -> bool
         requires { h < length self.now.machine.core.harts }
         ensures ready { result ≡ is_ready self.now h }
@@ -74,6 +75,7 @@ impl<P: Policy> Plain<P> {
     }
 
     /// Whether the service that is called, if one is, is one that the machine or the policy offers.
+    #[inline(always)]
     fn is_offered(&self, look: &Look<P::Tag>) -> bool
         ensures { result ≡ is_offered P.model self.now.machine look.now }
     {
@@ -81,6 +83,7 @@ impl<P: Policy> Plain<P> {
     }
 
     /// The checks of hart `h`'s turn.
+    #[inline(always)]
     #[tactic(auto, unfolding(engine_trait::specs::Turn::preparation))]
     fn prepare(&self, h: u32) -> Result<Look<P::Tag>, Stop>
         requires { h < length self.now.machine.core.harts }
@@ -100,6 +103,7 @@ impl<P: Policy> Plain<P> {
     }
 
     /// The answer of the rule.
+    #[inline(always)]
     #[tactic(auto, unfolding(engine_trait::specs::Turn::rule_answer))]
     fn ask(&self, h: u32, look: &Look<P::Tag>) -> Result<Outs<P::Tag>, Stop>
         requires { h < length self.now.machine.core.harts }
@@ -112,6 +116,7 @@ impl<P: Policy> Plain<P> {
     }
 
     /// Counts the look-up of a rule.
+    #[inline(always)]
     fn look_up(&mut self)
         ensures { self.new ≡ after_look_up self.old }
     {
@@ -139,6 +144,7 @@ impl<P: Policy> Plain<P> {
     }
 
     /// The effect of an allowed instruction that is no service of the policy.
+    #[inline(always)]
     fn effect(
         &mut self,
         h: u32,
@@ -222,6 +228,7 @@ impl<P: Policy> Plain<P> {
     }
 
     /// A call of a policy's service that the rule allowed.
+    #[inline(never)]
     #[tactic(auto, unfolding(engine_trait::specs::Turn::turn_job))]
     fn service(&mut self, h: u32, look: &Look<P::Tag>, outs: Outs<P::Tag>) -> TurnEnd
         requires hart { h < length self.old.machine.core.harts }
@@ -257,6 +264,7 @@ impl<P: Policy> Engine for Plain<P> {
 
     ghost standing = { λ p. p };
 
+    #[inline(always)]
     #[tactic(auto)]
     fn turn(&mut self, h: u32, feed: &mut Feed) -> TurnEnd
         requires { h < length self.old.machine.core.harts }

@@ -293,6 +293,7 @@ impl<P: Policy, T: TagTable<Tag = P::Tag>, C: RuleStore> Pump<P, T, C> {
     }
 
     /// A call of a policy's service that the rule allowed.
+    #[inline(never)]
     fn service(&mut self, h: u32, look: &Look<u32>, outs: OutWords) -> TurnEnd
         requires hart { h < length self.old.core.harts }
         requires known { IsTrue (P.model.knows self.old.policy look.now.service) }
@@ -321,6 +322,7 @@ impl<P: Policy, T: TagTable<Tag = P::Tag>, C: RuleStore> Engine for Pump<P, T, C
 
     ghost standing = { λ p. standing_by_words P.model p };
 
+    #[inline(always)]
     #[tactic(auto)]
     fn turn(&mut self, h: u32, feed: &mut Feed) -> TurnEnd
         requires { h < length (standing_by_words P.model self.old).machine.core.harts }

@@ -30,6 +30,7 @@ pub enum Done {
 
 /// Carries out an instruction that the checks and the rule allowed, and that is no call of a policy's service: the
 /// effect of such a call is the policy's, and stands in the job that it gives.
+#[inline(always)]
 #[tactic(auto, unfolding(crate::specs::Effects::effect_result))]
 pub fn carry_out<T: Copy>(
     hart: &mut Hart<T>,

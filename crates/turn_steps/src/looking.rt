@@ -15,6 +15,7 @@ use tag_memory::{Hart, Ram};
 
 /// What the hart is about to do, or the first fault of fetch, decode, alignment and range of the access, and alignment
 /// of the jump, in this order (RISC-V unprivileged ISA; the order is this project's profile).
+#[inline(always)]
 #[tactic(auto, unfolding(crate::specs::Looks::look_result))]
 pub fn look_ahead<T: Copy>(hart: &Hart<T>, ram: &Ram<T>) -> Result<Look<T>, Fault>
     ensures value { result ≡ look_result hart.now ram.now }
