@@ -22,5 +22,4 @@ mod serving;
 mod starts;
 #[cfg(test)]
 mod tainting;
-#[cfg(test)]
 mod toy;

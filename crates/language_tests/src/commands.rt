@@ -1,5 +1,6 @@
 //! Lines and streams, each with what is read of it.
 
+use crate::answers::{is_blank, is_too_long};
 use shell_lang::{BadCommand, Command, Lines, read_command, stream_law};
 use std::alloc::{AllocError, Global};
 use std::test::Fail;
@@ -105,8 +106,8 @@ fn each_line_is_read(rt: HostRuntime) -> Result<(), Fail> {
 #[test]
 fn a_line_has_a_limit(rt: HostRuntime) {
     let blanks = [b' '; 257];
-    assert!(rt; matches!(read_command(&blanks[..256]), Ok(Command::Blank)));
-    assert!(rt; matches!(read_command(&blanks), Err(BadCommand::TooLong)));
+    assert!(rt; is_blank(&read_command(&blanks[..256])));
+    assert!(rt; is_too_long(&read_command(&blanks)));
 }
 
 /// The longest operands that a line can hold.

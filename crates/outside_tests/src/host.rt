@@ -2,6 +2,7 @@
 ghost use Rattle.std.specs.Prelude.{IfOk};
 ghost use Rattle.host_io.specs.Held.{files_of, AreNamesDistinct};
 
+use crate::doubles::{Broken, Full};
 use host_io::{
     Failed, Files, LoadFile, MemFiles, MemSink, MemSource, PutEnd, ReadEnd, SaveFile, Sink, Source,
     StdFiles, StdSink, StdSource, SureFiles, SureSink, SureSource, read_to_end,
@@ -261,16 +262,6 @@ fn sure_files_hold_every_name(rt: HostRuntime) -> Result<(), Fail> {
     Ok(())
 }
 
-// A reader that is broken.
-#[derive(Drop)]
-struct Broken;
-
-impl Read for Broken {
-    fn read(&mut self, _buf: &mut [u8]) -> io::Result<usize> {
-        Err(io::Error::from(io::ErrorKind::BrokenPipe))
-    }
-}
-
 #[test]
 fn std_source_tells_an_error(rt: HostRuntime) -> Result<(), Fail> {
     let mut source = StdSource::new(Broken);
@@ -289,20 +280,6 @@ fn standard_input_is_read_to_its_end(rt: HostRuntime) -> Result<(), Fail> {
     check_read_to_end(&rt, &mut source, 0, Ok(&[]));
     assert_eq!(rt; source.faults(), 0);
     Ok(())
-}
-
-// A writer that has no room left.
-#[derive(Drop)]
-struct Full;
-
-impl Write for Full {
-    fn write(&mut self, _buf: &[u8]) -> io::Result<usize> {
-        Ok(0)
-    }
-
-    fn flush(&mut self) -> io::Result<()> {
-        Ok(())
-    }
 }
 
 // A writer that takes nothing of a piece that has bytes is a fault.

@@ -1,5 +1,6 @@
 //! Choices by their texts, the chosen policies of an image, and which of two refusing parts is named.
 
+use crate::nestings::{FirstNested, LastNested, Tags};
 use compartment_policy::{CompartmentTag, Compartments};
 use flow_policy::{Flow, FlowTag};
 use image_format::{Image, read_image};
@@ -157,40 +158,6 @@ fn the_image_says_which_edges_there_are(rt: HostRuntime) -> Result<(), Fail> {
     }
     assert!(rt; policy.knows(16) && !policy.knows(34));
     Ok(())
-}
-
-/// The tags of three parts.
-type Tags = (SealTag, CompartmentTag, FlowTag);
-
-/// Tags of three parts as the second and the third nested, and as the first and the second.
-#[derive(Clone, Copy)]
-struct LastNested;
-
-#[derive(Clone, Copy)]
-struct FirstNested;
-
-impl TagMap for LastNested {
-    type From = Tags;
-
-    type To = (SealTag, (CompartmentTag, FlowTag));
-
-    ghost image = { λ _ tags. (tags.0, (tags.1, tags.2)) };
-
-    fn image(&self, tags: Tags) -> (SealTag, (CompartmentTag, FlowTag)) {
-        (tags.0, (tags.1, tags.2))
-    }
-}
-
-impl TagMap for FirstNested {
-    type From = Tags;
-
-    type To = ((SealTag, CompartmentTag), FlowTag);
-
-    ghost image = { λ _ tags. ((tags.0, tags.1), tags.2) };
-
-    fn image(&self, tags: Tags) -> ((SealTag, CompartmentTag), FlowTag) {
-        ((tags.0, tags.1), tags.2)
-    }
 }
 
 type LastTwo = Both<Sealing, Both<Compartments, Flow>>;

@@ -7,6 +7,7 @@ mod attacks;
 mod choices;
 #[cfg(test)]
 mod heap;
+mod nestings;
 #[cfg(test)]
 mod rows;
 #[cfg(test)]

@@ -2,7 +2,8 @@
 ghost use Rattle.std.specs.Prelude.{IfOk};
 ghost use Rattle.host_io.specs.Held.{AreNamesDistinct, files_of};
 
-use crate::runs::{Expected, HELLO, Outside, check};
+use crate::expected::Expected;
+use crate::runs::{HELLO, Outside, check};
 use host_io::{Files, MemFiles, MemSink, MemSource};
 use pump_cli::{Status, pump};
 use std::alloc::{AllocError, Global};

@@ -1,6 +1,7 @@
 //! Attacks that the policies stop, and what is like them and allowed: the same whatever is kept.
 
-use crate::runs::{NO_ROWS, check_file, file_of, refused};
+use crate::expected::refused;
+use crate::runs::{NO_ROWS, check_file, file_of};
 use pump_cli::Status;
 use std::process::Abort;
 use std::test::Fail;

@@ -1,6 +1,7 @@
 //! The examples over memory: what each puts out, what is told, and how it ends.
 
-use crate::runs::{Expected, NO_ROWS, Program, Run, check_run};
+use crate::expected::Expected;
+use crate::runs::{NO_ROWS, Program, Run, check_run};
 use pump_cli::Status;
 use std::test::Fail;
 

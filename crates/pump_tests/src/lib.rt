@@ -7,6 +7,7 @@ mod assembly;
 mod attacks;
 #[cfg(test)]
 mod examples;
+mod expected;
 #[cfg(test)]
 mod limits;
 #[cfg(test)]

@@ -1,10 +1,8 @@
 //! The limits of a run over memory: how many rules are kept, and how many tags may have words.
 
 use crate::examples::{ATTACKS, EXAMPLES, HIJACK};
-use crate::runs::{
-    Expected, KEPT, NO_ROWS, Program, Run, SEALED, check_all, check_file, check_run, file_of,
-    refused,
-};
+use crate::expected::{Expected, refused};
+use crate::runs::{KEPT, NO_ROWS, Program, Run, SEALED, check_all, check_file, check_run, file_of};
 use pump_cli::Status;
 use std::process::Abort;
 use std::test::Fail;

@@ -3,6 +3,7 @@
 ghost use Rattle.std.specs.Prelude.{IfOk};
 ghost use Rattle.host_io.specs.Held.{AreNamesDistinct, files_of};
 
+use crate::expected::{Expected, refused};
 use host_io::{MemFiles, MemSink, MemSource};
 use pump_cli::{Status, pump};
 use std::alloc::{AllocError, Global};
@@ -18,14 +19,6 @@ pub(crate) struct Outside<'a> {
     pub(crate) failing_reads: &'a [u64],
     pub(crate) failing_puts: &'a [u64],
     pub(crate) failing_tells: &'a [u64],
-}
-
-/// The bytes on standard output and standard error, and the status.
-#[derive(Clone, Copy)]
-pub(crate) struct Expected<'a> {
-    pub(crate) out: &'a [u8],
-    pub(crate) err: &'a [u8],
-    pub(crate) status: Status,
 }
 
 /// What a call of the program wrote, its status, and the bytes that it left of the input.
@@ -143,14 +136,6 @@ fn check_image<R: Abort + AllocGlobal>(
         failing_tells: &[],
     };
     check(rt, &["pump", "run", "image"], outside, expected, left)
-}
-
-pub(crate) fn refused(err: &[u8], status: Status) -> Expected<'_> {
-    Expected {
-        out: b"",
-        err,
-        status,
-    }
 }
 
 /// What the image `HELLO` does.

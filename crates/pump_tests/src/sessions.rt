@@ -1,8 +1,9 @@
 //! Sessions of the monitor shell over memory: how each ends, and what is left of the input. Which commands reply what is tested
 //! without the program.
 
+use crate::expected::{Expected, refused};
 use crate::limits::EVERY_LIST;
-use crate::runs::{Expected, HELLO, Outside, check, file_of, refused};
+use crate::runs::{HELLO, Outside, check, file_of};
 use pump_cli::Status;
 use std::test::Fail;
 

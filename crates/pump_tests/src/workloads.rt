@@ -1,6 +1,7 @@
 //! Workloads: the line that tells how each went, and its status. No input is read.
 
-use crate::runs::{Expected, HELLO, Outside, check};
+use crate::expected::Expected;
+use crate::runs::{HELLO, Outside, check};
 use pump_cli::Status;
 use std::test::Fail;
 

@@ -2,8 +2,9 @@
 
 ghost use Rattle.std.specs.Prelude.{◌≤◌};
 
+use crate::room::Room;
 use crate::scripts::SMALL;
-use crate::sessions::{Program, Room, file_of, replies_to};
+use crate::sessions::{Program, file_of, replies_to};
 use engine_trait::{Engine, Loader};
 use host_io::MemSink;
 use image_format::read_image;

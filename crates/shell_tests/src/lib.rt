@@ -6,6 +6,7 @@
 mod ends;
 #[cfg(test)]
 mod interleavings;
+mod room;
 #[cfg(test)]
 mod scripts;
 #[cfg(test)]

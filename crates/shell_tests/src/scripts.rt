@@ -1,6 +1,7 @@
-//! A script: a program, lines, and what is replies_to to them.
+//! A script: a program, lines, and what is replied to them.
 
-use crate::sessions::{Program, Room, replies_to};
+use crate::room::Room;
+use crate::sessions::{Program, replies_to};
 use shell_script::ShellEnd;
 use std::process::Abort;
 use std::test::Fail;
@@ -11,7 +12,7 @@ const LIMIT: usize = 16_777_216;
 /// Tags may have words as they need.
 const AMPLE: u32 = 65_536;
 
-/// A program, the lines of an input, and what is replies_to to them.
+/// A program, the lines of an input, and what is replied to them.
 #[derive(Clone, Copy)]
 pub(crate) struct Script {
     pub(crate) program: Program,
@@ -22,7 +23,7 @@ pub(crate) struct Script {
 /// 256 bytes of memory without a heap region.
 pub(crate) const SMALL: &[u32] = &[256, 0, 0];
 
-/// Checks what is replies_to with so much room.
+/// Checks what is replied with so much room.
 pub(crate) fn check_with<R: Abort + AllocGlobal>(
     rt: &R,
     script: &Script,
@@ -39,7 +40,7 @@ pub(crate) fn check_with<R: Abort + AllocGlobal>(
     Ok(())
 }
 
-/// Checks what is replies_to where no rule is kept, one rule and 1,024.
+/// Checks what is replied where no rule is kept, one rule and 1,024.
 pub(crate) fn check_script<R: Abort + AllocGlobal>(rt: &R, script: &Script) -> Result<(), Fail> {
     for cache in [0, 1, 1024] {
         check_with(rt, script, Room { cache, tags: AMPLE })?;

@@ -2,6 +2,7 @@
 
 ghost use Rattle.std.specs.Prelude.{◌≤◌};
 
+use crate::room::Room;
 use engine_trait::Loader;
 use host_io::{MemSink, MemSource};
 use image_format::{Image, read_image};
@@ -22,13 +23,6 @@ pub(crate) struct Program {
     pub(crate) entries: &'static [u32],
     pub(crate) words: &'static [u32],
     pub(crate) policies: &'static [u8],
-}
-
-/// How many rules may be kept, none where it is 0, and how many tags may have words.
-#[derive(Clone, Copy)]
-pub(crate) struct Room {
-    pub(crate) cache: u32,
-    pub(crate) tags: u32,
 }
 
 /// What a session put, and how it ended.
@@ -92,7 +86,7 @@ fn obeyed_by(
     limit: usize,
     failing: &[u64],
 ) -> Result<Replied, Fail> {
-    if room.cache == 0 || room.tags == 0 {
+    if !room.keeps_rules() {
         return obeyed(
             alloc,
             PlainLoad::new(alloc, image, choice),

@@ -1,7 +1,8 @@
 //! Scripts over one hart: what turns tell, breakpoints, the feed, counts, and the start again.
 
+use crate::room::Room;
 use crate::scripts::{SMALL, Script, check_script, check_with};
-use crate::sessions::{Program, Room};
+use crate::sessions::Program;
 use std::test::Fail;
 
 /// One hart at 0.

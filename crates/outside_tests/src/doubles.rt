@@ -1,0 +1,35 @@
+//! A reader and a writer that fail as those of a system may.
+
+ghost use Rattle.std.specs.Prelude.{◌≡◌, IsErr, Ok};
+
+use std::io::{self, Read, Write};
+
+/// A reader that is broken.
+#[derive(Drop)]
+pub(crate) struct Broken;
+
+impl Read for Broken {
+    fn read(&mut self, _buf: &mut [u8]) -> io::Result<usize>
+        ensures { IsErr result }
+    {
+        Err(io::Error::from(io::ErrorKind::BrokenPipe))
+    }
+}
+
+/// A writer that has no room left.
+#[derive(Drop)]
+pub(crate) struct Full;
+
+impl Write for Full {
+    fn write(&mut self, _buf: &[u8]) -> io::Result<usize>
+        ensures { result ≡ Ok 0 }
+    {
+        Ok(0)
+    }
+
+    fn flush(&mut self) -> io::Result<()>
+        ensures { result ≡ Ok tt }
+    {
+        Ok(())
+    }
+}
