@@ -1,8 +1,9 @@
 //! A reader and a writer that fail as those of a system may.
 
-ghost use Rattle.std.specs.Prelude.{◌≡◌, IsErr, Ok};
+ghost use Rattle.std.specs.Prelude.{◌≡◌, IfErr, IsErr, Ok};
+ghost use Rattle.std.specs.IoError.{error_kind};
 
-use std::io::{self, Read, Write};
+use std::io::{self, ErrorKind, Read, Write};
 
 /// A reader that is broken.
 #[derive(Drop)]
@@ -10,9 +11,11 @@ pub(crate) struct Broken;
 
 impl Read for Broken {
     fn read(&mut self, _buf: &mut [u8]) -> io::Result<usize>
-        ensures { IsErr result }
+        ensures fails { IsErr result }
+        ensures kind { IfErr result (λ error. error_kind error ≡ ErrorKind.BrokenPipe) }
+        ensures kept { _buf.new ≡ _buf.old }
     {
-        Err(io::Error::from(io::ErrorKind::BrokenPipe))
+        Err(io::Error::from(ErrorKind::BrokenPipe))
     }
 }
 

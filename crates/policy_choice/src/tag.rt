@@ -81,7 +81,7 @@ impl TagMap for Closed {
     ghost image = { λ _ tags. tags };
 
     fn image(&self, tags: PartTags) -> AllTag {
-        AllTag { tags }
+        AllTag::of(tags)
     }
 }
 
@@ -131,7 +131,7 @@ pub(crate) fn closed_tag(tags: Result<PartTags, Refused>) -> Result<AllTag, Refu
     ensures { result ≡ tags }
 {
     match tags {
-        Ok(tags) => Ok(AllTag { tags }),
+        Ok(tags) => Ok(AllTag::of(tags)),
         Err(refused) => Err(refused),
     }
 }

@@ -3,6 +3,7 @@ use Rattle.std.proofs.Common.{◌≡◌, ◌≤◌, ◌∙◌, ◌&&◌, ℕ, Bo
 use Rattle.std.specs.Prelude.{Option, Some, None, SomeIff, nat_le, option_and_then, if◌then◌else◌}
 use Rattle.std.specs.Str.{all_ascii_digits}
 use Rattle.std.specs.Str.Parse.{AllDigits, digits_value}
+use Rattle.std.proofs.lemmas.Bool.{and_parts}
 use Rattle.std.proofs.lemmas.Bool.Decides.{nat_tests}
 use Rattle.std.proofs.lemmas.Str.Parse.{IsDigitsTest, tells_all_ascii_digits, tells_digits}
 use borrow.Author.Tests.{leb-true}
@@ -14,14 +15,10 @@ one_as_other : {P Q : List ℕ → Type 0} → IsDigitsTest P → IsDigitsTest Q
 one_as_other p q [] h = q.empty
 one_as_other p q (c ∷ cs) h = let parts = p.parts c cs h in q.more c cs parts.0 (one_as_other p q cs parts.1)
 
-both_true : {a b : Bool} → a && b ≡ true → (a ≡ true) × (b ≡ true)
-both_true {a = true} h = (refl, h)
-both_true {a = false} h = cc
-
 is_number_true : (text : List ℕ) → is_number text ≡ true → IsNumber text
 is_number_true text h =
-    let ends = both_true {a = nat_le 1 (length text) && nat_le (length text) 10} {b = all_ascii_digits text} h in
-    let sizes = both_true {a = nat_le 1 (length text)} {b = nat_le (length text) 10} ends.0 in
+    let ends = and_parts (nat_le 1 (length text) && nat_le (length text) 10) (all_ascii_digits text) h in
+    let sizes = and_parts (nat_le 1 (length text)) (nat_le (length text) 10) ends.0 in
     let digits : AllDigits 10 text = one_as_other tells_all_ascii_digits tells_digits text ends.1 in
     ((omega (arith, leb-true), digits), omega (arith, leb-true))
 
