@@ -10,10 +10,10 @@ use std::io::{self, ErrorKind, Read, Write};
 pub(crate) struct Broken;
 
 impl Read for Broken {
-    fn read(&mut self, _buf: &mut [u8]) -> io::Result<usize>
+    fn read(&mut self, buf: &mut [u8]) -> io::Result<usize>
         ensures fails { IsErr result }
         ensures kind { IfErr result (λ error. error_kind error ≡ ErrorKind.BrokenPipe) }
-        ensures kept { _buf.new ≡ _buf.old }
+        ensures kept { buf.new ≡ buf.old }
     {
         Err(io::Error::from(ErrorKind::BrokenPipe))
     }
