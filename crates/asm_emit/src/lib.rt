@@ -9,8 +9,6 @@ mod builder;
 pub mod laws;
 mod marks;
 mod runs;
-#[cfg(test)]
-mod tests;
 mod values;
 
 pub use assembling::{assemble, assemble_source};

@@ -7,9 +7,6 @@ ghost use Rattle.rv_decode.specs.Decoding.{instr_of_word};
 ghost use Rattle.asm_show.specs.Instructions.{text_at};
 ghost use Rattle.asm_laws.specs.Reassembly.{Assembles};
 
-#[cfg(test)]
-mod tests;
-
 use asm_words::laws::encoding_law;
 use rv_decode::laws::table_law;
 

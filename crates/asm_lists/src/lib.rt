@@ -2,7 +2,5 @@
 #![tactic(auto)]
 
 mod edges;
-#[cfg(test)]
-mod tests;
 
 pub use edges::sorted_edges;

@@ -13,8 +13,6 @@ mod names;
 mod places;
 mod seen;
 mod sizes;
-#[cfg(test)]
-mod tests;
 
 pub use layout::{Layout, layout_of};
 pub use names::names_of;

@@ -8,7 +8,7 @@ use asm_table::{
 use rv_decode::Register;
 
 /// An absolute address, or the value of a word: the place of a name, or a number.
-#[derive(Debug, Drop)]
+#[derive(Drop)]
 pub enum Target<'a> {
     Name(Name<'a>),
     Number(i64),
@@ -16,7 +16,7 @@ pub enum Target<'a> {
 
 /// A statement, with the forms that stand for one instruction as that instruction. Numbers are as the source writes them, from
 /// -2^31 to 2^32 - 1, whatever range they have to lie in.
-#[derive(Debug, Drop)]
+#[derive(Drop)]
 pub enum Statement<'a> {
     /// `add rd, rs1, rs2` and its like.
     Registers {
@@ -133,7 +133,7 @@ pub enum Statement<'a> {
 }
 
 /// A line.
-#[derive(Debug, Drop)]
+#[derive(Drop)]
 pub struct Line<'a> {
     /// Its number, counted from 1.
     pub number: u64,

@@ -5,8 +5,6 @@ mod instructions;
 mod listing;
 mod operands;
 mod statements;
-#[cfg(test)]
-mod tests;
 
 pub use instructions::show_instr;
 pub use listing::list_word;

@@ -1,7 +1,7 @@
 //! What the first word of a statement asks for.
 
 /// An operation on two registers, written `add rd, rs1, rs2`.
-#[derive(Clone, Copy, Debug, PartialEq, Eq)]
+#[derive(Clone, Copy, Debug)]
 pub enum RegisterOperation {
     Add,
     Sub,
@@ -16,7 +16,7 @@ pub enum RegisterOperation {
 }
 
 /// An operation on a register and a number, written `addi rd, rs1, n`.
-#[derive(Clone, Copy, Debug, PartialEq, Eq)]
+#[derive(Clone, Copy, Debug)]
 pub enum ImmediateOperation {
     Addi,
     Slti,
@@ -27,7 +27,7 @@ pub enum ImmediateOperation {
 }
 
 /// A shift of a register by a number, written `slli rd, rs1, n`.
-#[derive(Clone, Copy, Debug, PartialEq, Eq)]
+#[derive(Clone, Copy, Debug)]
 pub enum ShiftOperation {
     Slli,
     Srli,
@@ -35,14 +35,14 @@ pub enum ShiftOperation {
 }
 
 /// An operation on the upper 20 bits, written `lui rd, n`.
-#[derive(Clone, Copy, Debug, PartialEq, Eq)]
+#[derive(Clone, Copy, Debug)]
 pub enum UpperOperation {
     Lui,
     Auipc,
 }
 
 /// A load, written `lw rd, n(rs1)`.
-#[derive(Clone, Copy, Debug, PartialEq, Eq)]
+#[derive(Clone, Copy, Debug)]
 pub enum LoadOperation {
     Lb,
     Lh,
@@ -52,7 +52,7 @@ pub enum LoadOperation {
 }
 
 /// A store, written `sw rs2, n(rs1)`.
-#[derive(Clone, Copy, Debug, PartialEq, Eq)]
+#[derive(Clone, Copy, Debug)]
 pub enum StoreOperation {
     Sb,
     Sh,
@@ -60,7 +60,7 @@ pub enum StoreOperation {
 }
 
 /// A branch, written `beq rs1, rs2, T`.
-#[derive(Clone, Copy, Debug, PartialEq, Eq)]
+#[derive(Clone, Copy, Debug)]
 pub enum BranchOperation {
     Beq,
     Bne,
@@ -71,7 +71,7 @@ pub enum BranchOperation {
 }
 
 /// A directive, whose word begins with a dot.
-#[derive(Clone, Copy, Debug, PartialEq, Eq)]
+#[derive(Clone, Copy)]
 pub enum Directive {
     /// `.harts N`, how many harts there are.
     Harts,
@@ -101,7 +101,7 @@ pub enum Directive {
 
 /// What the first word of a statement asks for, and so which operands stand behind it. `rd`, `rs1`, `rs2` and `rs` are
 /// registers, `n` is a number, and `T` a name or a number.
-#[derive(Clone, Copy, Debug, PartialEq, Eq)]
+#[derive(Clone, Copy)]
 pub enum Form {
     /// `add rd, rs1, rs2` and its like.
     Registers(RegisterOperation),

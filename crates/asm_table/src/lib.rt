@@ -3,6 +3,7 @@
 
 mod forms;
 mod registers;
+mod rows;
 mod words;
 
 pub use forms::{

@@ -9,163 +9,184 @@ use crate::forms::{
     BranchOperation, Directive, Form, ImmediateOperation, LoadOperation, RegisterOperation,
     ShiftOperation, StoreOperation, UpperOperation,
 };
+use crate::rows::beside;
+
+/// The operations on two registers.
+const REGISTERS_OPERATIONS: [(&[u8], RegisterOperation); 10] = [
+    (b"add", RegisterOperation::Add),
+    (b"sub", RegisterOperation::Sub),
+    (b"sll", RegisterOperation::Sll),
+    (b"slt", RegisterOperation::Slt),
+    (b"sltu", RegisterOperation::Sltu),
+    (b"xor", RegisterOperation::Xor),
+    (b"srl", RegisterOperation::Srl),
+    (b"sra", RegisterOperation::Sra),
+    (b"or", RegisterOperation::Or),
+    (b"and", RegisterOperation::And),
+];
 
 /// The operation on two registers of this name.
 #[tactic(auto, unfolding(crate::specs::Words::registers_named))]
 fn registers_operation(word: &[u8]) -> Option<RegisterOperation>
     ensures { result ≡ registers_named word.now }
 {
-    match word {
-        b"add" => Some(RegisterOperation::Add),
-        b"sub" => Some(RegisterOperation::Sub),
-        b"sll" => Some(RegisterOperation::Sll),
-        b"slt" => Some(RegisterOperation::Slt),
-        b"sltu" => Some(RegisterOperation::Sltu),
-        b"xor" => Some(RegisterOperation::Xor),
-        b"srl" => Some(RegisterOperation::Srl),
-        b"sra" => Some(RegisterOperation::Sra),
-        b"or" => Some(RegisterOperation::Or),
-        b"and" => Some(RegisterOperation::And),
-        _ => None,
-    }
+    beside(word, &REGISTERS_OPERATIONS)
 }
+
+/// The operations on a register and a number.
+const IMMEDIATE_OPERATIONS: [(&[u8], ImmediateOperation); 6] = [
+    (b"addi", ImmediateOperation::Addi),
+    (b"slti", ImmediateOperation::Slti),
+    (b"sltiu", ImmediateOperation::Sltiu),
+    (b"xori", ImmediateOperation::Xori),
+    (b"ori", ImmediateOperation::Ori),
+    (b"andi", ImmediateOperation::Andi),
+];
 
 /// The operation on a register and a number of this name.
 #[tactic(auto, unfolding(crate::specs::Words::immediate_named))]
 fn immediate_operation(word: &[u8]) -> Option<ImmediateOperation>
     ensures { result ≡ immediate_named word.now }
 {
-    match word {
-        b"addi" => Some(ImmediateOperation::Addi),
-        b"slti" => Some(ImmediateOperation::Slti),
-        b"sltiu" => Some(ImmediateOperation::Sltiu),
-        b"xori" => Some(ImmediateOperation::Xori),
-        b"ori" => Some(ImmediateOperation::Ori),
-        b"andi" => Some(ImmediateOperation::Andi),
-        _ => None,
-    }
+    beside(word, &IMMEDIATE_OPERATIONS)
 }
+
+/// The shifts by a number.
+const SHIFT_OPERATIONS: [(&[u8], ShiftOperation); 3] = [
+    (b"slli", ShiftOperation::Slli),
+    (b"srli", ShiftOperation::Srli),
+    (b"srai", ShiftOperation::Srai),
+];
 
 /// The shift by a number of this name.
 #[tactic(auto, unfolding(crate::specs::Words::shift_named))]
 fn shift_operation(word: &[u8]) -> Option<ShiftOperation>
     ensures { result ≡ shift_named word.now }
 {
-    match word {
-        b"slli" => Some(ShiftOperation::Slli),
-        b"srli" => Some(ShiftOperation::Srli),
-        b"srai" => Some(ShiftOperation::Srai),
-        _ => None,
-    }
+    beside(word, &SHIFT_OPERATIONS)
 }
+
+/// The operations on the upper bits.
+const UPPER_OPERATIONS: [(&[u8], UpperOperation); 2] = [
+    (b"lui", UpperOperation::Lui),
+    (b"auipc", UpperOperation::Auipc),
+];
 
 /// The operation on the upper bits of this name.
 #[tactic(auto, unfolding(crate::specs::Words::upper_named))]
 fn upper_operation(word: &[u8]) -> Option<UpperOperation>
     ensures { result ≡ upper_named word.now }
 {
-    match word {
-        b"lui" => Some(UpperOperation::Lui),
-        b"auipc" => Some(UpperOperation::Auipc),
-        _ => None,
-    }
+    beside(word, &UPPER_OPERATIONS)
 }
+
+/// The loads.
+const LOAD_OPERATIONS: [(&[u8], LoadOperation); 5] = [
+    (b"lb", LoadOperation::Lb),
+    (b"lh", LoadOperation::Lh),
+    (b"lw", LoadOperation::Lw),
+    (b"lbu", LoadOperation::Lbu),
+    (b"lhu", LoadOperation::Lhu),
+];
 
 /// The load of this name.
 #[tactic(auto, unfolding(crate::specs::Words::load_named))]
 fn load_operation(word: &[u8]) -> Option<LoadOperation>
     ensures { result ≡ load_named word.now }
 {
-    match word {
-        b"lb" => Some(LoadOperation::Lb),
-        b"lh" => Some(LoadOperation::Lh),
-        b"lw" => Some(LoadOperation::Lw),
-        b"lbu" => Some(LoadOperation::Lbu),
-        b"lhu" => Some(LoadOperation::Lhu),
-        _ => None,
-    }
+    beside(word, &LOAD_OPERATIONS)
 }
+
+/// The stores.
+const STORE_OPERATIONS: [(&[u8], StoreOperation); 3] = [
+    (b"sb", StoreOperation::Sb),
+    (b"sh", StoreOperation::Sh),
+    (b"sw", StoreOperation::Sw),
+];
 
 /// The store of this name.
 #[tactic(auto, unfolding(crate::specs::Words::store_named))]
 fn store_operation(word: &[u8]) -> Option<StoreOperation>
     ensures { result ≡ store_named word.now }
 {
-    match word {
-        b"sb" => Some(StoreOperation::Sb),
-        b"sh" => Some(StoreOperation::Sh),
-        b"sw" => Some(StoreOperation::Sw),
-        _ => None,
-    }
+    beside(word, &STORE_OPERATIONS)
 }
+
+/// The branches.
+const BRANCH_OPERATIONS: [(&[u8], BranchOperation); 6] = [
+    (b"beq", BranchOperation::Beq),
+    (b"bne", BranchOperation::Bne),
+    (b"blt", BranchOperation::Blt),
+    (b"bge", BranchOperation::Bge),
+    (b"bltu", BranchOperation::Bltu),
+    (b"bgeu", BranchOperation::Bgeu),
+];
 
 /// The branch of this name.
 #[tactic(auto, unfolding(crate::specs::Words::branch_named))]
 fn branch_operation(word: &[u8]) -> Option<BranchOperation>
     ensures { result ≡ branch_named word.now }
 {
-    match word {
-        b"beq" => Some(BranchOperation::Beq),
-        b"bne" => Some(BranchOperation::Bne),
-        b"blt" => Some(BranchOperation::Blt),
-        b"bge" => Some(BranchOperation::Bge),
-        b"bltu" => Some(BranchOperation::Bltu),
-        b"bgeu" => Some(BranchOperation::Bgeu),
-        _ => None,
-    }
+    beside(word, &BRANCH_OPERATIONS)
 }
+
+/// The other instructions.
+const OTHER_INSTRUCTIONS: [(&[u8], Form); 5] = [
+    (b"jal", Form::Jump),
+    (b"jalr", Form::JumpRegister),
+    (b"fence", Form::Fence),
+    (b"ecall", Form::Ecall),
+    (b"ebreak", Form::Ebreak),
+];
 
 /// The other instruction of this name.
 #[tactic(auto, unfolding(crate::specs::Words::other_named))]
 fn other_instruction(word: &[u8]) -> Option<Form>
     ensures { result ≡ other_named word.now }
 {
-    match word {
-        b"jal" => Some(Form::Jump),
-        b"jalr" => Some(Form::JumpRegister),
-        b"fence" => Some(Form::Fence),
-        b"ecall" => Some(Form::Ecall),
-        b"ebreak" => Some(Form::Ebreak),
-        _ => None,
-    }
+    beside(word, &OTHER_INSTRUCTIONS)
 }
+
+/// The forms that stand for instructions.
+const PSEUDO_INSTRUCTIONS: [(&[u8], Form); 6] = [
+    (b"nop", Form::Nothing),
+    (b"mv", Form::Move),
+    (b"ret", Form::Return),
+    (b"j", Form::JumpAlone),
+    (b"li", Form::LoadNumber),
+    (b"la", Form::LoadAddress),
+];
 
 /// The form of this name that stands for instructions.
 #[tactic(auto, unfolding(crate::specs::Words::pseudo_named))]
 fn pseudo_instruction(word: &[u8]) -> Option<Form>
     ensures { result ≡ pseudo_named word.now }
 {
-    match word {
-        b"nop" => Some(Form::Nothing),
-        b"mv" => Some(Form::Move),
-        b"ret" => Some(Form::Return),
-        b"j" => Some(Form::JumpAlone),
-        b"li" => Some(Form::LoadNumber),
-        b"la" => Some(Form::LoadAddress),
-        _ => None,
-    }
+    beside(word, &PSEUDO_INSTRUCTIONS)
 }
+
+/// The directives.
+const DIRECTIVES: [(&[u8], Directive); 12] = [
+    (b".harts", Directive::Harts),
+    (b".ram", Directive::Ram),
+    (b".heap", Directive::Heap),
+    (b".entry", Directive::Entry),
+    (b".org", Directive::Origin),
+    (b".word", Directive::Word),
+    (b".zero", Directive::Zeros),
+    (b".text", Directive::Text),
+    (b".data", Directive::Data),
+    (b".label", Directive::Label),
+    (b".edge", Directive::Edge),
+    (b".comp", Directive::Compartment),
+];
 
 /// The directive of this name.
 #[tactic(auto, unfolding(crate::specs::Words::directive_named))]
 fn directive(word: &[u8]) -> Option<Directive>
     ensures { result ≡ directive_named word.now }
 {
-    match word {
-        b".harts" => Some(Directive::Harts),
-        b".ram" => Some(Directive::Ram),
-        b".heap" => Some(Directive::Heap),
-        b".entry" => Some(Directive::Entry),
-        b".org" => Some(Directive::Origin),
-        b".word" => Some(Directive::Word),
-        b".zero" => Some(Directive::Zeros),
-        b".text" => Some(Directive::Text),
-        b".data" => Some(Directive::Data),
-        b".label" => Some(Directive::Label),
-        b".edge" => Some(Directive::Edge),
-        b".comp" => Some(Directive::Compartment),
-        _ => None,
-    }
+    beside(word, &DIRECTIVES)
 }
 
 /// The instruction of this name that calculates.
@@ -173,11 +194,17 @@ fn directive(word: &[u8]) -> Option<Directive>
 fn arithmetic(word: &[u8]) -> Option<Form>
     ensures { result ≡ arithmetic_named word.now }
 {
-    registers_operation(word)
-        .map(Form::Registers)
-        .or_else(|| immediate_operation(word).map(Form::Immediate))
-        .or_else(|| shift_operation(word).map(Form::Shift))
-        .or_else(|| upper_operation(word).map(Form::Upper))
+    if let Some(operation) = registers_operation(word) {
+        return Some(Form::Registers(operation));
+    }
+    if let Some(operation) = immediate_operation(word) {
+        return Some(Form::Immediate(operation));
+    }
+    if let Some(operation) = shift_operation(word) {
+        return Some(Form::Shift(operation));
+    }
+    let operation = upper_operation(word)?;
+    Some(Form::Upper(operation))
 }
 
 /// The instruction of this name.
@@ -185,11 +212,19 @@ fn arithmetic(word: &[u8]) -> Option<Form>
 fn instruction(word: &[u8]) -> Option<Form>
     ensures { result ≡ instruction_named word.now }
 {
-    arithmetic(word)
-        .or_else(|| load_operation(word).map(Form::Load))
-        .or_else(|| store_operation(word).map(Form::Store))
-        .or_else(|| branch_operation(word).map(Form::Branch))
-        .or_else(|| other_instruction(word))
+    if let Some(form) = arithmetic(word) {
+        return Some(form);
+    }
+    if let Some(operation) = load_operation(word) {
+        return Some(Form::Load(operation));
+    }
+    if let Some(operation) = store_operation(word) {
+        return Some(Form::Store(operation));
+    }
+    if let Some(operation) = branch_operation(word) {
+        return Some(Form::Branch(operation));
+    }
+    other_instruction(word)
 }
 
 /// The form whose statements begin with this word; `None` for any other word. Words are in lower case.
@@ -197,7 +232,12 @@ fn instruction(word: &[u8]) -> Option<Form>
 pub fn form_of(word: &[u8]) -> Option<Form>
     ensures { result ≡ form_named word.now }
 {
-    instruction(word)
-        .or_else(|| pseudo_instruction(word))
-        .or_else(|| directive(word).map(Form::Directive))
+    if let Some(form) = instruction(word) {
+        return Some(form);
+    }
+    if let Some(form) = pseudo_instruction(word) {
+        return Some(form);
+    }
+    let directive = directive(word)?;
+    Some(Form::Directive(directive))
 }

@@ -12,8 +12,6 @@ mod loads;
 mod ranges;
 mod statements;
 mod targets;
-#[cfg(test)]
-mod tests;
 
 pub use counts::word_count;
 pub use emissions::Emission;

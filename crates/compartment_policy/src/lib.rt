@@ -7,8 +7,6 @@ mod policy;
 mod rules;
 mod services;
 mod tag;
-#[cfg(test)]
-mod tests;
 
 pub use law::{ignores_law, text_law};
 pub use policy::Compartments;

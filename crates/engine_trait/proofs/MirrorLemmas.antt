@@ -1,7 +1,6 @@
 -- The turn of a machine with changed tags, under a policy that mirrors the machine's.
 use Rattle.std.proofs.Common.{◌≡◌, ℕ, Bool, true, false, ◌||◌, not, nat_lt, List, Option, None, Result, Ok, Err, refl, ap, sym, subst, ◌∙◌, ◌&&◌, if◌then◌else◌}
-use Rattle.std.proofs.Math.ListN.{get_or-map}
-use Rattle.std.proofs.lemmas.List.{length-map, map-set}
+use Rattle.std.proofs.lemmas.List.{length-map}
 use Rattle.policy_trait.specs.Maps.{ins_by, ok_by, outs_by}
 use Rattle.policy_trait.specs.Mirrors.{Mirrors}
 use Rattle.policy_trait.specs.Model.{PolicyModel}
@@ -11,24 +10,21 @@ use Rattle.policy_trait.specs.declared.rules.Refused.{Refused}
 use Rattle.monitor_calls.specs.Service.{Job}
 use Rattle.rv_step.specs.declared.faults.Fault.{Fault}
 use Rattle.rv_step.specs.declared.faults.Fault.TheVariants.{NoService}
-use Rattle.tag_memory.specs.Hart.{HartState, fresh_hart}
+use Rattle.tag_memory.specs.Hart.{HartState}
 use Rattle.tag_memory.specs.Maps.{hart_by, ram_by}
-use Rattle.tag_memory.specs.Ram.{RamState}
-use Rattle.turn_steps.specs.Effects.{Carried, effect_result}
 use Rattle.turn_steps.specs.Looks.{is_call, look_result}
-use Rattle.turn_steps.specs.Maps.{carry_by, look_by}
-use Rattle.turn_steps.specs.declared.effects.Done.{Done}
+use Rattle.turn_steps.specs.Maps.{look_by}
 use Rattle.turn_steps.specs.declared.effects.Done.TheVariants as done
 use Rattle.turn_steps.specs.declared.look.Look.{Look}
 use Rattle.turn_steps.specs.declared.stop.Stop.{Stop}
 use Rattle.turn_steps.specs.declared.stop.Stop.TheVariants as stop
-use Rattle.turn_steps.proofs.MapLemmas.{carried_out_by, looked_by}
+use Rattle.turn_steps.proofs.MapLemmas.{looked_by}
 use Rattle.engine_trait.specs.Accounts.{IsUncached}
-use Rattle.engine_trait.specs.Machine.{CoreState, Machine, has_no_stop, hart_at, is_ready_in, stop_at, stopping, with_hart}
+use Rattle.engine_trait.specs.Machine.{CoreState, Machine, has_no_stop, hart_at, is_ready_in, stop_at}
 use Rattle.engine_trait.specs.Maps.{core_by, machine_by, turned_by}
 use Rattle.engine_trait.specs.Mirrored.{IsMirrored, StepsMirrored}
 use Rattle.engine_trait.specs.Standing.{Standing, Stepped, idle, is_ready, is_running, made_step, step}
-use Rattle.engine_trait.specs.Turn.{Turned, rule_answer, attempt, carried_at, core_effected, core_ended, turn_effect, end_of, is_offered, service_look, or_fault, or_violation, preparation, settlement, turn_by, turn_of}
+use Rattle.engine_trait.specs.Turn.{Turned, rule_answer, attempt, turn_effect, end_of, is_offered, service_look, or_fault, or_violation, preparation, settlement, turn_by, turn_of}
 use Rattle.engine_trait.specs.declared.ends.Halt.{Halt}
 use Rattle.engine_trait.proofs.AccountLemmas.{accounted_halt}
 use Rattle.engine_trait.proofs.MapLemmas.{carried_at_by, core_effected_by, hart_at_by}

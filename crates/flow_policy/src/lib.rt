@@ -6,8 +6,6 @@ mod law;
 mod policy;
 mod table;
 mod tag;
-#[cfg(test)]
-mod tests;
 
 pub use law::{ignores_law, text_law};
 pub use policy::Flow;

@@ -8,8 +8,6 @@ mod policy;
 mod services;
 mod table;
 mod tag;
-#[cfg(test)]
-mod tests;
 
 pub use law::{ignores_law, malloc_law, text_law};
 pub use policy::Heap;

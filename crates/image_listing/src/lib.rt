@@ -2,7 +2,5 @@
 #![tactic(auto)]
 
 mod listing;
-#[cfg(test)]
-mod tests;
 
 pub use listing::list_image;

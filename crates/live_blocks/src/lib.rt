@@ -9,8 +9,6 @@
 
 mod block;
 mod live;
-#[cfg(test)]
-mod tests;
 mod walk;
 
 pub use block::Block;

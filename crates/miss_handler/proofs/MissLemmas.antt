@@ -8,8 +8,7 @@ use Rattle.pump_words.specs.Same.{TellsApart}
 use Rattle.policy_trait.specs.declared.rules.Outs.{Outs}
 use Rattle.policy_trait.specs.declared.rules.Refused.{Refused}
 use Rattle.engine_trait.specs.Accounts as accounts
-use Rattle.engine_trait.specs.Accounts.{Account, looked_up, rule_kept, seeing, with_tags}
-use Rattle.shared_terms.specs.Counts.{next_count}
+use Rattle.engine_trait.specs.Accounts.{Account, rule_kept, seeing, with_tags}
 use Rattle.rule_cache.specs.Named.{IsAccountOf, IsKeyBelow, key_by}
 use Rattle.rule_cache.specs.Stores.{Store, store_with}
 use Rattle.rule_cache.specs.declared.key.Key.{Key}

@@ -1,7 +1,7 @@
-//! Command lines that ask for a run or for a shell, and bad ones.
+//! Command lines, each with what it asks for.
 
 use policy_choice::Choice;
-use pump_line::{Task, WordsEnd, match_law, read_task};
+use pump_line::{Task, WordsEnd, read_task};
 use std::alloc::{AllocError, Global};
 use std::test::Fail;
 
@@ -311,118 +311,6 @@ fn each_line_asks_for_its_workload(rt: HostRuntime) -> Result<(), Fail> {
         let line = words_of(rt.alloc(), words)?;
         let read = read_task(rt.alloc(), &line);
         assert!(rt; is_load(read, want), "{words:?}");
-    }
-    Ok(())
-}
-
-fn is_bad(read: Result<Task<'_>, WordsEnd>) -> bool {
-    matches!(read, Err(WordsEnd::Bad))
-}
-
-/// Lines that are none, with words before their values.
-const BAD_LINES: [&[&str]; 37] = [
-    &[],
-    &["run"],
-    &["walk", "a.img"],
-    &["a.img"],
-    &["help"],
-    &["--help"],
-    &["--version"],
-    &["run", "a.img", "b.img"],
-    &["run", "a.img", "--help"],
-    &["run", "a.img", "--rules", "5"],
-    &["run", "a.img", "-p", "seal"],
-    &["run", "a.img", "--policy"],
-    &["run", "a.img", "--policy", "seal", "--policy", "seal"],
-    &["run", "a.img", "--policy", "seal,seal"],
-    &["run", "a.img", "--policy", "none,comp"],
-    &["run", "a.img", "--policy", "Seal"],
-    &["run", "a.img", "--policy", ""],
-    &["run", "a.img", "--turns", "0"],
-    &["run", "a.img", "--turns", "1000000001"],
-    &["run", "a.img", "--turns", "00000000007"],
-    &["run", "a.img", "--turns", "+5"],
-    &["run", "a.img", "--turns", "0x5"],
-    &["run", "a.img", "--turns", ""],
-    &["run", "a.img", "--cache", "65537"],
-    &["run", "a.img", "--cache", "5", "--cache", "5"],
-    &["run", "a.img", "--cache", ""],
-    &["run", "a.img", "--cache", "-1"],
-    &["run", "a.img", "--cache", "00000000005"],
-    &["run", "a.img", "--tags", "0"],
-    &["run", "a.img", "--tags", "1048577"],
-    &["run", "a.img", "--tags", "0x5"],
-    &["shell"],
-    &["shell", "a.img", "b.img"],
-    &["shell", "a.img", "--turns", "5"],
-    &["shell", "a.img", "--cache", "5", "--cache", "5"],
-    &["shell", "a.img", "--tags", "0"],
-    &["shell", "a.img", "--policy", "seal,seal"],
-];
-
-#[test]
-fn every_other_line_is_bad(rt: HostRuntime) -> Result<(), Fail> {
-    match_law();
-    for words in BAD_LINES {
-        let line = words_of(rt.alloc(), words)?;
-        assert!(rt; is_bad(read_task(rt.alloc(), &line)), "{words:?}");
-    }
-    Ok(())
-}
-
-/// Lines of `load` that are none.
-const BAD_LOAD_LINES: [&[&str]; 9] = [
-    &["load"],
-    &["load", "0"],
-    &["load", "1001"],
-    &["load", "00000000001"],
-    &["load", "1", "2"],
-    &["load", "-1"],
-    &["load", "two"],
-    &["load", "1", "--policy", "none"],
-    &["load", "1", "--turns", "5"],
-];
-
-#[test]
-fn every_other_line_of_load_is_bad(rt: HostRuntime) -> Result<(), Fail> {
-    for words in BAD_LOAD_LINES {
-        let line = words_of(rt.alloc(), words)?;
-        assert!(rt; is_bad(read_task(rt.alloc(), &line)), "{words:?}");
-    }
-    Ok(())
-}
-
-/// Lines of `asm` and `dis` that are none: an operand is missing, there is one too many, or an option.
-const BAD_FILE_LINES: [&[&str]; 22] = [
-    &["asm"],
-    &["asm", "a.s"],
-    &["asm", "a.s", "--"],
-    &["asm", "a.s", "a.img", "b.img"],
-    &["asm", "a.s", "a.img", "--policy", "none"],
-    &["asm", "--cache", "5", "a.s", "a.img"],
-    &["asm", "a.s", "--tags=5", "a.img"],
-    &["asm", "a.s", "a.img", "--turns", "5"],
-    &["asm", "a.s", "--image", "a.img"],
-    &["asm", "a.s", "a.img", "-o"],
-    &["asm", "a.s", "a.img", "--help"],
-    &["assemble", "a.s", "a.img"],
-    &["dis"],
-    &["dis", "--"],
-    &["dis", "a.img", "b.img"],
-    &["dis", "a.img", "--policy", "none"],
-    &["dis", "a.img", "--cache", "5"],
-    &["dis", "--tags", "5", "a.img"],
-    &["dis", "a.img", "--turns", "5"],
-    &["dis", "--image=a.img"],
-    &["dis", "a.img", "--help"],
-    &["Dis", "a.img"],
-];
-
-#[test]
-fn every_other_line_of_files_is_bad(rt: HostRuntime) -> Result<(), Fail> {
-    for words in BAD_FILE_LINES {
-        let line = words_of(rt.alloc(), words)?;
-        assert!(rt; is_bad(read_task(rt.alloc(), &line)), "{words:?}");
     }
     Ok(())
 }

@@ -36,7 +36,7 @@ heap_offers None k not = refl
 heap_offers (Some state) k not = not
 
 -- control flow offers none
-flow_offers_none : (part : Option (List (ℕ × ℕ))) (k : ℕ) → knows_in flow part k ≡ false
+pub flow_offers_none : (part : Option (List (ℕ × ℕ))) (k : ℕ) → knows_in flow part k ≡ false
 flow_offers_none None k = refl
 flow_offers_none (Some edges) k = refl
 

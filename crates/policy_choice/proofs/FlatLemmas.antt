@@ -47,7 +47,7 @@ module _ {A B C D E : Type 0} where
   abbrev nested : Result A E → Result B E → Result C E → Result D E → Result (A × (B × (C × D))) E
   nested a b c d = a >>= λ x. (b >>= λ y. (c >>= λ z. d >>= λ w. Ok (z, w)) >>= λ others. Ok (y, others)) >>= λ others. Ok (x, others)
 
-  abbrev in_a_row : Result A E → Result B E → Result C E → Result D E → Result (Four A B C D) E
+  abbrev pub in_a_row : Result A E → Result B E → Result C E → Result D E → Result (Four A B C D) E
   in_a_row a b c d = a >>= λ x. b >>= λ y. c >>= λ z. d >>= λ w. Ok (record { seal = x; comp = y; flow = z; heap = w })
 
   four_in_a_row : (a : Result A E) (b : Result B E) (c : Result C E) (d : Result D E) → ok_by parts_of (nested a b c d) ≡ in_a_row a b c d
@@ -205,6 +205,42 @@ module _ {T U V W : Type 0} (pc plain a0 : T × (U × (V × W))) where
   heap_plan : (p : Plan W) → plan_by parts_of (of_heap p) ≡ among (λ t all. record all { heap = t }) p
   heap_plan p = ap (λ x. record (among (λ t (all : Flat). record all { heap = t }) p) { answer = x }) (heap_answer p.answer)
 
+-- ---- a plan with one component of its tags
+
+-- a plan's tags changed twice
+answer_twice : {A B C : Type 0} (f : B → C) (g : A → B) (x : Option (Answer A)) → option_map (answer_by f) (option_map (answer_by g) x) ≡ option_map (answer_by (λ t. f (g t))) x
+answer_twice f g None = refl
+answer_twice f g (Some x) = refl
+
+plan_twice : {A B C : Type 0} (f : B → C) (g : A → B) (p : Plan A) → plan_by f (plan_by g p) ≡ plan_by (λ t. f (g t)) p
+plan_twice f g p = ap (λ x. record (plan_by (λ t. f (g t)) p) { answer = x }) (answer_twice f g p.answer)
+
+module _ {T U V W : Type 0} (p : Plan (T × (U × (V × W)))) where
+  -- as the pairs nest
+
+  pub comp_nested : plan_by (λ (t : T × (U × (V × W))). t.1.0) p ≡ plan_by left (plan_by right p)
+  comp_nested = sym (plan_twice left right p)
+
+  pub flow_nested : plan_by (λ (t : T × (U × (V × W))). t.1.1.0) p ≡ plan_by left (plan_by right (plan_by right p))
+  flow_nested = sym (ap (plan_by left) (plan_twice right right p) ∙ plan_twice left (λ (t : T × (U × (V × W))). t.1.1) p)
+
+  pub heap_nested : plan_by (λ (t : T × (U × (V × W))). t.1.1.1) p ≡ plan_by right (plan_by right (plan_by right p))
+  heap_nested = sym (ap (plan_by right) (plan_twice right right p) ∙ plan_twice right (λ (t : T × (U × (V × W))). t.1.1) p)
+
+  -- told flat
+
+  pub seal_told : plan_by (λ (t : Four T U V W). t.seal) (plan_by parts_of p) ≡ plan_by left p
+  seal_told = plan_twice (λ (t : Four T U V W). t.seal) parts_of p
+
+  pub comp_told : plan_by (λ (t : Four T U V W). t.comp) (plan_by parts_of p) ≡ plan_by (λ (t : T × (U × (V × W))). t.1.0) p
+  comp_told = plan_twice (λ (t : Four T U V W). t.comp) parts_of p
+
+  pub flow_told : plan_by (λ (t : Four T U V W). t.flow) (plan_by parts_of p) ≡ plan_by (λ (t : T × (U × (V × W))). t.1.1.0) p
+  flow_told = plan_twice (λ (t : Four T U V W). t.flow) parts_of p
+
+  pub heap_told : plan_by (λ (t : Four T U V W). t.heap) (plan_by parts_of p) ≡ plan_by (λ (t : T × (U × (V × W))). t.1.1.1) p
+  heap_told = plan_twice (λ (t : Four T U V W). t.heap) parts_of p
+
 -- ---- all four
 
 module _ {T U V W S R Q P : Type 0} (m0 : PolicyModel T S) (m1 : PolicyModel U R) (m2 : PolicyModel V Q) (m3 : PolicyModel W P) where
@@ -332,34 +368,8 @@ module _ {T U V W S R Q P : Type 0} (m0 : PolicyModel T S) (m1 : PolicyModel U R
 
   -- ---- words and commits
 
-  -- a plan's tags changed twice
-  answer_twice : {A B C : Type 0} (f : B → C) (g : A → B) (h : A → C) → ((t : A) → f (g t) ≡ h t) → (x : Option (Answer A))
-      → option_map (answer_by f) (option_map (answer_by g) x) ≡ option_map (answer_by h) x
-  answer_twice f g h same None = refl
-  answer_twice {C} f g h same (Some x) = ap (λ (t : C). Some (record { value = x.value; tag = t; rest = x.rest })) (same x.tag)
-
   abbrev Tag : Type 0
   Tag = T × (U × (V × W))
-
-  plan_of_seal : (p : Plan Tag) → plan_by (λ (t : Four T U V W). t.seal) (plan_by parts_of p) ≡ plan_by left p
-  plan_of_seal p = ap (λ x. record (plan_by left p) { answer = x }) (answer_twice (λ (t : Four T U V W). t.seal) parts_of left (λ t. refl) p.answer)
-
-  plan_of_comp : (p : Plan Tag) → plan_by (λ (t : Four T U V W). t.comp) (plan_by parts_of p) ≡ plan_by left (plan_by right p)
-  plan_of_comp p =
-      ap (λ x. record (plan_by left (plan_by right p)) { answer = x })
-      (answer_twice (λ (t : Four T U V W). t.comp) parts_of (λ t. t.1.0) (λ t. refl) p.answer ∙ sym (answer_twice left right (λ t. t.1.0) (λ t. refl) p.answer))
-
-  plan_of_flow : (p : Plan Tag) → plan_by (λ (t : Four T U V W). t.flow) (plan_by parts_of p) ≡ plan_by left (plan_by right (plan_by right p))
-  plan_of_flow p =
-      ap (λ x. record (plan_by left (plan_by right (plan_by right p))) { answer = x })
-      (answer_twice (λ (t : Four T U V W). t.flow) parts_of (λ t. t.1.1.0) (λ t. refl) p.answer
-      ∙ sym (ap (λ x. option_map (answer_by left) x) (answer_twice right right (λ t. t.1.1) (λ t. refl) p.answer) ∙ answer_twice left (λ t. t.1.1) (λ t. t.1.1.0) (λ t. refl) p.answer))
-
-  plan_of_heap : (p : Plan Tag) → plan_by (λ (t : Four T U V W). t.heap) (plan_by parts_of p) ≡ plan_by right (plan_by right (plan_by right p))
-  plan_of_heap p =
-      ap (λ x. record (plan_by right (plan_by right (plan_by right p))) { answer = x })
-      (answer_twice (λ (t : Four T U V W). t.heap) parts_of (λ t. t.1.1.1) (λ t. refl) p.answer
-      ∙ sym (ap (λ x. option_map (answer_by right) x) (answer_twice right right (λ t. t.1.1) (λ t. refl) p.answer) ∙ answer_twice right (λ t. t.1.1) (λ t. t.1.1.1) (λ t. refl) p.answer))
 
   -- a word of another's service, by both sides of a pair
   beside_pair : {A B X Y : Type 0} (m : PolicyModel A X) (n : PolicyModel B Y) (s : X × Y) (zero : Bool) (pc old : A × B)
@@ -419,15 +429,15 @@ module _ {T U V W S R Q P : Type 0} (m0 : PolicyModel T S) (m1 : PolicyModel U R
         (let r = m0.retag s.0 (plan_by left p) old.0 in
         ap (λ others. ok_by parts_of (r >>= λ x. others >>= λ y. Ok (x, y))) middle_beside
         ∙ (four_in_a_row r comp_beside flow_beside heap_beside
-        ∙ ap (λ q. in_a_row (m0.retag s.0 q old.0) comp_beside flow_beside heap_beside) (sym (plan_of_seal p))))
+        ∙ ap (λ q. in_a_row (m0.retag s.0 q old.0) comp_beside flow_beside heap_beside) (sym (seal_told p))))
         (let r = m1.retag s.1.0 (plan_by left (plan_by right p)) old.1.0 in
         ap (λ others. ok_by parts_of (seal_beside >>= λ x. (r >>= λ y. others >>= λ z. Ok (y, z)) >>= λ y. Ok (x, y))) inner_beside
         ∙ (four_in_a_row seal_beside r flow_beside heap_beside
-        ∙ ap (λ q. in_a_row seal_beside (m1.retag s.1.0 q old.1.0) flow_beside heap_beside) (sym (plan_of_comp p))))
+        ∙ ap (λ q. in_a_row seal_beside (m1.retag s.1.0 q old.1.0) flow_beside heap_beside) (sym (comp_told p ∙ comp_nested p))))
         (four_in_a_row seal_beside comp_beside (m2.retag s.1.1.0 (plan_by left (plan_by right (plan_by right p))) old.1.1.0) heap_beside
-        ∙ ap (λ q. in_a_row seal_beside comp_beside (m2.retag s.1.1.0 q old.1.1.0) heap_beside) (sym (plan_of_flow p)))
+        ∙ ap (λ q. in_a_row seal_beside comp_beside (m2.retag s.1.1.0 q old.1.1.0) heap_beside) (sym (flow_told p ∙ flow_nested p)))
         (four_in_a_row seal_beside comp_beside flow_beside (m3.retag s.1.1.1 (plan_by right (plan_by right (plan_by right p))) old.1.1.1)
-        ∙ ap (λ q. in_a_row seal_beside comp_beside flow_beside (m3.retag s.1.1.1 q old.1.1.1)) (sym (plan_of_heap p)))
+        ∙ ap (λ q. in_a_row seal_beside comp_beside flow_beside (m3.retag s.1.1.1 q old.1.1.1)) (sym (heap_told p ∙ heap_nested p)))
         a b c d one
 
     abbrev FlatState : Type 0
@@ -456,10 +466,10 @@ module _ {T U V W S R Q P : Type 0} (m0 : PolicyModel T S) (m1 : PolicyModel U R
 
     same_commit : (a b c d : Bool) → IsOneOf a b c d → IsSameCommit a b c d
     same_commit a b c d one = by_owner IsSameCommit
-        (ap (λ q. record (parts_of s) { seal = m0.commit s.0 q }) (sym (plan_of_seal p)))
-        (ap (λ q. record (parts_of s) { comp = m1.commit s.1.0 q }) (sym (plan_of_comp p)))
-        (ap (λ q. record (parts_of s) { flow = m2.commit s.1.1.0 q }) (sym (plan_of_flow p)))
-        (ap (λ q. record (parts_of s) { heap = m3.commit s.1.1.1 q }) (sym (plan_of_heap p)))
+        (ap (λ q. record (parts_of s) { seal = m0.commit s.0 q }) (sym (seal_told p)))
+        (ap (λ q. record (parts_of s) { comp = m1.commit s.1.0 q }) (sym (comp_told p ∙ comp_nested p)))
+        (ap (λ q. record (parts_of s) { flow = m2.commit s.1.1.0 q }) (sym (flow_told p ∙ flow_nested p)))
+        (ap (λ q. record (parts_of s) { heap = m3.commit s.1.1.1 q }) (sym (heap_told p ∙ heap_nested p)))
         a b c d one
 
   -- ---- all of it

@@ -1,5 +1,5 @@
 pub mod AllLemmas
-mod DelegateLemmas
 mod FlatLemmas
 pub mod NothingLemmas
 pub mod OwnerLemmas
+mod PartLemmas

@@ -1,17 +1,31 @@
--- The policy that is nothing mirrors all policies together where none is chosen.
-use Rattle.std.proofs.Common.{◌≡◌, ℕ, Bool, true, false, not, ◌&&◌, List, refl}
+-- Where no policy is chosen all are off, and the policy that is nothing mirrors all of them together.
+use Rattle.std.proofs.Common.{◌≡◌, ℕ, Bool, true, false, not, ◌&&◌, List, None, refl, sym, subst}
 use Rattle.image_format.specs.Picture.{Picture}
 use Rattle.heap_policy.specs.Heap.{HeapState}
 use Rattle.policy_trait.specs.Mirrors.{Mirrors}
 use Rattle.policy_product.specs.Nothing.{nothing, no_tag}
 use Rattle.policy_product.specs.declared.nothing.Nothing.{Nothing}
-use Rattle.policy_choice.specs.All.{all, choice_state, part_if}
+use Rattle.policy_choice.specs.All.{AllState, all, choice_state, part_if}
 use Rattle.policy_choice.specs.Choice.{is_none}
 use Rattle.policy_choice.specs.declared.choice.Choice.{Choice}
 
-mirrors_if : (seal comp flow on_heap : Bool) (count : ℕ) (edges : List (ℕ × ℕ)) (region : HeapState) (s : Nothing) → (not seal && not comp && not flow && not on_heap) ≡ true
-    → Mirrors no_tag all (part_if seal 0, (part_if comp count, (part_if flow edges, part_if on_heap region))) nothing s
-mirrors_if false false false false count edges region s none = record {
+-- all policies together with each of them off
+abbrev pub all_off : AllState
+all_off = (record { part = None }, (record { part = None }, (record { part = None }, record { part = None })))
+
+off_if : (seal comp flow on_heap : Bool) (count : ℕ) (edges : List (ℕ × ℕ)) (region : HeapState) → (not seal && not comp && not flow && not on_heap) ≡ true
+    → (part_if seal 0, (part_if comp count, (part_if flow edges, part_if on_heap region))) ≡ all_off
+off_if false false false false count edges region none = refl
+off_if true comp flow on_heap count edges region none = absurd (cc none)
+off_if false true flow on_heap count edges region none = absurd (cc none)
+off_if false false true on_heap count edges region none = absurd (cc none)
+off_if false false false true count edges region none = absurd (cc none)
+
+pub none_is_off : (choice : Choice) (g : Picture) → is_none choice ≡ true → choice_state choice g ≡ all_off
+none_is_off choice g none = off_if choice.seal choice.comp choice.flow choice.heap _ _ _ none
+
+mirrors_off : (s : Nothing) → Mirrors no_tag all all_off nothing s
+mirrors_off s = record {
   plain = refl;
   rule = λ g x. refl;
   offers_none = λ k. refl;
@@ -19,10 +33,6 @@ mirrors_if false false false false count edges region s none = record {
   start_pc = λ b. refl;
   start_word = λ b. refl;
 }
-mirrors_if true comp flow on_heap count edges region s none = absurd (cc none)
-mirrors_if false true flow on_heap count edges region s none = absurd (cc none)
-mirrors_if false false true on_heap count edges region s none = absurd (cc none)
-mirrors_if false false false true count edges region s none = absurd (cc none)
 
 pub nothing_mirrors : (choice : Choice) (g : Picture) (s : Nothing) → is_none choice ≡ true → Mirrors no_tag all (choice_state choice g) nothing s
-nothing_mirrors choice g s none = mirrors_if choice.seal choice.comp choice.flow choice.heap _ _ _ s none
+nothing_mirrors choice g s none = subst (λ (state : AllState). Mirrors no_tag all state nothing s) (sym (none_is_off choice g none)) (mirrors_off s)

@@ -1,11 +1,14 @@
 -- All policies together: their tags, their value and their meaning as one policy; and the chosen ones at an image's start.
-use Rattle.std.specs.Prelude.{ℕ, ◌+◌, max, Bool, ◌&&◌, List, Option, Some, None, map, if◌then◌else◌}
+use Rattle.std.specs.Prelude.{ℕ, ◌+◌, max, Bool, ◌&&◌, List, Option, Some, None, Result, map, if◌then◌else◌}
 use Rattle.std.specs.List.{fold}
 use Rattle.std.specs.Option.{option_eq}
 use Rattle.image_format.specs.Picture.{Picture}
 use Rattle.image_format.specs.declared.rows.CompartmentRange.{CompartmentRange}
 use Rattle.image_format.specs.declared.rows.Edge.{Edge}
 use Rattle.policy_trait.specs.Model.{PolicyModel}
+use Rattle.policy_trait.specs.declared.services.Args.{Args}
+use Rattle.policy_trait.specs.declared.services.Plan.{Plan}
+use Rattle.policy_trait.specs.declared.services.PlanEnd.{PlanEnd}
 use Rattle.sealing_policy.specs.Sealing.{sealing}
 use Rattle.sealing_policy.specs.contracts.tag.SealTagPartialEq.TheImpl as seal_tag
 use Rattle.sealing_policy.specs.declared.tag.SealTag.{SealTag}
@@ -22,7 +25,7 @@ use Rattle.policy_product.specs.Both.{both}
 use Rattle.policy_product.specs.Maybe.{maybe}
 use Rattle.policy_product.specs.declared.maybe.Maybe.{Maybe}
 use Rattle.policy_choice.specs.declared.choice.Choice.{Choice}
-use Rattle.policy_choice.specs.Flat.{Four, flat}
+use Rattle.policy_choice.specs.Flat.{Four, flat, flat_lent, owner_plan}
 
 abbrev pub AllTag : Type 0
 AllTag = Option SealTag × (Option CompartmentTag × (Option FlowTag × Option HeapTag))
@@ -68,5 +71,19 @@ choice_state choice g = (
 
 -- ---- the same, told flat
 
-abbrev pub flat_all : PolicyModel (Four (Option SealTag) (Option CompartmentTag) (Option FlowTag) (Option HeapTag)) (Four (Maybe ℕ) (Maybe ℕ) (Maybe (List (ℕ × ℕ))) (Maybe HeapState))
+abbrev pub TagParts : Type 0
+TagParts = Four (Option SealTag) (Option CompartmentTag) (Option FlowTag) (Option HeapTag)
+
+abbrev pub StateParts : Type 0
+StateParts = Four (Maybe ℕ) (Maybe ℕ) (Maybe (List (ℕ × ℕ))) (Maybe HeapState)
+
+abbrev pub flat_all : PolicyModel TagParts StateParts
 flat_all = flat (maybe sealing) (maybe compartments) (maybe flow) (maybe heap)
+
+-- each policy but the owner lends the arguments that the service uses
+abbrev pub all_lent : StateParts → ℕ → Args TagParts → Result (Unit {0}) PlanEnd
+all_lent s number a = flat_lent (maybe sealing) (maybe compartments) (maybe flow) (maybe heap) s number (flat_all.uses s number) a
+
+-- the plan of the owner, among the components of all
+abbrev pub all_owner_plan : StateParts → ℕ → Args TagParts → TagParts → Result (Plan TagParts) PlanEnd
+all_owner_plan = owner_plan (maybe sealing) (maybe compartments) (maybe flow) (maybe heap)

@@ -1,18 +1,24 @@
 //! All policies as one.
 
-ghost use Rattle.std.specs.Prelude.{◌≡◌, ◌≤◌, IfOk, map};
+ghost use Rattle.std.specs.Prelude.{◌≡◌, ◌+◌, ◌≤◌, ◌++◌, IfOk, IsTrue, Ok, Err, map};
 ghost use Rattle.heap_policy.specs.Heap.{heap};
-ghost use Rattle.policy_choice.specs.All.{all, choice_state, compartment_count, heap_of, pair_of, part_if};
+ghost use Rattle.policy_trait.specs.Maps.{args_by, ok_by, plan_by};
+ghost use Rattle.policy_trait.specs.Model.{CanPlan};
+ghost use Rattle.policy_choice.specs.All.{all, all_lent, all_owner_plan, choice_state, compartment_count, heap_of};
+ghost use Rattle.policy_choice.specs.All.{pair_of, part_if};
+ghost use Rattle.policy_choice.specs.Flat.{parts_of};
 
 use crate::choice::Choice;
+use crate::parts::{ignored_by_both, lend_to_others, show_before, word_tag};
 use crate::tag::{
-    AllTag, closed_outs, closed_plan, closed_tag, opened_arguments, opened_inputs, opened_plan,
+    AllTag, Comps, Flows, Heaps, Seals, comp_among, comp_inputs, comp_plan, flow_among,
+    flow_inputs, flow_plan, heap_among, heap_inputs, heap_plan, seal_among, seal_inputs, seal_plan,
 };
 use compartment_policy::Compartments;
 use flow_policy::Flow;
 use heap_policy::Heap;
 use image_format::{Edge, Image};
-use policy_product::{Both, Maybe};
+use policy_product::Maybe;
 use policy_trait::{Args, Birth, Ins, Mask, Outs, Part, Plan, PlanEnd, Policy, Refused};
 use pump_words::Line;
 use rv_decode::Group;
@@ -20,14 +26,14 @@ use sealing_policy::Sealing;
 use std::alloc::{AllocError, Global};
 use std::marker::{Model, PhantomData};
 
-/// The four policies in the order in which they are asked, each of them on or off.
-type Parts = Both<Maybe<Sealing>, Both<Maybe<Compartments>, Both<Maybe<Flow>, Maybe<Heap>>>>;
-
 /// All policies together, each of them on or off, in the order in which they are asked: sealing, compartments, control flow,
-/// heap safety; `T` is the type of their tags.
+/// heap safety; `T` is the type of their tags. Contracts see it as nested pairs.
 #[derive(Drop)]
 pub struct Together<T> {
-    parts: Parts,
+    seal: Maybe<Sealing>,
+    comp: Maybe<Compartments>,
+    flow: Maybe<Flow>,
+    heap: Maybe<Heap>,
     tags: PhantomData<T>,
 }
 
@@ -36,10 +42,10 @@ impl<T> Model for Together<T> {
 
     ghost Value = { AllState };
 
-    ghost view = { λ a. a.parts };
+    ghost view = { λ a. (a.seal, (a.comp, (a.flow, a.heap))) };
 }
 
-/// All policies together: a type of its own, so that what names it has no nest of types to prove.
+/// All policies together, with their tags: a type of its own, so that what names it has no nest of types to prove.
 pub type All = Together<AllTag>;
 
 /// How many compartments an image starts with: one more than the greatest owner, or 1.
@@ -108,11 +114,57 @@ pub fn choose(alloc: Global, choice: Choice, image: &Image) -> Result<All, Alloc
     let comp = part_if(choice.comp, Compartments::new(compartment_count(image)));
     let flow = flow_of(alloc, choice.flow, image)?;
     let heap = part_if(choice.heap, heap_of(alloc, image));
-    let parts = Both::new(seal, Both::new(comp, Both::new(flow, heap)));
     Ok(Together {
-        parts,
+        seal,
+        comp,
+        flow,
+        heap,
         tags: PhantomData,
     })
+}
+
+impl Together<AllTag> {
+    /// Whether each policy but the owner lends the arguments that the service uses; the policies are asked in order.
+    fn lent(&self, number: u32, arguments: &Args<AllTag>) -> Result<(), PlanEnd>
+        requires { IsTrue (all.knows self.now number) }
+        ensures { result ≡ all_lent (parts_of self.now) number
+            (args_by parts_of arguments.now) }
+    {
+        let uses = self.uses(number);
+        lend_to_others(&self.seal, number, uses, &arguments.map(&Seals))?;
+        lend_to_others(&self.comp, number, uses, &arguments.map(&Comps))?;
+        lend_to_others(&self.flow, number, uses, &arguments.map(&Flows))?;
+        lend_to_others(&self.heap, number, uses, &arguments.map(&Heaps))
+    }
+
+    /// The owner's plan of the service, among the components of all.
+    fn owner_plan(
+        &self,
+        number: u32,
+        arguments: &Args<AllTag>,
+        pc: AllTag,
+    ) -> Result<Plan<AllTag>, PlanEnd>
+        requires { CanPlan all self.now number arguments.now }
+        ensures { ok_by (plan_by parts_of) result ≡ all_owner_plan (parts_of self.now) number
+            (args_by parts_of arguments.now) (parts_of pc) }
+    {
+        let plain = self.plain();
+        let a0 = arguments.t0;
+        if self.seal.knows(number) {
+            let plan = self.seal.plan(number, &arguments.map(&Seals), pc.seal)?;
+            return Ok(seal_among(&plan, pc, plain, a0));
+        }
+        if self.comp.knows(number) {
+            let plan = self.comp.plan(number, &arguments.map(&Comps), pc.comp)?;
+            return Ok(comp_among(&plan, pc, plain, a0));
+        }
+        if self.flow.knows(number) {
+            let plan = self.flow.plan(number, &arguments.map(&Flows), pc.flow)?;
+            return Ok(flow_among(&plan, pc, plain, a0));
+        }
+        let plan = self.heap.plan(number, &arguments.map(&Heaps), pc.heap)?;
+        Ok(heap_among(&plan, pc, plain, a0))
+    }
 }
 
 impl Policy for Together<AllTag> {
@@ -128,30 +180,68 @@ impl Policy for Together<AllTag> {
     ghost longest = { 363 };
 
     fn plain(&self) -> AllTag {
-        AllTag::of(self.parts.plain())
+        AllTag {
+            seal: self.seal.plain(),
+            comp: self.comp.plain(),
+            flow: self.flow.plain(),
+            heap: self.heap.plain(),
+        }
     }
 
     #[inline(always)]
     fn rule(&self, group: Group, inputs: Ins<AllTag>) -> Result<Outs<AllTag>, Refused>
         ensures { result ≡ all.rule self.now group inputs }
     {
-        closed_outs(self.parts.rule(group, opened_inputs(&inputs)))
+        let seal = self.seal.rule(group, seal_inputs(&inputs))?;
+        let comp = self.comp.rule(group, comp_inputs(&inputs))?;
+        let flow = self.flow.rule(group, flow_inputs(&inputs))?;
+        let heap = self.heap.rule(group, heap_inputs(&inputs))?;
+        Ok(Outs {
+            pc: AllTag {
+                seal: seal.pc,
+                comp: comp.pc,
+                flow: flow.pc,
+                heap: heap.pc,
+            },
+            result: AllTag {
+                seal: seal.result,
+                comp: comp.result,
+                flow: flow.result,
+                heap: heap.result,
+            },
+        })
     }
 
     fn ignores(&self, group: Group) -> Mask {
-        self.parts.ignores(group)
+        let last = ignored_by_both(self.flow.ignores(group), self.heap.ignores(group));
+        let others = ignored_by_both(self.comp.ignores(group), last);
+        ignored_by_both(self.seal.ignores(group), others)
     }
 
     fn knows(&self, number: u32) -> bool {
-        self.parts.knows(number)
+        self.seal.knows(number)
+            || self.comp.knows(number)
+            || self.flow.knows(number)
+            || self.heap.knows(number)
     }
 
     fn uses(&self, number: u32) -> u8 {
-        self.parts.uses(number)
+        if self.seal.knows(number) {
+            self.seal.uses(number)
+        } else if self.comp.knows(number) {
+            self.comp.uses(number)
+        } else if self.flow.knows(number) {
+            self.flow.uses(number)
+        } else {
+            self.heap.uses(number)
+        }
     }
 
     fn lend(&self, tag: AllTag) -> Result<(), Part> {
-        self.parts.lend(tag.parts())
+        self.seal.lend(tag.seal)?;
+        self.comp.lend(tag.comp)?;
+        self.flow.lend(tag.flow)?;
+        self.heap.lend(tag.heap)
     }
 
     fn plan(
@@ -160,38 +250,87 @@ impl Policy for Together<AllTag> {
         arguments: &Args<AllTag>,
         pc: AllTag,
     ) -> Result<Plan<AllTag>, PlanEnd> {
-        let opened = opened_arguments(arguments);
-        closed_plan(self.parts.plan(number, &opened, pc.parts()))
+        self.lent(number, arguments)?;
+        self.owner_plan(number, arguments, pc)
     }
 
     fn retag(&self, plan: &Plan<AllTag>, old: AllTag) -> Result<AllTag, Refused> {
-        let opened = opened_plan(plan);
-        closed_tag(self.parts.retag(&opened, old.parts()))
+        let seal = word_tag(&self.seal, &seal_plan(plan), old.seal)?;
+        let comp = word_tag(&self.comp, &comp_plan(plan), old.comp)?;
+        let flow = word_tag(&self.flow, &flow_plan(plan), old.flow)?;
+        let heap = word_tag(&self.heap, &heap_plan(plan), old.heap)?;
+        Ok(AllTag {
+            seal,
+            comp,
+            flow,
+            heap,
+        })
     }
 
     fn wipe(&self, pc: AllTag, old: AllTag) -> Result<AllTag, Refused> {
-        closed_tag(self.parts.wipe(pc.parts(), old.parts()))
+        let seal = self.seal.wipe(pc.seal, old.seal)?;
+        let comp = self.comp.wipe(pc.comp, old.comp)?;
+        let flow = self.flow.wipe(pc.flow, old.flow)?;
+        let heap = self.heap.wipe(pc.heap, old.heap)?;
+        Ok(AllTag {
+            seal,
+            comp,
+            flow,
+            heap,
+        })
     }
 
     fn commit(&mut self, plan: &Plan<AllTag>) -> Result<(), AllocError> {
-        let opened = opened_plan(plan);
-        self.parts.commit(&opened)
+        if self.seal.knows(plan.service) {
+            self.seal.commit(&seal_plan(plan))
+        } else if self.comp.knows(plan.service) {
+            self.comp.commit(&comp_plan(plan))
+        } else if self.flow.knows(plan.service) {
+            self.flow.commit(&flow_plan(plan))
+        } else {
+            self.heap.commit(&heap_plan(plan))
+        }
     }
 
     fn start_pc(&self, birth: &Birth) -> AllTag {
-        AllTag::of(self.parts.start_pc(birth))
+        AllTag {
+            seal: self.seal.start_pc(birth),
+            comp: self.comp.start_pc(birth),
+            flow: self.flow.start_pc(birth),
+            heap: self.heap.start_pc(birth),
+        }
     }
 
     fn start_word(&self, birth: &Birth) -> AllTag {
-        AllTag::of(self.parts.start_word(birth))
+        AllTag {
+            seal: self.seal.start_word(birth),
+            comp: self.comp.start_word(birth),
+            flow: self.flow.start_word(birth),
+            heap: self.heap.start_word(birth),
+        }
     }
 
     fn show(&self, tag: AllTag, to: &mut Line) {
-        self.parts.show(tag.parts(), to)
+        let mut heap = Line::new();
+        self.heap.show(tag.heap, &mut heap);
+        let mut flow = Line::new();
+        show_before(&self.flow, tag.flow, &heap, &mut flow);
+        let mut comp = Line::new();
+        show_before(&self.comp, tag.comp, &flow, &mut comp);
+        show_before(&self.seal, tag.seal, &comp, to);
     }
 
     fn listed(&self, place: u32) -> Option<(u32, u32, u32)> {
-        self.parts.listed(place)
+        if let Some(block) = self.seal.listed(place) {
+            return Some(block);
+        }
+        if let Some(block) = self.comp.listed(place) {
+            return Some(block);
+        }
+        if let Some(block) = self.flow.listed(place) {
+            return Some(block);
+        }
+        self.heap.listed(place)
     }
 
     ghost lawful = { all_laws };

@@ -4,6 +4,7 @@
 mod all;
 mod choice;
 mod law;
+mod parts;
 mod tag;
 
 pub use all::{All, Together, choose};

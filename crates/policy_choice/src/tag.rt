@@ -1,11 +1,14 @@
 //! The tags of all policies together.
 
 ghost use Rattle.std.specs.Prelude.{◌≡◌};
+ghost use Rattle.policy_trait.specs.Maps.{ins_by, plan_by};
+ghost use Rattle.policy_choice.specs.Flat.{parts_of, plan_among};
 
+use crate::parts::rest_of;
 use compartment_policy::CompartmentTag;
 use flow_policy::FlowTag;
 use heap_policy::HeapTag;
-use policy_trait::{Args, Ins, Outs, Plan, PlanEnd, Refused, TagMap};
+use policy_trait::{Answer, Ins, Plan, TagMap};
 use pump_words::Same;
 use sealing_policy::SealTag;
 use std::marker::Model;
@@ -16,11 +19,13 @@ pub type PartTags = (
     (Option<CompartmentTag>, (Option<FlowTag>, Option<HeapTag>)),
 );
 
-/// A tag of all policies together. Contracts see it as the tags of the four. It is a type of its own, since a proof that
-/// meets nested pairs writes out what is known of each at every level.
+/// A tag of all policies together: a component for each, missing where the policy is off. Contracts see it as nested pairs.
 #[derive(Clone, Copy, PartialEq, Eq, PartialOrd, Ord, Hash)]
 pub struct AllTag {
-    tags: PartTags,
+    pub(crate) seal: Option<SealTag>,
+    pub(crate) comp: Option<CompartmentTag>,
+    pub(crate) flow: Option<FlowTag>,
+    pub(crate) heap: Option<HeapTag>,
 }
 
 impl Model for AllTag {
@@ -28,9 +33,9 @@ impl Model for AllTag {
 
     ghost Value = { AllTag };
 
-    ghost view = { λ t. t.tags };
+    ghost view = { λ t. (t.seal, (t.comp, (t.flow, t.heap))) };
 
-    ghost inverse = { λ v. record { tags = v } };
+    ghost inverse = { λ v. record { seal = v.0; comp = v.1.0; flow = v.1.1.0; heap = v.1.1.1 } };
 }
 
 impl AllTag {
@@ -38,14 +43,19 @@ impl AllTag {
     pub fn of(tags: PartTags) -> AllTag
         ensures { result ≡ tags }
     {
-        AllTag { tags }
+        AllTag {
+            seal: tags.0,
+            comp: tags.1.0,
+            flow: tags.1.1.0,
+            heap: tags.1.1.1,
+        }
     }
 
     /// The components of the tag.
     pub fn parts(self) -> PartTags
         ensures { result ≡ self }
     {
-        self.tags
+        (self.seal, (self.comp, (self.flow, self.heap)))
     }
 }
 
@@ -55,83 +65,278 @@ impl Same for AllTag {
     ghost same = { all_tell };
 }
 
-/// Each tag by its components.
-struct Opened;
+/// The component of sealing in each tag.
+pub(crate) struct Seals;
 
-impl TagMap for Opened {
+impl TagMap for Seals {
     type From = AllTag;
 
-    type To = PartTags;
+    type To = Option<SealTag>;
 
-    ghost image = { λ _ tag. tag };
+    ghost image = { λ _ tag. tag.0 };
 
-    fn image(&self, tag: AllTag) -> PartTags {
-        tag.tags
+    fn image(&self, tag: AllTag) -> Option<SealTag> {
+        tag.seal
     }
 }
 
-/// Each tag of these components.
-struct Closed;
-
-impl TagMap for Closed {
-    type From = PartTags;
-
-    type To = AllTag;
-
-    ghost image = { λ _ tags. tags };
-
-    fn image(&self, tags: PartTags) -> AllTag {
-        AllTag::of(tags)
+/// The inputs with the components of sealing.
+#[inline(always)]
+pub(crate) fn seal_inputs(inputs: &Ins<AllTag>) -> Ins<Option<SealTag>>
+    ensures { result ≡ ins_by (λ tag. tag.0) inputs.now }
+{
+    Ins {
+        pc: inputs.pc.seal,
+        ci: inputs.ci.seal,
+        t1: inputs.t1.seal,
+        t2: inputs.t2.seal,
+        tm: inputs.tm.seal,
     }
 }
 
-/// The inputs, with their tags as components.
-pub(crate) fn opened_inputs(inputs: &Ins<AllTag>) -> Ins<PartTags>
-    ensures { result ≡ inputs.now }
+/// The plan with the components of sealing.
+pub(crate) fn seal_plan(plan: &Plan<AllTag>) -> Plan<Option<SealTag>>
+    ensures { result ≡ plan_by (λ tag. tag.0) plan.now }
 {
-    inputs.map(&Opened)
+    plan.map(&Seals)
 }
 
-/// The arguments, with their tags as components.
-pub(crate) fn opened_arguments(arguments: &Args<AllTag>) -> Args<PartTags>
-    ensures { result ≡ arguments.now }
+/// A plan of sealing among the components of all.
+pub(crate) fn seal_among(
+    plan: &Plan<Option<SealTag>>,
+    pc: AllTag,
+    plain: AllTag,
+    a0: AllTag,
+) -> Plan<AllTag>
+    ensures { plan_by parts_of result ≡ plan_among (λ t all. record all { seal = t })
+        (parts_of pc) (parts_of plain) (parts_of a0) plan.now }
 {
-    arguments.map(&Opened)
-}
-
-/// The plan, with its tags as components.
-pub(crate) fn opened_plan(plan: &Plan<AllTag>) -> Plan<PartTags>
-    ensures { result ≡ plan.now }
-{
-    plan.map(&Opened)
-}
-
-/// What a rule gives, of components, as tags.
-pub(crate) fn closed_outs(outs: Result<Outs<PartTags>, Refused>) -> Result<Outs<AllTag>, Refused>
-    ensures { result ≡ outs }
-{
-    match outs {
-        Ok(outs) => Ok(outs.map(&Closed)),
-        Err(refused) => Err(refused),
+    Plan {
+        service: plan.service,
+        pc: AllTag {
+            seal: plan.pc,
+            ..pc
+        },
+        note: plan.note,
+        range: plan.range,
+        zero: plan.zero,
+        answer: match &plan.answer {
+            None => None,
+            Some(answer) => Some(Answer {
+                value: answer.value,
+                tag: AllTag {
+                    seal: answer.tag,
+                    ..rest_of(answer.rest, plain, a0)
+                },
+                rest: answer.rest,
+            }),
+        },
     }
 }
 
-/// What a service plans, of components, as tags.
-pub(crate) fn closed_plan(plan: Result<Plan<PartTags>, PlanEnd>) -> Result<Plan<AllTag>, PlanEnd>
-    ensures { result ≡ plan }
-{
-    match plan {
-        Ok(plan) => Ok(plan.map(&Closed)),
-        Err(end) => Err(end),
+/// The component of compartments in each tag.
+pub(crate) struct Comps;
+
+impl TagMap for Comps {
+    type From = AllTag;
+
+    type To = Option<CompartmentTag>;
+
+    ghost image = { λ _ tag. tag.1.0 };
+
+    fn image(&self, tag: AllTag) -> Option<CompartmentTag> {
+        tag.comp
     }
 }
 
-/// The new tag of a word, of components, as a tag.
-pub(crate) fn closed_tag(tags: Result<PartTags, Refused>) -> Result<AllTag, Refused>
-    ensures { result ≡ tags }
+/// The inputs with the components of compartments.
+#[inline(always)]
+pub(crate) fn comp_inputs(inputs: &Ins<AllTag>) -> Ins<Option<CompartmentTag>>
+    ensures { result ≡ ins_by (λ tag. tag.1.0) inputs.now }
 {
-    match tags {
-        Ok(tags) => Ok(AllTag::of(tags)),
-        Err(refused) => Err(refused),
+    Ins {
+        pc: inputs.pc.comp,
+        ci: inputs.ci.comp,
+        t1: inputs.t1.comp,
+        t2: inputs.t2.comp,
+        tm: inputs.tm.comp,
+    }
+}
+
+/// The plan with the components of compartments.
+pub(crate) fn comp_plan(plan: &Plan<AllTag>) -> Plan<Option<CompartmentTag>>
+    ensures { result ≡ plan_by (λ tag. tag.1.0) plan.now }
+{
+    plan.map(&Comps)
+}
+
+/// A plan of compartments among the components of all.
+pub(crate) fn comp_among(
+    plan: &Plan<Option<CompartmentTag>>,
+    pc: AllTag,
+    plain: AllTag,
+    a0: AllTag,
+) -> Plan<AllTag>
+    ensures { plan_by parts_of result ≡ plan_among (λ t all. record all { comp = t })
+        (parts_of pc) (parts_of plain) (parts_of a0) plan.now }
+{
+    Plan {
+        service: plan.service,
+        pc: AllTag {
+            comp: plan.pc,
+            ..pc
+        },
+        note: plan.note,
+        range: plan.range,
+        zero: plan.zero,
+        answer: match &plan.answer {
+            None => None,
+            Some(answer) => Some(Answer {
+                value: answer.value,
+                tag: AllTag {
+                    comp: answer.tag,
+                    ..rest_of(answer.rest, plain, a0)
+                },
+                rest: answer.rest,
+            }),
+        },
+    }
+}
+
+/// The component of control flow in each tag.
+pub(crate) struct Flows;
+
+impl TagMap for Flows {
+    type From = AllTag;
+
+    type To = Option<FlowTag>;
+
+    ghost image = { λ _ tag. tag.1.1.0 };
+
+    fn image(&self, tag: AllTag) -> Option<FlowTag> {
+        tag.flow
+    }
+}
+
+/// The inputs with the components of control flow.
+#[inline(always)]
+pub(crate) fn flow_inputs(inputs: &Ins<AllTag>) -> Ins<Option<FlowTag>>
+    ensures { result ≡ ins_by (λ tag. tag.1.1.0) inputs.now }
+{
+    Ins {
+        pc: inputs.pc.flow,
+        ci: inputs.ci.flow,
+        t1: inputs.t1.flow,
+        t2: inputs.t2.flow,
+        tm: inputs.tm.flow,
+    }
+}
+
+/// The plan with the components of control flow.
+pub(crate) fn flow_plan(plan: &Plan<AllTag>) -> Plan<Option<FlowTag>>
+    ensures { result ≡ plan_by (λ tag. tag.1.1.0) plan.now }
+{
+    plan.map(&Flows)
+}
+
+/// A plan of control flow among the components of all.
+pub(crate) fn flow_among(
+    plan: &Plan<Option<FlowTag>>,
+    pc: AllTag,
+    plain: AllTag,
+    a0: AllTag,
+) -> Plan<AllTag>
+    ensures { plan_by parts_of result ≡ plan_among (λ t all. record all { flow = t })
+        (parts_of pc) (parts_of plain) (parts_of a0) plan.now }
+{
+    Plan {
+        service: plan.service,
+        pc: AllTag {
+            flow: plan.pc,
+            ..pc
+        },
+        note: plan.note,
+        range: plan.range,
+        zero: plan.zero,
+        answer: match &plan.answer {
+            None => None,
+            Some(answer) => Some(Answer {
+                value: answer.value,
+                tag: AllTag {
+                    flow: answer.tag,
+                    ..rest_of(answer.rest, plain, a0)
+                },
+                rest: answer.rest,
+            }),
+        },
+    }
+}
+
+/// The component of heap safety in each tag.
+pub(crate) struct Heaps;
+
+impl TagMap for Heaps {
+    type From = AllTag;
+
+    type To = Option<HeapTag>;
+
+    ghost image = { λ _ tag. tag.1.1.1 };
+
+    fn image(&self, tag: AllTag) -> Option<HeapTag> {
+        tag.heap
+    }
+}
+
+/// The inputs with the components of heap safety.
+#[inline(always)]
+pub(crate) fn heap_inputs(inputs: &Ins<AllTag>) -> Ins<Option<HeapTag>>
+    ensures { result ≡ ins_by (λ tag. tag.1.1.1) inputs.now }
+{
+    Ins {
+        pc: inputs.pc.heap,
+        ci: inputs.ci.heap,
+        t1: inputs.t1.heap,
+        t2: inputs.t2.heap,
+        tm: inputs.tm.heap,
+    }
+}
+
+/// The plan with the components of heap safety.
+pub(crate) fn heap_plan(plan: &Plan<AllTag>) -> Plan<Option<HeapTag>>
+    ensures { result ≡ plan_by (λ tag. tag.1.1.1) plan.now }
+{
+    plan.map(&Heaps)
+}
+
+/// A plan of heap safety among the components of all.
+pub(crate) fn heap_among(
+    plan: &Plan<Option<HeapTag>>,
+    pc: AllTag,
+    plain: AllTag,
+    a0: AllTag,
+) -> Plan<AllTag>
+    ensures { plan_by parts_of result ≡ plan_among (λ t all. record all { heap = t })
+        (parts_of pc) (parts_of plain) (parts_of a0) plan.now }
+{
+    Plan {
+        service: plan.service,
+        pc: AllTag {
+            heap: plan.pc,
+            ..pc
+        },
+        note: plan.note,
+        range: plan.range,
+        zero: plan.zero,
+        answer: match &plan.answer {
+            None => None,
+            Some(answer) => Some(Answer {
+                value: answer.value,
+                tag: AllTag {
+                    heap: answer.tag,
+                    ..rest_of(answer.rest, plain, a0)
+                },
+                rest: answer.rest,
+            }),
+        },
     }
 }

@@ -11,8 +11,6 @@ mod policy;
 mod rules;
 mod services;
 mod sets;
-#[cfg(test)]
-mod tests;
 
 pub use birth::Birth;
 pub use maps::TagMap;

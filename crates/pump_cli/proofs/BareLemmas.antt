@@ -11,9 +11,9 @@ use Rattle.policy_product.specs.Nothing.{nothing, no_tag}
 use Rattle.rounds.specs.Course.{Course, rounds}
 use Rattle.rounds.specs.Same.{ShowsSame}
 use Rattle.rounds.proofs.MirrorLemmas.{rounds_same}
-use Rattle.tag_loader.specs.Loads.{bare_start_of, start_of}
+use Rattle.pump_loader.specs.PlainLoads.{bare_start_of, start_of}
 use Rattle.pump_loader.specs.Loads.{cached_start_of}
-use Rattle.tag_loader.proofs.BareLemmas.{bare_start_mirrors}
+use Rattle.pump_loader.proofs.BareLemmas.{bare_start_mirrors}
 use Rattle.pump_line.specs.Task.{RunTask}
 use Rattle.pump_cli.specs.Endings.{last_pieces, outcome_of_course, status_of}
 use Rattle.pump_cli.specs.Program.{outcome_of_run, standing_at_start}

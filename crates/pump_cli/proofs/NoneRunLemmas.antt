@@ -14,7 +14,7 @@ use Rattle.engine_trait.specs.Accounts.{Account, plain_account, with_tags}
 use Rattle.engine_trait.specs.Machine.{Machine}
 use Rattle.rounds.specs.Course.{rounds}
 use Rattle.rounds.specs.Same.{ShowsSame}
-use Rattle.tag_loader.specs.Loads.{start_of}
+use Rattle.pump_loader.specs.PlainLoads.{start_of}
 use Rattle.pump_loader.specs.Loads.{cached_start_of}
 use Rattle.tag_loader.specs.Start.{start_hart, start_harts, start_machine, start_tag, start_tags}
 use Rattle.word_loader.specs.CachedStart.{first_tags, pc_tags}

@@ -9,7 +9,7 @@ use Rattle.engine_trait.specs.declared.ends.Halt.{Halt}
 use Rattle.engine_trait.specs.declared.ends.Halt.TheVariants as halt
 use Rattle.engine_trait.proofs.AccountLemmas.{keeps_some}
 use Rattle.rounds.specs.Course.{Course, next_turn, rounds, stays}
-use Rattle.tag_loader.specs.Loads.{start_of}
+use Rattle.pump_loader.specs.PlainLoads.{start_of}
 use Rattle.pump_loader.specs.Loads.{cached_start_of}
 use Rattle.pump_line.specs.Task.{RunTask}
 use Rattle.pump_cli.specs.Endings.{last_pieces, out_at_start, outcome_of_course}

@@ -14,7 +14,7 @@ use Rattle.engine_trait.specs.Accounts.{counts_of, is_over}
 use Rattle.engine_trait.specs.Standing.{Standing}
 use Rattle.engine_trait.specs.declared.ends.Counts.{Counts}
 use Rattle.rounds.specs.Course.{Course, hart_stops, rounds}
-use Rattle.tag_loader.specs.Loads.{start_of}
+use Rattle.pump_loader.specs.PlainLoads.{start_of}
 use Rattle.pump_loader.specs.Loads.{cached_start_of}
 use Rattle.pump_line.specs.Task.{LoadTask}
 use Rattle.pump_cli.specs.Codes.{IsOfRun, code_of}

@@ -10,7 +10,7 @@ use Rattle.engine_trait.specs.declared.ends.Halt.TheVariants as halt
 use Rattle.policy_choice.specs.All.{AllState, AllTag, all, all_eq}
 use Rattle.policy_choice.specs.declared.choice.Choice.{Choice}
 use Rattle.rounds.specs.Course.{Course, hart_stops, rounds}
-use Rattle.tag_loader.specs.Loads.{start_of}
+use Rattle.pump_loader.specs.PlainLoads.{start_of}
 use Rattle.pump_loader.specs.Loads.{cached_start_of}
 use Rattle.pump_shell.specs.Told.{Told, told_of}
 use Rattle.pump_shell.specs.declared.ends.SessionEnd.{SessionEnd}

@@ -16,9 +16,8 @@ use engine_trait::{Feed, LoadEnd, Loader};
 use host_io::Sink;
 use image_format::Image;
 use pump_line::RunTask;
-use pump_loader::PumpLoad;
+use pump_loader::{BareLoad, PlainLoad, PumpLoad};
 use std::alloc::Global;
-use tag_loader::{BareLoad, PlainLoad};
 
 /// Runs what a loader starts, on these bytes of input; a start that needs too many tag words makes no turn. It stays a call,
 /// so that each kind of engine has a loop of its own.

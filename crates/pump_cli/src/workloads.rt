@@ -26,11 +26,10 @@ use host_io::{Sink, SureSink};
 use image_format::Image;
 use policy_choice::Choice;
 use pump_line::LoadTask;
-use pump_loader::PumpLoad;
+use pump_loader::{PlainLoad, PumpLoad};
 use pump_words::{Line, write_text};
 use rounds::{make_rounds, stops_of};
 use std::alloc::Global;
-use tag_loader::PlainLoad;
 use tag_text::write_number;
 use workload::write_workload;
 

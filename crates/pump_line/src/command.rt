@@ -1,55 +1,129 @@
 //! The command line as `clap` takes it.
 
-ghost use Rattle.std.specs.Prelude.{◌≡◌, IfOk};
-ghost use Rattle.clap.specs.Words.{app_of};
-ghost use Rattle.pump_line.specs.Leaf.{IsLeaf, leaf_rules};
+ghost use Rattle.std.specs.Prelude.{◌≡◌, false, codes, map, IfOk};
+ghost use Rattle.clap.specs.Words.{app_of, rule_of, with_subcommand};
+ghost use Rattle.pump_line.specs.Leaf.{IsLeaf, argument_rule, bare_app, leaf_shape, with_leaves};
 ghost use Rattle.pump_line.specs.Line.{pump_app};
 
 use clap::{Arg, Command};
 use std::alloc::{AllocError, Global};
 
-/// The subcommand with this name, these operands, each of which has to stand on the line, and these options with a value.
-fn leaf_command<'a>(
-    alloc: Global,
+/// An argument of a subcommand, with its name.
+enum Argument<'a> {
+    /// It has no dash, and has to stand on the line.
+    Operand(&'a str),
+    /// It is an option with a value.
+    OptionValue(&'a str),
+}
+
+/// A subcommand.
+struct Leaf<'a> {
+    /// Its name.
     name: &'a str,
-    operands: &[&'a str],
-    options: &[&'a str],
-) -> Result<Command<'a>, AllocError>
-    ensures { IfOk result (λ c. IsLeaf c name.entry.now (leaf_rules operands.now options.now)) }
+    /// Its arguments, the operands in their order.
+    arguments: &'a [Argument<'a>],
+}
+
+/// The subcommands of `pump`.
+const LEAVES: [Leaf<'static>; 5] = [
+    Leaf {
+        name: "run",
+        arguments: &[
+            Argument::Operand("image"),
+            Argument::OptionValue("policy"),
+            Argument::OptionValue("cache"),
+            Argument::OptionValue("tags"),
+            Argument::OptionValue("turns"),
+        ],
+    },
+    Leaf {
+        name: "shell",
+        arguments: &[
+            Argument::Operand("image"),
+            Argument::OptionValue("policy"),
+            Argument::OptionValue("cache"),
+            Argument::OptionValue("tags"),
+        ],
+    },
+    Leaf {
+        name: "asm",
+        arguments: &[Argument::Operand("source"), Argument::Operand("image")],
+    },
+    Leaf {
+        name: "dis",
+        arguments: &[Argument::Operand("image")],
+    },
+    Leaf {
+        name: "load",
+        arguments: &[
+            Argument::Operand("count"),
+            Argument::OptionValue("cache"),
+            Argument::OptionValue("tags"),
+        ],
+    },
+];
+
+/// The argument as `clap` takes it.
+#[tactic(auto, using(crate::proofs::CommandLemmas::operand_made, crate::proofs::CommandLemmas::option_made))]
+fn argument_of<'a>(alloc: Global, argument: &Argument<'a>) -> Arg<'a>
+    ensures rule { rule_of result ≡ argument_rule argument.now }
+    ensures local { result.global ≡ false }
 {
-    let mut command = Command::new(alloc, name);
-    for operand_name in operands {
-        let operand = Arg::new(alloc, *operand_name).required(true);
-        command = command.arg(operand)?;
+    match argument {
+        Argument::Operand(name) => Arg::new(alloc, *name).required(true),
+        Argument::OptionValue(name) => Arg::new(alloc, *name).long(*name),
     }
-    for option_name in options {
-        let option = Arg::new(alloc, *option_name).long(*option_name);
-        command = command.arg(option)?;
+}
+
+/// The subcommand as `clap` takes it.
+fn leaf_command<'a>(alloc: Global, leaf: &Leaf<'a>) -> Result<Command<'a>, AllocError>
+    ensures { IfOk result (λ c. IsLeaf c leaf.now.name.now (map argument_rule leaf.now.arguments.now)) }
+{
+    let mut command = Command::new(alloc, leaf.name);
+    for argument in leaf.arguments {
+        command = command.arg(argument_of(alloc, argument))?;
     }
     Ok(command)
+}
+
+/// The command line with one subcommand more.
+fn with_leaf<'a>(
+    alloc: Global,
+    command: Command<'a>,
+    leaf: &Leaf<'a>,
+) -> Result<Command<'a>, AllocError>
+    ensures { IfOk result (λ c. app_of c ≡ with_subcommand (app_of command.entry) (leaf_shape leaf.now)) }
+{
+    command.subcommand(leaf_command(alloc, leaf)?)
+}
+
+/// The command line with these subcommands more.
+fn with_leaves<'a>(
+    alloc: Global,
+    mut command: Command<'a>,
+    leaves: &[Leaf<'a>],
+) -> Result<Command<'a>, AllocError>
+    ensures { IfOk result (λ c. app_of c ≡ with_leaves (app_of command.entry) leaves.now) }
+{
+    for leaf in leaves {
+        command = with_leaf(alloc, command, leaf)?;
+    }
+    Ok(command)
+}
+
+/// The command line without its subcommands, one of which has to stand on it; there is no help.
+fn bare_command<'a>(alloc: Global) -> Command<'a>
+    ensures { app_of result ≡ bare_app (codes "pump") }
+{
+    Command::new(alloc, "pump")
+        .disable_help_flag(true)
+        .disable_help_subcommand(true)
+        .subcommand_required(true)
 }
 
 /// The command line of `pump`.
 pub(crate) fn pump_command<'a>(alloc: Global) -> Result<Command<'a>, AllocError>
     ensures { IfOk result (λ c. app_of c ≡ pump_app) }
 {
-    let run_leaf = leaf_command(
-        alloc,
-        "run",
-        &["image"],
-        &["policy", "cache", "tags", "turns"],
-    )?;
-    let shell_leaf = leaf_command(alloc, "shell", &["image"], &["policy", "cache", "tags"])?;
-    let asm_leaf = leaf_command(alloc, "asm", &["source", "image"], &[])?;
-    let dis_leaf = leaf_command(alloc, "dis", &["image"], &[])?;
-    let load_leaf = leaf_command(alloc, "load", &["count"], &["cache", "tags"])?;
-    let pump = Command::new(alloc, "pump")
-        .disable_help_flag(true)
-        .disable_help_subcommand(true)
-        .subcommand_required(true);
-    pump.subcommand(run_leaf)?
-        .subcommand(shell_leaf)?
-        .subcommand(asm_leaf)?
-        .subcommand(dis_leaf)?
-        .subcommand(load_leaf)
+    with_leaves(alloc, bare_command(alloc), &LEAVES)
 }

@@ -4,7 +4,7 @@ use Rattle.image_format.specs.Picture.{Picture}
 use Rattle.policy_choice.specs.All.{AllState, AllTag}
 use Rattle.engine_trait.specs.Standing.{Standing}
 use Rattle.engine_trait.proofs.AccountLemmas.{keeps_some}
-use Rattle.tag_loader.specs.Loads.{start_of}
+use Rattle.pump_loader.specs.PlainLoads.{start_of}
 use Rattle.pump_loader.specs.Loads.{cached_start_of}
 use Rattle.pump_shell.specs.Told.{start_of_setup}
 use Rattle.pump_shell.specs.declared.setup.Setup.{Setup}

@@ -6,7 +6,7 @@ use Rattle.policy_trait.specs.Model.{PolicyModel}
 use Rattle.policy_choice.specs.All.{AllState, AllTag, all, all_eq}
 use Rattle.engine_trait.specs.Accounts.{is_over}
 use Rattle.engine_trait.specs.Standing.{Standing}
-use Rattle.tag_loader.specs.Loads.{start_of}
+use Rattle.pump_loader.specs.PlainLoads.{start_of}
 use Rattle.pump_loader.specs.Loads.{cached_start_of}
 use Rattle.shell_run.specs.Session.{fresh}
 use Rattle.shell_script.specs.Shell.{Shell, shell_of}

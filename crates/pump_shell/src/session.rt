@@ -12,11 +12,10 @@ use crate::setup::Setup;
 use engine_trait::{LoadEnd, Loader};
 use host_io::{Sink, Source};
 use image_format::Image;
-use pump_loader::PumpLoad;
+use pump_loader::{PlainLoad, PumpLoad};
 use shell_run::Session;
 use shell_script::obey_input;
 use std::alloc::Global;
-use tag_loader::PlainLoad;
 
 /// A session from the start that a loader makes. It stays a call, so that each kind of engine has a loop of its own.
 #[inline(never)]

@@ -5,8 +5,6 @@ mod numbers;
 mod parts;
 mod same;
 mod signs;
-#[cfg(test)]
-mod tests;
 mod texts;
 
 pub use numbers::read_number;

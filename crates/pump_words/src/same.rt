@@ -42,27 +42,3 @@ pub fn is_same<T: Same>(left: &T, right: &T) -> bool
 {
     *left == *right
 }
-
-#[cfg(test)]
-mod tests {
-    use super::*;
-
-    #[derive(Clone, Copy, PartialEq, Eq, PartialOrd, Ord, Hash)]
-    enum Tag {
-        Data,
-        Key(u32),
-        Sealed { key: u32, by: Option<u32> },
-    }
-
-    impl Same for Tag {
-        ghost use Rattle.std.proofs.Common.{rules};
-
-        ghost same = { Prim.search rules };
-    }
-
-    #[test]
-    fn an_enum_is_same(rt: HostRuntime) {
-        assert!(rt; is_same(&Some(Tag::Key(3)), &Some(Tag::Key(3))));
-        assert!(rt; !is_same(&(Tag::Data, 1u32), &(Tag::Data, 2u32)));
-    }
-}

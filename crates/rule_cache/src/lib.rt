@@ -7,8 +7,6 @@ mod hash;
 mod key;
 mod law;
 mod store;
-#[cfg(test)]
-mod tests;
 
 pub use cache::RuleCache;
 pub use key::{InWords, Key, OutWords};

@@ -10,8 +10,6 @@ mod groups;
 mod instructions;
 pub mod laws;
 mod places;
-#[cfg(test)]
-mod tests;
 
 pub use decoding::decode;
 pub use encoding::encode;

@@ -6,8 +6,6 @@ mod checks;
 mod effects;
 mod executing;
 mod faults;
-#[cfg(test)]
-mod tests;
 
 pub use accesses::{Access, Width, loaded, stored};
 pub use checks::check;

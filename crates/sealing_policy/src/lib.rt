@@ -7,8 +7,6 @@ mod policy;
 mod services;
 mod table;
 mod tag;
-#[cfg(test)]
-mod tests;
 
 pub use law::ignores_law;
 pub use policy::Sealing;

@@ -12,7 +12,7 @@ use crate::session::Session;
 use crate::texts::{put_pc, put_ready, put_refusal, put_stats};
 use engine_trait::{Engine, Loader};
 use host_io::Sink;
-use shell_turns::{ObeyEnd, put_stop};
+use shell_turns::{ObeyEnd, put_stop_line};
 
 /// How many registers a hart has.
 const REGISTERS: u32 = 32;
@@ -127,7 +127,7 @@ impl<L: Loader> Session<L> {
         }
         match self.engine.stop(h) {
             None => put_ready(h, out),
-            Some(why) => put_stop(h, why, out),
+            Some(why) => put_stop_line(h, why, out),
         }
     }
 

@@ -1,7 +1,7 @@
 -- The bytes of a stream one after another, and the lines that end within them.
-use Rattle.std.proofs.Common.{◌≡◌, ℕ, suc, ◌+◌, ◌<◌, List, [], ◌∷◌, ◌++◌, drop, get_or, length, take, refl, ap, sym, ◌∙◌, arith}
-use Rattle.std.proofs.Math.Seq.{take-suc}
+use Rattle.std.proofs.Common.{◌≡◌, ℕ, ◌+◌, ◌<◌, List, [], ◌∷◌, ◌++◌, drop, get_or, length, take, refl, ap, sym, ◌∙◌}
 use Rattle.std.proofs.lemmas.List.{take-append-drop}
+use Rattle.shared_terms.proofs.ListLemmas.{take_next}
 use Rattle.shell_lang.specs.Stream.{answers_along, byte_answer, line_after, line_along, onto_answers}
 use Rattle.shell_lang.specs.Words.{Text}
 use Rattle.shell_lang.proofs.StreamLemmas.{answers_in_pieces, line_in_pieces}
@@ -29,8 +29,7 @@ module _ (line : Text) (bytes : List ℕ) (k d byte : ℕ) (below : k < length b
 
   next_is : take (k + 1) bytes ≡ front ++ byte ∷ []
   next_is =
-      ap (λ n. take n bytes) (let e : k + 1 ≡ suc k = omega arith in e) ∙ take-suc bytes k d below
-      ∙ ap (λ next. front ++ next ∷ []) (sym is)
+      take_next bytes k d below ∙ ap (λ next. front ++ next ∷ []) (sym is)
 
   pub line_next : line_along line (take (k + 1) bytes) ≡ line_after (line_along line front) byte
   line_next = ap (line_along line) next_is ∙ line_in_pieces line front (byte ∷ []) ∙ line_of_one (line_along line front) byte

@@ -11,5 +11,5 @@ mod turning;
 pub use ends::ObeyEnd;
 pub use law::turns_law;
 pub use order::Order;
-pub use telling::{put_line, put_stop};
+pub use telling::{put_line, put_stop_line};
 pub use turning::make_turns;

@@ -49,7 +49,7 @@ fn put_byte<K: Sink>(byte: u8, out: &mut K) -> Result<(), ObeyEnd>
 
 /// Puts the line of the stop of hart `h`.
 #[tactic(auto, using(crate::proofs::PutLemmas::put_answered, crate::proofs::PutLemmas::cause_answered))]
-pub fn put_stop<K: Sink>(h: u32, why: Stop, out: &mut K) -> Result<(), ObeyEnd>
+pub fn put_stop_line<K: Sink>(h: u32, why: Stop, out: &mut K) -> Result<(), ObeyEnd>
     ensures puts { PutsOut (K.taken out.old) (K.taken out.new)
         (piece (stop_line h why) ∷ []) result }
     ensures cause { ObeyCause (K.faults out.old) (K.faults out.new) result }
@@ -82,7 +82,7 @@ fn tell_end<K: Sink>(h: u32, end: TurnEnd, out: &mut K) -> Result<(), ObeyEnd>
 {
     match end {
         TurnEnd::Ran(Some(byte)) => put_byte(byte, out),
-        TurnEnd::Stopped(why) => put_stop(h, why, out),
+        TurnEnd::Stopped(why) => put_stop_line(h, why, out),
         TurnEnd::TagsOut => put_line(b"tags out\n", out),
         _ => Ok(()),
     }

@@ -6,8 +6,6 @@ mod decoder;
 mod interner;
 mod law;
 mod table;
-#[cfg(test)]
-mod tests;
 
 pub use decoder::Decoder;
 pub use interner::Interner;

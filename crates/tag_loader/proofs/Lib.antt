@@ -1,4 +1,3 @@
-pub mod BareLemmas
 pub mod MemoryLemmas
 pub mod SortedLemmas
 pub mod StartLemmas

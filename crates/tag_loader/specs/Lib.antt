@@ -1,5 +1,4 @@
 pub mod Births
-pub mod Loads
 pub mod Memory
 pub mod Sorted
 pub mod Start

@@ -3,15 +3,13 @@
 
 mod births;
 mod law;
-mod load;
 mod parts;
 mod sorted;
 mod start;
 mod walks;
 
 pub use births::{BirthWalk, birth};
-pub use law::{bare_law, memory_law};
-pub use load::{BareLoad, PlainLoad};
+pub use law::memory_law;
 pub use parts::words_of;
 pub use sorted::Run;
 pub use start::start_under;

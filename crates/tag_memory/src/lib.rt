@@ -5,8 +5,6 @@ mod filled;
 mod hart;
 mod law;
 mod ram;
-#[cfg(test)]
-mod tests;
 
 pub use hart::Hart;
 pub use law::{hart_law, map_law, ram_law};

@@ -1,8 +1,6 @@
 //! The texts of stops: the line by which a hart's stop is told.
 #![tactic(auto)]
 
-#[cfg(test)]
-mod tests;
 mod texts;
 
 pub use texts::{write_number, write_stop_line};

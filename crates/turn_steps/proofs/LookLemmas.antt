@@ -1,6 +1,5 @@
 -- What a look gives where no check fails.
-use Rattle.std.proofs.Common.{◌≡◌, ℕ, Option, Some, None, Result, Ok, Err, refl, ap, subst, ◌∙◌}
-use Rattle.shared_terms.specs.Steps.{◌>>=◌}
+use Rattle.std.proofs.Common.{◌≡◌, ℕ, Option, Some, None, Result, Ok, refl, ap, subst, ◌∙◌}
 use Rattle.shared_terms.proofs.StepLemmas.{on_ok}
 use Rattle.rv_decode.specs.Decoding.{instr_of_word}
 use Rattle.rv_decode.specs.Groups.{a7, reads_of, result_register, writes_of}

@@ -1,11 +1,11 @@
 -- What is written in words: how it goes on as tags come, and what it stands for.
-use Rattle.std.proofs.Common.{◌≡◌, ℕ, ◌+◌, ◌<◌, ◌≤◌, Bool, List, [], ◌∷◌, ◌++◌, drop, get_or, length, take, Option, Some, None, Result, Ok, Err, option_map, slice_get, refl, sym, ap, subst, ◌∙◌, suc, arith}
+use Rattle.std.proofs.Common.{◌≡◌, ℕ, ◌+◌, ◌<◌, ◌≤◌, Bool, List, [], ◌∷◌, ◌++◌, drop, get_or, length, take, Option, Some, None, Result, Ok, Err, option_map, slice_get, refl, sym, ap, subst, ◌∙◌, arith}
 use Rattle.std.specs.Cmp.{IsEquivalence}
 use Rattle.std.specs.List.{All}
-use Rattle.std.proofs.Math.Seq.{take-suc}
 use Rattle.std.proofs.lemmas.List.{length-append, length-map, take-append-drop, take-append-le}
 use Rattle.std.proofs.lemmas.List.Elements.{All-cons, All-head, All-nil, All-tail}
 use Rattle.std.proofs.lemmas.Option.{get_or_from_slice_get, same_Some, slice_get_within}
+use Rattle.shared_terms.proofs.ListLemmas.{take_next}
 use Rattle.policy_trait.specs.Maps.{answer_by}
 use Rattle.policy_trait.specs.declared.services.Answer.{Answer}
 use Rattle.engine_trait.specs.Accounts.{with_tag, with_tags}
@@ -60,9 +60,6 @@ module _ {T : Type 0} where
   first_of words more some =
       let n = length-map words (λ (word : ℕ × ℕ × T). word.2) in
       take-append-le 1 (tags_of words) more (omega (arith, n, some))
-
-take_next : {A : Type 0} (xs : List A) (k : ℕ) (d : A) → k < length xs → take (k + 1) xs ≡ take k xs ++ get_or xs k d ∷ []
-take_next xs k d lt = ap (λ n. take n xs) (let next : k + 1 ≡ suc k = omega arith in next) ∙ take-suc xs k d lt
 
 -- the tag of the next word of a range comes
 module _ {T : Type 0} (words : List (ℕ × ℕ × T)) (k : ℕ) (item : ℕ × ℕ × T) (lt : k < length words) (is : item ≡ get_or words k item) where

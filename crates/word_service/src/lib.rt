@@ -3,8 +3,6 @@
 #![tactic(auto)]
 
 mod decoded;
-#[cfg(test)]
-mod tests;
 mod writing;
 
 pub use decoded::Decoded;

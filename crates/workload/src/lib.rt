@@ -4,8 +4,6 @@
 mod kinds;
 mod law;
 mod source;
-#[cfg(test)]
-mod tests;
 
 pub use law::length_law;
 pub use source::write_workload;

@@ -3,7 +3,7 @@ use Rattle.image_format.specs.Picture.{Picture}
 use Rattle.policy_product.specs.Nothing.{nothing}
 use Rattle.rounds.specs.Course.{rounds}
 use Rattle.pump_line.specs.Told.{run_value}
-use Rattle.tag_loader.specs.Loads.{bare_start_of}
+use Rattle.pump_loader.specs.PlainLoads.{bare_start_of}
 use Rattle.pump_cli.specs.Endings.{Outcome, outcome_of_course}
 use Rattle.pump_cli.specs.Facts.{Does}
 use Rattle.pump_cli.specs.Program.{standing_at_start}

@@ -3,7 +3,7 @@ use Rattle.policy_choice.specs.All.{AllState, AllTag, all, all_eq}
 use Rattle.engine_trait.specs.Standing.{Standing}
 use Rattle.rounds.specs.Course.{rounds}
 use Rattle.pump_line.specs.Told.{load_value}
-use Rattle.tag_loader.specs.Loads.{start_of_load}
+use Rattle.pump_loader.specs.PlainLoads.{start_of_load}
 use Rattle.pump_cli.specs.Endings.{Outcome}
 use Rattle.pump_cli.specs.Facts.{Does}
 use Rattle.pump_cli.specs.Program.{outcome_of_work, standing_at_start}

@@ -1,15 +1,7 @@
-use Rattle.std.proofs.Common.{map, take, ◌++◌}
-use Rattle.clap.specs.Walk.{texts}
-use Rattle.pump_line.specs.Leaf.{IsLeaf}
-use Rattle.pump_line.specs.Line.{operand_rule, option_rule}
+use Rattle.std.proofs.Common.{map, take}
+use Rattle.pump_line.specs.Leaf.{IsLeaf, argument_rule}
 use Rattle.pump_line.proofs.command.leaf_command.Given as goal
 
--- the command has the operands so far
-abbrev pub invariant-loop-operand_name : goal.invariant-loop-operand_name
-invariant-loop-operand_name l =
-    IsLeaf l.command l.name (map operand_rule (texts (take l.operand_name-index l.operands)))
-
--- the command has the operands and the options so far
-abbrev pub invariant-loop-option_name : goal.invariant-loop-option_name
-invariant-loop-option_name l =
-    IsLeaf l.command l.name (map operand_rule (texts l.operands) ++ map option_rule (texts (take l.option_name-index l.options)))
+-- the command has the arguments so far
+abbrev pub invariant-loop-argument : goal.invariant-loop-argument
+invariant-loop-argument l = IsLeaf l.command l.leaf.name.now (map argument_rule (take l.argument-index l.leaf.arguments.now))

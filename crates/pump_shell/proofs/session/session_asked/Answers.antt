@@ -3,7 +3,7 @@ use Rattle.engine_trait.specs.Accounts.{is_over}
 use Rattle.engine_trait.specs.Standing.{Standing}
 use Rattle.policy_choice.specs.All.{AllState, AllTag, all, all_eq}
 use Rattle.shell_turns.specs.Cuts.{PutsOut}
-use Rattle.tag_loader.specs.Loads.{start_of_load}
+use Rattle.pump_loader.specs.PlainLoads.{start_of_load}
 use Rattle.pump_shell.specs.Told.{told_from}
 use Rattle.pump_shell.specs.declared.ends.SessionEnd.{SessionEnd}
 use Rattle.pump_shell.proofs.StartLemmas.{asked_start}

@@ -1,0 +1,12 @@
+//! Tests of words, of the instructions, of what they do, and of tagged memory and harts.
+#![tactic(auto)]
+
+#[cfg(test)]
+mod decoding;
+mod given;
+#[cfg(test)]
+mod memory;
+#[cfg(test)]
+mod stepping;
+#[cfg(test)]
+mod words;

@@ -1,8 +1,0 @@
--- The blocks' numbers are below the next one.
-use Rattle.std.proofs.Common.{◌<◌}
-use Rattle.std.specs.List.{All}
-use Rattle.live_blocks.specs.declared.block.Block.{Block}
-use Rattle.live_blocks.proofs.tests.go_as_stated.Given as goal
-
-abbrev pub invariant-loop-step : goal.invariant-loop-step
-invariant-loop-step l = All (λ (block : Block). block.number < l.number) l.blocks.live

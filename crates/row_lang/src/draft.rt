@@ -1,0 +1,159 @@
+//! A row while it is read.
+
+ghost use Rattle.std.specs.Prelude.{◌≤◌, IfOk, vec_len};
+
+use crate::contents::{Program, calls_of, file_of, number_of, numbers_of};
+use crate::entries::{Entry, Line};
+use crate::errors::{RowsEnd, Wrong};
+use crate::rows::{Due, Failing, File, Input, Row};
+use crate::texts::{append_line, text_of};
+use std::alloc::Global;
+
+/// A row with what was told of it so far, and the keys that told it.
+#[derive(Drop)]
+pub(crate) struct Draft<'a> {
+    row: Row,
+    told: Vec<&'a str>,
+}
+
+/// Whether some file has that name.
+fn has_file(files: &[File], name: &str) -> bool {
+    files.iter().any(|file| file.name.as_str() == name)
+}
+
+/// Puts a file behind others, none of which has its name.
+fn add_file(files: &mut Vec<File>, entry: &Entry<'_>, file: File) -> Result<(), RowsEnd> {
+    if has_file(files, file.name.as_str()) {
+        return Err(entry.refused(Wrong::Twice));
+    }
+    files.push(file)?;
+    Ok(())
+}
+
+/// What is typed in a line of a session, `None` where the line is a reply.
+fn typed_in(line: Line<'_>) -> Option<Line<'_>> {
+    let number = line.number;
+    if line.text == ">" {
+        return Some(Line { number, text: "" });
+    }
+    let text = line.text.strip_prefix("> ")?;
+    Some(Line { number, text })
+}
+
+impl<'a> Draft<'a> {
+    /// A row of which only the name is told.
+    pub(crate) fn new(alloc: Global, line: u64, name: String) -> Draft<'a> {
+        Draft {
+            row: Row {
+                line,
+                name,
+                calls: Vec::new(alloc),
+                caches: Vec::new(alloc),
+                files: Vec::new(alloc),
+                input: Input {
+                    bytes: Vec::new(alloc),
+                    pieces: Vec::new(alloc),
+                },
+                failing: Failing {
+                    reads: Vec::new(alloc),
+                    files: Vec::new(alloc),
+                    puts: Vec::new(alloc),
+                    tells: Vec::new(alloc),
+                },
+                due: Due {
+                    out: Vec::new(alloc),
+                    err: Vec::new(alloc),
+                    status: 0,
+                    left: None,
+                    held: Vec::new(alloc),
+                },
+            },
+            told: Vec::new(alloc),
+        }
+    }
+
+    /// Notes that a key stands, which is refused a second time.
+    fn note(&mut self, entry: &Entry<'a>, key: &'a str) -> Result<(), RowsEnd> {
+        if self.told.contains(&key) {
+            return Err(entry.refused(Wrong::Twice));
+        }
+        self.told.push(key)?;
+        Ok(())
+    }
+
+    /// Takes a line of a session: what is typed, behind `> `, or a reply.
+    fn take_reply(&mut self, line: Line<'a>) -> Result<(), RowsEnd> {
+        match typed_in(line) {
+            Some(typed) => append_line(&mut self.row.input.bytes, typed),
+            None => append_line(&mut self.row.due.out, line),
+        }
+    }
+
+    /// Takes a session, which tells the input and what is due on standard output.
+    fn take_session(&mut self, entry: &Entry<'a>) -> Result<(), RowsEnd> {
+        self.note(entry, "input")?;
+        self.note(entry, "out")?;
+        if !entry.value.is_empty() {
+            return Err(entry.refused(Wrong::Block));
+        }
+        for line in &entry.block {
+            self.take_reply(*line)?;
+        }
+        Ok(())
+    }
+
+    /// Takes what an entry tells that may stand once.
+    fn take_once(&mut self, alloc: Global, entry: &Entry<'a>) -> Result<(), RowsEnd> {
+        self.note(entry, entry.key)?;
+        match entry.key {
+            "words" => self.row.calls = calls_of(alloc, entry)?,
+            "caches" => self.row.caches = numbers_of(alloc, entry)?,
+            "input" => self.row.input.bytes = text_of(alloc, entry, entry.value)?,
+            "pieces" => self.row.input.pieces = numbers_of(alloc, entry)?,
+            "fail-reads" => self.row.failing.reads = numbers_of(alloc, entry)?,
+            "fail-files" => self.row.failing.files = numbers_of(alloc, entry)?,
+            "fail-puts" => self.row.failing.puts = numbers_of(alloc, entry)?,
+            "fail-tells" => self.row.failing.tells = numbers_of(alloc, entry)?,
+            "out" => self.row.due.out = text_of(alloc, entry, entry.value)?,
+            "err" => self.row.due.err = text_of(alloc, entry, entry.value)?,
+            "status" => {
+                let status = u8::try_from(number_of(entry)?);
+                self.row.due.status = status.map_err(|_| entry.refused(Wrong::Number))?;
+            }
+            "left" => self.row.due.left = Some(number_of(entry)?),
+            _ => return Err(entry.refused(Wrong::Key)),
+        }
+        Ok(())
+    }
+
+    /// Takes what an entry tells of the row.
+    pub(crate) fn take(
+        &mut self,
+        alloc: Global,
+        programs: &[Program<'a>],
+        entry: &Entry<'a>,
+    ) -> Result<(), RowsEnd> {
+        match entry.key {
+            "file" => {
+                let file = file_of(alloc, programs, entry)?;
+                add_file(&mut self.row.files, entry, file)
+            }
+            "holds" => {
+                let file = file_of(alloc, programs, entry)?;
+                add_file(&mut self.row.due.held, entry, file)
+            }
+            "session" => self.take_session(entry),
+            _ => self.take_once(alloc, entry),
+        }
+    }
+
+    /// The row, where all is told that has to be.
+    pub(crate) fn finish(self, entry: &Entry<'a>) -> Result<Row, RowsEnd>
+        ensures called { IfOk result (λ row. 1 ≤ vec_len row.calls) }
+    {
+        if self.row.calls.is_empty() || !self.told.contains(&"status") {
+            return Err(entry.refused(Wrong::Missing));
+        }
+        Ok(self.row)
+    }
+}

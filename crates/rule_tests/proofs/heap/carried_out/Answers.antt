@@ -1,0 +1,22 @@
+-- The plan that comes is a given one.
+use Rattle.std.proofs.Common.{rules, ℕ, sym, ◌∙◌}
+use Rattle.policy_trait.specs.UseLaws.{given_plan}
+use Rattle.policy_trait.specs.declared.services.Args.{Args}
+use Rattle.heap_policy.specs.Heap.{IsHeap, heap}
+use Rattle.heap_policy.specs.HeapLaws.{heap_laws}
+use Rattle.heap_policy.specs.declared.tag.HeapTag.{HeapTag}
+use Rattle.heap_policy.specs.declared.tag.HeapTag.TheVariants.{Val}
+use Rattle.rule_tests.proofs.heap.carried_out.Goals as goal
+
+abbrev arguments : ℕ → HeapTag → Args HeapTag
+arguments a0 t0 = record { a0 = a0; a1 = 0; a2 = 0; t0 = t0; t1 = Val; t2 = Val; ram = 4294967295 }
+
+pub retag-requires : goal.retag-requires
+retag-requires c =
+    given_plan heap IsHeap heap_laws c.args.heap.now c.args.service (arguments c.args.a0 c.args.t0) c.plain.result c.in-Ok.plan
+    (search rules) (sym c.plan.ensures ∙ c.in-Ok.is)
+
+pub commit-requires : goal.commit-requires
+commit-requires c =
+    given_plan heap IsHeap heap_laws c.args.heap.now c.args.service (arguments c.args.a0 c.args.t0) c.plain.result c.in-Ok.plan
+    (search rules) (sym c.plan.ensures ∙ c.in-Ok.is)

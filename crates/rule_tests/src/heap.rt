@@ -1,0 +1,459 @@
+//! Values stated by the rules of heap safety: a table of rules, two services with their refusals, and the texts.
+
+use crate::refusals::refused;
+use heap_policy::{Content, Heap, HeapTag};
+use policy_trait::{
+    Answer, Args, Birth, CompartmentSet, Ins, Outs, Part, Plan, PlanEnd, Policy, Refused, Rest,
+    Why, Words,
+};
+use pump_words::Line;
+use rv_decode::Group;
+use std::alloc::Global;
+use std::test::Fail;
+
+const VAL: HeapTag = HeapTag::Val;
+
+const FREE: HeapTag = HeapTag::Free;
+
+/// A pointer to block 5, and one to another block.
+const PTR: HeapTag = HeapTag::Ptr(5);
+
+const OTHER: HeapTag = HeapTag::Ptr(6);
+
+/// A word outside the heap region with a value, and one with a pointer.
+const STATIC: HeapTag = HeapTag::Static(Content::Val);
+
+const STATIC_PTR: HeapTag = HeapTag::Static(Content::Ptr(6));
+
+/// A word of block 5 with a value, and one with a pointer to another block.
+const CELL: HeapTag = HeapTag::Cell(5, Content::Val);
+
+const CELL_PTR: HeapTag = HeapTag::Cell(5, Content::Ptr(6));
+
+/// A word of another block.
+const OTHER_CELL: HeapTag = HeapTag::Cell(6, Content::Val);
+
+/// The first address of the heap region in each test, and its bytes: eight words.
+const BASE: u32 = 64;
+
+const BYTES: u32 = 32;
+
+/// The numbers of the services.
+const MALLOC: u32 = 48;
+
+const TAKE_BACK: u32 = 49;
+
+const NOT_LIVE: PlanEnd = PlanEnd::Refused(Refused {
+    part: Part::Heap,
+    why: Why::NotLive,
+});
+
+const ARGS: PlanEnd = PlanEnd::Refused(Refused {
+    part: Part::Heap,
+    why: Why::Args,
+});
+
+/// A rule: group, first and second operand, memory word, and the result where that is allowed.
+type Row = (Group, HeapTag, HeapTag, HeapTag, Option<HeapTag>);
+
+/// Groups that take any operands.
+const GOES_ON: [Row; 7] = [
+    (Group::Const, FREE, FREE, FREE, Some(VAL)),
+    (Group::Here, FREE, FREE, FREE, Some(VAL)),
+    (Group::Jal, FREE, FREE, FREE, Some(VAL)),
+    (Group::Fence, FREE, FREE, FREE, Some(VAL)),
+    (Group::Break, FREE, FREE, FREE, Some(VAL)),
+    (Group::Branch, FREE, FREE, FREE, Some(VAL)),
+    (Group::Branch, PTR, OTHER, FREE, Some(VAL)),
+];
+
+/// Groups that take the first operand as a value.
+const FIRST: [Row; 6] = [
+    (Group::Jalr, VAL, FREE, FREE, Some(VAL)),
+    (Group::Jalr, PTR, VAL, VAL, None),
+    (Group::Jalr, STATIC, VAL, VAL, None),
+    (Group::AluImm, VAL, FREE, FREE, Some(VAL)),
+    (Group::AluImm, PTR, VAL, VAL, None),
+    (Group::AluImm, FREE, VAL, VAL, None),
+];
+
+/// Groups that move a register, or a pointer by a number.
+const MOVED: [Row; 8] = [
+    (Group::Move, VAL, FREE, FREE, Some(VAL)),
+    (Group::Move, PTR, FREE, FREE, Some(PTR)),
+    (Group::Move, STATIC, VAL, VAL, None),
+    (Group::Move, CELL, VAL, VAL, None),
+    (Group::Move, FREE, VAL, VAL, None),
+    (Group::AddImm, VAL, FREE, FREE, Some(VAL)),
+    (Group::AddImm, PTR, FREE, FREE, Some(PTR)),
+    (Group::AddImm, CELL_PTR, VAL, VAL, None),
+];
+
+/// Loads of words and of parts.
+const LOADS: [Row; 16] = [
+    (Group::LoadWord, VAL, FREE, STATIC, Some(VAL)),
+    (Group::LoadWord, VAL, FREE, STATIC_PTR, Some(OTHER)),
+    (Group::LoadWord, PTR, FREE, CELL, Some(VAL)),
+    (Group::LoadWord, PTR, FREE, CELL_PTR, Some(OTHER)),
+    (Group::LoadWord, VAL, VAL, CELL, None),
+    (Group::LoadWord, VAL, VAL, FREE, None),
+    (Group::LoadWord, PTR, VAL, STATIC, None),
+    (Group::LoadWord, PTR, VAL, OTHER_CELL, None),
+    (Group::LoadWord, PTR, VAL, FREE, None),
+    (Group::LoadWord, FREE, VAL, FREE, None),
+    (Group::LoadPart, VAL, FREE, STATIC_PTR, Some(VAL)),
+    (Group::LoadPart, PTR, FREE, CELL_PTR, Some(VAL)),
+    (Group::LoadPart, VAL, VAL, CELL, None),
+    (Group::LoadPart, PTR, VAL, STATIC, None),
+    (Group::LoadPart, PTR, VAL, OTHER_CELL, None),
+    (Group::LoadPart, PTR, VAL, FREE, None),
+];
+
+/// Stores of words and of parts.
+const STORES: [Row; 17] = [
+    (Group::StoreWord, VAL, VAL, STATIC_PTR, Some(STATIC)),
+    (Group::StoreWord, VAL, OTHER, STATIC, Some(STATIC_PTR)),
+    (Group::StoreWord, PTR, VAL, CELL_PTR, Some(CELL)),
+    (Group::StoreWord, PTR, OTHER, CELL, Some(CELL_PTR)),
+    (Group::StoreWord, PTR, STATIC, CELL, None),
+    (Group::StoreWord, VAL, FREE, STATIC, None),
+    (Group::StoreWord, VAL, VAL, CELL, None),
+    (Group::StoreWord, VAL, VAL, FREE, None),
+    (Group::StoreWord, PTR, VAL, STATIC, None),
+    (Group::StoreWord, PTR, VAL, OTHER_CELL, None),
+    (Group::StoreWord, PTR, VAL, FREE, None),
+    (Group::StorePart, VAL, FREE, STATIC_PTR, Some(STATIC)),
+    (Group::StorePart, PTR, OTHER, CELL_PTR, Some(CELL)),
+    (Group::StorePart, VAL, VAL, CELL, None),
+    (Group::StorePart, PTR, VAL, STATIC, None),
+    (Group::StorePart, PTR, VAL, OTHER_CELL, None),
+    (Group::StorePart, PTR, VAL, FREE, None),
+];
+
+/// Sums.
+const SUMS: [Row; 7] = [
+    (Group::Add, VAL, VAL, FREE, Some(VAL)),
+    (Group::Add, PTR, VAL, FREE, Some(PTR)),
+    (Group::Add, VAL, PTR, FREE, Some(PTR)),
+    (Group::Add, PTR, PTR, FREE, None),
+    (Group::Add, PTR, OTHER, FREE, None),
+    (Group::Add, VAL, STATIC, FREE, None),
+    (Group::Add, FREE, VAL, FREE, None),
+];
+
+/// Differences.
+const DIFFERENCES: [Row; 7] = [
+    (Group::Sub, VAL, VAL, FREE, Some(VAL)),
+    (Group::Sub, PTR, VAL, FREE, Some(PTR)),
+    (Group::Sub, PTR, PTR, FREE, Some(VAL)),
+    (Group::Sub, PTR, OTHER, FREE, None),
+    (Group::Sub, VAL, PTR, FREE, None),
+    (Group::Sub, PTR, CELL, FREE, None),
+    (Group::Sub, FREE, VAL, FREE, None),
+];
+
+/// Groups that take both operands as values.
+const BOTH: [Row; 12] = [
+    (Group::Alu, VAL, VAL, FREE, Some(VAL)),
+    (Group::Alu, PTR, VAL, VAL, None),
+    (Group::Alu, VAL, PTR, VAL, None),
+    (Group::Alu, PTR, PTR, VAL, None),
+    (Group::Exit, VAL, VAL, FREE, Some(VAL)),
+    (Group::Exit, PTR, VAL, VAL, None),
+    (Group::Exit, VAL, PTR, VAL, None),
+    (Group::Put, VAL, VAL, FREE, Some(VAL)),
+    (Group::Put, PTR, VAL, VAL, None),
+    (Group::Put, VAL, PTR, VAL, None),
+    (Group::Put, VAL, FREE, VAL, None),
+    (Group::Put, STATIC, VAL, VAL, None),
+];
+
+/// Groups that take the second operand as a value.
+const SECOND: [Row; 8] = [
+    (Group::Get, PTR, VAL, FREE, Some(VAL)),
+    (Group::Get, FREE, VAL, FREE, Some(VAL)),
+    (Group::Get, VAL, PTR, VAL, None),
+    (Group::Get, VAL, STATIC, VAL, None),
+    (Group::Call, PTR, VAL, FREE, Some(VAL)),
+    (Group::Call, FREE, VAL, FREE, Some(VAL)),
+    (Group::Call, VAL, PTR, VAL, None),
+    (Group::Call, VAL, FREE, VAL, None),
+];
+
+#[test]
+fn rules_of_every_group(rt: HostRuntime) {
+    let heap = heap(rt.alloc());
+    assert_eq!(rt; first_unkept(&heap, &GOES_ON), None);
+    assert_eq!(rt; first_unkept(&heap, &FIRST), None);
+    assert_eq!(rt; first_unkept(&heap, &MOVED), None);
+    assert_eq!(rt; first_unkept(&heap, &LOADS), None);
+    assert_eq!(rt; first_unkept(&heap, &STORES), None);
+    assert_eq!(rt; first_unkept(&heap, &SUMS), None);
+    assert_eq!(rt; first_unkept(&heap, &DIFFERENCES), None);
+    assert_eq!(rt; first_unkept(&heap, &BOTH), None);
+    assert_eq!(rt; first_unkept(&heap, &SECOND), None);
+}
+
+/// The place of the first row that the policy does not keep.
+fn first_unkept(heap: &Heap, rows: &[Row]) -> Option<usize> {
+    rows.iter().position(|row| !is_kept(heap, *row))
+}
+
+/// Whether the policy answers this at an instruction outside the heap region, whatever the pc's tag is, and obeys no other
+/// word.
+fn is_kept(heap: &Heap, row: Row) -> bool {
+    let (group, t1, t2, tm, result) = row;
+    let refusal = Err(refused(Part::Heap, Why::Rule(group)));
+    let answer = match result {
+        Some(result) => Ok(Outs { pc: VAL, result }),
+        None => refusal,
+    };
+    let rule = |pc, ci| heap.rule(group, Ins { pc, ci, t1, t2, tm });
+    rule(VAL, STATIC) == answer
+        && rule(PTR, STATIC_PTR) == answer
+        && rule(VAL, CELL) == refusal
+        && rule(VAL, FREE) == refusal
+        && rule(STATIC, VAL) == refusal
+        && rule(STATIC, PTR) == refusal
+}
+
+/// Calls of the services, one after another: the service, the value and the tag of a0, and the answer with its tag, if
+/// there is one, or the refusal. Each call that has a plan is carried out.
+const CALLS: [(u32, u32, HeapTag, Result<Option<(u32, HeapTag)>, PlanEnd>); 29] = [
+    // whole words, at least one, one block behind the other
+    (MALLOC, 0, VAL, Ok(Some((64, HeapTag::Ptr(0))))),
+    (MALLOC, 4, VAL, Ok(Some((68, HeapTag::Ptr(1))))),
+    (MALLOC, 5, VAL, Ok(Some((72, HeapTag::Ptr(2))))),
+    (MALLOC, 16, VAL, Ok(Some((80, HeapTag::Ptr(3))))),
+    // none fits, which takes no number
+    (MALLOC, 0, VAL, Ok(Some((0, VAL)))),
+    (MALLOC, 4_294_967_295, VAL, Ok(Some((0, VAL)))),
+    // the number of bytes is a value
+    (MALLOC, 4, HeapTag::Ptr(0), Err(ARGS)),
+    (MALLOC, 4, STATIC, Err(ARGS)),
+    (MALLOC, 4, FREE, Err(ARGS)),
+    // no pointer to a block, not its first address, no block of that number
+    (TAKE_BACK, 72, VAL, Err(NOT_LIVE)),
+    (TAKE_BACK, 72, HeapTag::Cell(2, Content::Val), Err(NOT_LIVE)),
+    (
+        TAKE_BACK,
+        72,
+        HeapTag::Static(Content::Ptr(2)),
+        Err(NOT_LIVE),
+    ),
+    (TAKE_BACK, 76, HeapTag::Ptr(2), Err(NOT_LIVE)),
+    (TAKE_BACK, 68, HeapTag::Ptr(2), Err(NOT_LIVE)),
+    (TAKE_BACK, 80, HeapTag::Ptr(2), Err(NOT_LIVE)),
+    (TAKE_BACK, 72, HeapTag::Ptr(4), Err(NOT_LIVE)),
+    // taken back once
+    (TAKE_BACK, 72, HeapTag::Ptr(2), Ok(None)),
+    (TAKE_BACK, 72, HeapTag::Ptr(2), Err(NOT_LIVE)),
+    // three words do not fit into the gap, and two do, as a new block
+    (MALLOC, 9, VAL, Ok(Some((0, VAL)))),
+    (MALLOC, 8, VAL, Ok(Some((72, HeapTag::Ptr(4))))),
+    (TAKE_BACK, 72, HeapTag::Ptr(2), Err(NOT_LIVE)),
+    // the lowest place of three words is behind a gap of one
+    (TAKE_BACK, 64, HeapTag::Ptr(0), Ok(None)),
+    (TAKE_BACK, 80, HeapTag::Ptr(3), Ok(None)),
+    (MALLOC, 12, VAL, Ok(Some((80, HeapTag::Ptr(5))))),
+    (MALLOC, 1, VAL, Ok(Some((64, HeapTag::Ptr(6))))),
+    (MALLOC, 4, VAL, Ok(Some((92, HeapTag::Ptr(7))))),
+    (TAKE_BACK, 80, HeapTag::Ptr(3), Err(NOT_LIVE)),
+    (TAKE_BACK, 68, HeapTag::Ptr(1), Ok(None)),
+    (TAKE_BACK, 92, HeapTag::Ptr(7), Ok(None)),
+];
+
+/// What is listed after these calls, by place: number, base and words.
+const LISTED: [(u32, Option<(u32, u32, u32)>); 5] = [
+    (0, Some((4, 72, 2))),
+    (1, Some((5, 80, 3))),
+    (2, Some((6, 64, 1))),
+    (3, None),
+    (4_294_967_295, None),
+];
+
+#[test]
+fn calls_in_their_order(rt: HostRuntime) -> Result<(), Fail> {
+    let mut heap = heap(rt.alloc());
+    assert!(rt; heap.listed(0).is_none());
+    for (service, a0, t0, answer) in CALLS {
+        let planned = carried_out(&mut heap, service, a0, t0)?;
+        let expected = match answer {
+            Ok(Some((value, tag))) => Ok(Some(Answer {
+                value,
+                tag,
+                rest: Rest::Plain,
+            })),
+            Ok(None) => Ok(None),
+            Err(end) => Err(end),
+        };
+        assert!(rt;
+            planned.map(|(plan, _)| plan.answer) == expected,
+            "{service} of {a0}"
+        );
+    }
+    for (place, block) in LISTED {
+        assert!(rt; heap.listed(place) == block, "at {place}");
+    }
+    Ok(())
+}
+
+#[test]
+fn plans_and_the_words_they_retag(rt: HostRuntime) -> Result<(), Fail> {
+    let mut heap = heap(rt.alloc());
+    let words = Words { base: 64, count: 3 };
+    let pointer = HeapTag::Ptr(0);
+    let handing_out = Plan {
+        service: MALLOC,
+        pc: VAL,
+        note: 0,
+        range: Some(words),
+        zero: true,
+        answer: Some(Answer {
+            value: 64,
+            tag: pointer,
+            rest: Rest::Plain,
+        }),
+    };
+    let new_cell = HeapTag::Cell(0, Content::Val);
+    assert!(rt; carried_out(&mut heap, MALLOC, 12, VAL)? == Ok((handing_out, new_cell)));
+    let none = carried_out(&mut heap, MALLOC, 33, VAL)?;
+    assert!(rt; none.map(|(plan, _)| (plan.range, plan.zero)) == Ok((None, false)));
+    let taking_back = Plan {
+        service: TAKE_BACK,
+        pc: VAL,
+        note: 0,
+        range: Some(words),
+        zero: true,
+        answer: None,
+    };
+    assert!(rt; carried_out(&mut heap, TAKE_BACK, 64, pointer)? == Ok((taking_back, FREE)));
+    Ok(())
+}
+
+#[test]
+fn blocks_are_numbered_until_they_are_spent(rt: HostRuntime) -> Result<(), Fail> {
+    let mut heap = heap(rt.alloc());
+    for number in 0..1_048_576 {
+        let plan = carried_out(&mut heap, MALLOC, 32, VAL)?;
+        assert!(rt;
+            plan.map(|(plan, _)| plan.note) == Ok(number),
+            "at {number}"
+        );
+        // only the last block stays
+        if number < 1_048_575 {
+            let plan = carried_out(&mut heap, TAKE_BACK, 64, HeapTag::Ptr(number))?;
+            assert!(rt; plan.is_ok(), "at {number}");
+        }
+    }
+    // the arguments are judged first, and a place is sought last
+    assert!(rt; carried_out(&mut heap, MALLOC, 4, PTR)? == Err(ARGS));
+    assert!(rt; carried_out(&mut heap, MALLOC, 4, VAL)? == Err(PlanEnd::Spent));
+    let last = HeapTag::Ptr(1_048_575);
+    assert!(rt; carried_out(&mut heap, TAKE_BACK, 64, last)?.is_ok());
+    assert!(rt; carried_out(&mut heap, MALLOC, 4, VAL)? == Err(PlanEnd::Spent));
+    assert!(rt; heap.listed(0).is_none());
+    Ok(())
+}
+
+/// Zeroing by another policy's service: the word's tag, and its new one where the heap consents.
+const WIPED: [(HeapTag, Option<HeapTag>); 7] = [
+    (STATIC, Some(STATIC)),
+    (STATIC_PTR, Some(STATIC)),
+    (CELL, Some(CELL)),
+    (CELL_PTR, Some(CELL)),
+    (FREE, Some(FREE)),
+    (VAL, None),
+    (PTR, None),
+];
+
+#[test]
+fn words_zeroed_by_another_policy(rt: HostRuntime) {
+    let heap = heap(rt.alloc());
+    for (old, new) in WIPED {
+        let expected = new.ok_or(refused(Part::Heap, Why::Consent));
+        assert!(rt; heap.wipe(PTR, old) == expected);
+    }
+}
+
+#[test]
+fn starts_loans_and_numbers(rt: HostRuntime) {
+    let policy = heap(rt.alloc());
+    for (heap, tag) in [(false, STATIC), (true, FREE)] {
+        let birth = Birth {
+            owner: 3,
+            into: CompartmentSet::of_bits(5),
+            write: CompartmentSet::of_bits(6),
+            code: true,
+            label: Some(7),
+            heap,
+        };
+        assert!(rt; policy.start_pc(&birth) == VAL);
+        assert!(rt; policy.start_word(&birth) == tag);
+    }
+    for tag in [VAL, PTR, STATIC_PTR, CELL, FREE] {
+        assert!(rt; policy.lend(tag).is_ok());
+    }
+    for (number, known) in [(47, false), (48, true), (49, true), (50, false)] {
+        assert!(rt; policy.knows(number) == known);
+    }
+    assert!(rt; policy.uses(MALLOC) == 1);
+    assert!(rt; policy.uses(TAKE_BACK) == 1);
+}
+
+/// Texts: the tag and its text.
+const TEXTS: [(HeapTag, &[u8]); 8] = [
+    (VAL, b"val"),
+    (PTR, b"ptr(5)"),
+    (HeapTag::Ptr(4_294_967_295), b"ptr(4294967295)"),
+    (STATIC, b"static(val)"),
+    (STATIC_PTR, b"static(ptr(6))"),
+    (CELL, b"cell(5,val)"),
+    (CELL_PTR, b"cell(5,ptr(6))"),
+    (FREE, b"free"),
+];
+
+#[test]
+fn texts_of_tags(rt: HostRuntime) {
+    let heap = heap(rt.alloc());
+    for (tag, text) in TEXTS {
+        let mut line = Line::new();
+        heap.show(tag, &mut line);
+        assert_eq!(rt; line.as_slice(), text);
+    }
+}
+
+/// The policy of a heap region of eight words, before any block was handed out.
+fn heap(alloc: Global) -> Heap {
+    Heap::new(alloc, BASE, BYTES)
+}
+
+/// The plan of a service that finds this value and this tag in a0, in the largest memory, and the new tag of the words of
+/// its range. The plan is carried out.
+fn carried_out(
+    heap: &mut Heap,
+    service: u32,
+    a0: u32,
+    t0: HeapTag,
+) -> Result<Result<(Plan<HeapTag>, HeapTag), PlanEnd>, Fail> {
+    if !heap.knows(service) {
+        return Err("a service of the heap".into());
+    }
+    let arguments = Args {
+        a0,
+        a1: 0,
+        a2: 0,
+        t0,
+        t1: VAL,
+        t2: VAL,
+        ram: 4_294_967_295,
+    };
+    match heap.plan(service, &arguments, heap.plain()) {
+        Ok(plan) => {
+            let tag = heap.retag(&plan, PTR).ok().ok_or("no refusal")?;
+            heap.commit(&plan)?;
+            Ok(Ok((plan, tag)))
+        }
+        Err(end) => Ok(Err(end)),
+    }
+}

@@ -1,0 +1,99 @@
+//! Tags changed by one function, and sets of compartments.
+
+use crate::raising::Raising;
+use policy_trait::{Answer, Args, CompartmentSet, Ins, Outs, Plan, Rest, Words};
+use pump_words::Line;
+
+#[test]
+fn tags_of_a_rule_are_changed(rt: HostRuntime) {
+    let inputs = Ins {
+        pc: 1,
+        ci: 2,
+        t1: 3,
+        t2: 4,
+        tm: 5,
+    };
+    let changed = Ins {
+        pc: 101,
+        ci: 102,
+        t1: 103,
+        t2: 104,
+        tm: 105,
+    };
+    assert!(rt; inputs.map(&Raising { by: 100 }) == changed);
+    let outputs = Outs { pc: 1, result: 2 };
+    let changed = Outs {
+        pc: 101,
+        result: 102,
+    };
+    assert!(rt; outputs.map(&Raising { by: 100 }) == changed);
+}
+
+#[test]
+fn tags_of_a_service_are_changed(rt: HostRuntime) {
+    let arguments = Args {
+        a0: 1,
+        a1: 2,
+        a2: 3,
+        t0: 4,
+        t1: 5,
+        t2: 6,
+        ram: 7,
+    };
+    let changed = Args {
+        a0: 1,
+        a1: 2,
+        a2: 3,
+        t0: 104,
+        t1: 105,
+        t2: 106,
+        ram: 7,
+    };
+    assert!(rt; arguments.map(&Raising { by: 100 }) == changed);
+    assert!(rt; plan(1_u8, 2_u8).map(&Raising { by: 100 }) == plan(101_u64, 102_u64));
+}
+
+#[test]
+fn compartments_of_a_set(rt: HostRuntime) {
+    let set = CompartmentSet::empty().with(1).with(31).with(1);
+    assert_eq!(rt; set.bits(), 0x8000_0002);
+    assert!(rt; set == CompartmentSet::of_bits(0x8000_0002));
+    // number, whether it is in the set
+    let rows = [
+        (0, false),
+        (1, true),
+        (2, false),
+        (30, false),
+        (31, true),
+        (32, false),
+        (33, false),
+        (0xFFFF_FFFF, false),
+    ];
+    for (number, is_in) in rows {
+        assert!(rt; set.has(number) == is_in, "at {number}");
+    }
+    assert!(rt; !CompartmentSet::of_bits(0xFFFF_FFFF).has(32));
+}
+
+#[test]
+fn text_of_a_set(rt: HostRuntime) {
+    let mut line = Line::new();
+    CompartmentSet::of_bits(0xA1).show(&mut line);
+    assert_eq!(rt; line.as_slice(), b"000000A1".as_slice());
+}
+
+/// A plan with these tags of the pc and of the answer.
+fn plan<T: Copy>(pc: T, tag: T) -> Plan<T> {
+    Plan {
+        service: 17,
+        pc,
+        note: 3,
+        range: Some(Words { base: 8, count: 2 }),
+        zero: true,
+        answer: Some(Answer {
+            value: 9,
+            tag,
+            rest: Rest::AsA0,
+        }),
+    }
+}

@@ -1,0 +1,109 @@
+//! Sources of small workloads, and workloads that are assembled.
+
+use asm_emit::assemble_source;
+use std::test::Fail;
+use workload::write_workload;
+use workload_laws::assembles_law;
+
+const ONE_BLOCK: &[u8] = b"# Blocks of four kinds, by a sequence of numbers.
+.harts 1
+.ram 65536
+.heap 0xF000, 4096
+.entry 0, 0
+.edge 1, 2
+.edge 3, 4
+.edge 5, 4
+j 20
+.label 2
+nop
+.label 3
+ret
+.comp 1, 0x1, 0
+nop
+.label 5
+ret
+.comp 0, 0, 0
+# a jump by a register, and back
+li t0, 4
+.label 1
+jalr ra, 0(t0)
+.label 4
+nop
+# the end
+li a0, 0
+li a7, 0
+ecall
+";
+
+/// What stands behind the head in a workload of two.
+const TWO_BLOCKS: &[u8] = b"# a number is sealed and unsealed
+li a7, 16
+ecall
+mv a1, a0
+li a0, 1
+li a7, 17
+ecall
+li a7, 18
+ecall
+# a block of the heap is asked for, used and freed
+li a0, 16
+li a7, 48
+ecall
+mv s0, a0
+li t0, 7
+sw t0, 4(s0)
+lw t1, 4(s0)
+mv a0, s0
+li a7, 49
+ecall
+# the end
+li a0, 0
+li a7, 0
+ecall
+";
+
+/// Counts of blocks, and of the words, labels and compartment ranges of the image, by the kinds of the blocks.
+const WORKLOADS: [(u32, u32, usize, usize); 4] = [
+    (1, 11, 5, 1),
+    (2, 26, 3, 1),
+    (10, 47, 16, 4),
+    (1000, 5669, 771, 263),
+];
+
+#[test]
+fn is_written_for_one_block(rt: HostRuntime) -> Result<(), Fail> {
+    let source = write_workload(rt.alloc(), 1)?;
+    assert_eq!(rt; source.as_slice(), ONE_BLOCK);
+    Ok(())
+}
+
+#[test]
+fn is_written_for_two_blocks(rt: HostRuntime) -> Result<(), Fail> {
+    let source = write_workload(rt.alloc(), 2)?;
+    assert!(rt;
+        source
+            .windows(TWO_BLOCKS.len())
+            .any(|part| part == TWO_BLOCKS)
+    );
+    Ok(())
+}
+
+#[test]
+fn is_assembled_whole(rt: HostRuntime) -> Result<(), Fail> {
+    assembles_law();
+    for (count, words, labels, ranges) in WORKLOADS {
+        let source = write_workload(rt.alloc(), count)?;
+        let image = assemble_source(rt.alloc(), &source).ok().ok_or("no image")?;
+        assert_eq!(rt; image.segment_count(), 1);
+        assert!(rt;
+            image
+                .code()
+                .iter()
+                .all(|range| range.address == 0 && range.words == words)
+        );
+        assert_eq!(rt; image.code().len(), 1);
+        assert_eq!(rt; image.labels().len(), labels);
+        assert_eq!(rt; image.compartments().len(), ranges);
+    }
+    Ok(())
+}

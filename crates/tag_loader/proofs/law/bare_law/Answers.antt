@@ -1,5 +1,0 @@
-use Rattle.tag_loader.proofs.BareLemmas.{bare_start_mirrors}
-use Rattle.tag_loader.proofs.law.bare_law.Goals as goal
-
-pub returns : goal.returns
-returns g = bare_start_mirrors

@@ -1,0 +1,68 @@
+//! Words by hand, as tags come, are refused and are cut off.
+
+use std::test::Fail;
+use tag_intern::{InternEnd, Interner, TagTable};
+
+/// A call, and what it answers.
+#[derive(Clone, Copy)]
+enum Call {
+    Intern(u32, Result<u32, InternEnd>),
+    WordOf(u32, Option<u32>),
+    TagOf(u32, u32),
+    Len(u32),
+    Cut(u32),
+}
+
+/// The calls on a table for three tags, in order.
+const CALLS: [Call; 22] = [
+    Call::Len(0),
+    Call::WordOf(70, None),
+    Call::Intern(70, Ok(0)),
+    Call::Intern(50, Ok(1)),
+    Call::Intern(70, Ok(0)),
+    Call::Len(2),
+    Call::Intern(60, Ok(2)),
+    Call::Intern(40, Err(InternEnd::Full)),
+    // full, and yet a tag that is there is answered
+    Call::Intern(50, Ok(1)),
+    Call::Len(3),
+    Call::WordOf(60, Some(2)),
+    Call::WordOf(40, None),
+    Call::TagOf(0, 70),
+    Call::TagOf(2, 60),
+    // the last two lose their words, and one gets another
+    Call::Cut(1),
+    Call::Len(1),
+    Call::WordOf(70, Some(0)),
+    Call::WordOf(50, None),
+    Call::Intern(60, Ok(1)),
+    Call::TagOf(1, 60),
+    Call::Cut(0),
+    Call::Len(0),
+];
+
+#[test]
+fn words_of_tags(rt: HostRuntime) -> Result<(), Fail> {
+    let mut table: Interner<u32> = Interner::made(rt.alloc(), 3);
+    for (at, call) in CALLS.into_iter().enumerate() {
+        assert!(rt; answers_as_stated(&mut table, call), "call {at}");
+    }
+    Ok(())
+}
+
+/// Whether a call answers what it states.
+fn answers_as_stated<T: TagTable<Tag = u32>>(table: &mut T, call: Call) -> bool {
+    match call {
+        Call::Intern(tag, word) => table.intern(tag) == word,
+        Call::WordOf(tag, word) => table.word_of(&tag) == word,
+        Call::TagOf(word, tag) => word < table.len() && table.tag_of(word) == tag,
+        Call::Len(len) => table.len() == len,
+        Call::Cut(len) => {
+            let within = len <= table.len();
+            if within {
+                table.cut(len);
+            }
+            within
+        }
+    }
+}
