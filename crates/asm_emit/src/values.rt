@@ -16,7 +16,7 @@ use asm_words::laws::count_law;
 use asm_words::{Emission, address_of, emission_of};
 
 /// What a line adds to an image. Addresses and sizes are in bytes.
-#[derive(Clone, Copy, Debug)]
+#[derive(Clone, Copy)]
 pub enum Addition {
     Nothing,
     /// Words at the line's place.

@@ -9,7 +9,7 @@ use Rattle.tag_memory.specs.Ram.{RamState}
 use Rattle.turn_steps.specs.declared.look.Look.{Look}
 use Rattle.engine_trait.specs.Events.{Event, is_retirement, Touch, touch_of}
 use Rattle.engine_trait.specs.Machine.{CoreState, Machine, hart_at, is_ready_in, with_hart}
-use Rattle.compartment_policy.specs.Compartments.{compartments, is_jump as is_jumping, may_write}
+use Rattle.compartment_policy.specs.Compartments.{CompartmentState, compartments, is_jump as is_jumping, may_write}
 use Rattle.compartment_policy.specs.declared.tag.CompartmentTag.{CompartmentTag}
 use Rattle.compartment_policy.specs.declared.tag.CompartmentTag.TheVariants.{Pc}
 use Rattle.part_turns.specs.Moments.{is_jalr}
@@ -22,7 +22,7 @@ use Rattle.comp_runs.proofs.RuleLemmas.{Obeys, obeys, same_jump}
 use Rattle.comp_runs.proofs.StandingLemmas.{is_own, last_other, last_own}
 use Rattle.comp_runs.proofs.LineLemmas.{Promises, Stands}
 
-module _ (old : Standing) (s : Machine ℕ CompartmentTag) (line : Stands old s) (h : ℕ) (look : Look CompartmentTag)
+module _ (old : Standing) (s : Machine CompartmentState CompartmentTag) (line : Stands old s) (h : ℕ) (look : Look CompartmentTag)
     (outs : Outs CompartmentTag) (e : Event CompartmentTag)
     (allows : Allows compartments s h look outs e) where
   -- the word that the turn obeys

@@ -8,7 +8,7 @@ use Rattle.turn_steps.specs.declared.look.Look.{Look}
 use Rattle.turn_steps.specs.Effects.{with_store, with_tagged}
 use Rattle.engine_trait.specs.Events.{Event}
 use Rattle.engine_trait.specs.Machine.{Machine, hart_at}
-use Rattle.compartment_policy.specs.Compartments.{compartments, may_write}
+use Rattle.compartment_policy.specs.Compartments.{CompartmentState, compartments, may_write}
 use Rattle.compartment_policy.specs.declared.tag.CompartmentTag.{CompartmentTag}
 use Rattle.part_turns.specs.Moments.{service_of}
 use Rattle.part_turns.specs.Turns.{Allows, Does, after_step}
@@ -21,7 +21,7 @@ use Rattle.comp_runs.proofs.AccessLemmas.{KeepsTags, does_keep_tags, does_store}
 use Rattle.comp_runs.proofs.LineLemmas.{IsKept, Stands, same_owners}
 use Rattle.comp_runs.proofs.AllowedLemmas.{obeyed, obeys_rule, pcs_after, permitted, promised}
 
-module _ (old : Standing) (s : Machine ℕ CompartmentTag) (line : Stands old s) (h : ℕ) (look : Look CompartmentTag)
+module _ (old : Standing) (s : Machine CompartmentState CompartmentTag) (line : Stands old s) (h : ℕ) (look : Look CompartmentTag)
     (outs : Outs CompartmentTag) (e : Event CompartmentTag)
     (allows : Allows compartments s h look outs e) where
   store_writes : (register value : ℕ) → Does (hart_at s.core h) s.core.ram look register value → service_of e ≡ None → WritesByRight old.owners e
@@ -35,12 +35,12 @@ module _ (old : Standing) (s : Machine ℕ CompartmentTag) (line : Stands old s)
   }
 
   same_words : (ram : RamState CompartmentTag) → KeepsTags s.core.ram ram → service_of e ≡ None
-      → (n : ℕ) → n < length ram.words → IsKnown s.policy (nth_tag ram n) ((stands_after old e).owners n)
+      → (n : ℕ) → n < length ram.words → IsKnown s.policy.count (nth_tag ram n) ((stands_after old e).owners n)
   same_words ram keeps no_call n within =
       let same : nth_tag ram n ≡ nth_tag s.core.ram n =
       ap (λ tags. slice_index_or tags n ram.plain) keeps.tags ∙ ap (λ plain. slice_index_or s.core.ram.tags n plain) keeps.plain in
-      subst (λ (owners : OwnerBook). IsKnown s.policy (nth_tag ram n) (owners n)) (sym (same_owners old e no_call))
-      (subst (λ tag. IsKnown s.policy tag (old.owners n)) (sym same) (line.words n (subst (λ count. n < count) keeps.count within)))
+      subst (λ (owners : OwnerBook). IsKnown s.policy.count (nth_tag ram n) (owners n)) (sym (same_owners old e no_call))
+      (subst (λ tag. IsKnown s.policy.count tag (old.owners n)) (sym same) (line.words n (subst (λ count. n < count) keeps.count within)))
 
   pub went : (register value : ℕ) → service_of e ≡ None → Does (hart_at s.core h) s.core.ram look register value
       → IsKept old e (after_step compartments s h look outs register value)

@@ -3,6 +3,7 @@ use Rattle.std.proofs.Common.{◌≡◌, ℕ, ◌/◌, ◌<◌, true, false, Lis
 use Rattle.policy_trait.specs.declared.birth.Birth.{Birth}
 use Rattle.engine_trait.specs.Events.{Event, is_retirement}
 use Rattle.engine_trait.specs.Machine.{Machine, hart_at, is_ready_in}
+use Rattle.compartment_policy.specs.Compartments.{CompartmentState}
 use Rattle.compartment_policy.specs.declared.tag.CompartmentTag.{CompartmentTag}
 use Rattle.compartment_policy.specs.declared.tag.CompartmentTag.TheVariants.{Pc}
 use Rattle.part_turns.specs.Moments.{service_of}
@@ -16,8 +17,8 @@ use Rattle.comp_runs.proofs.StandingLemmas.{owners_are, stands_next}
 
 -- ---- the line, and what a turn does, by what stands
 
-pub record Stands (standing : Standing) (s : Machine ℕ CompartmentTag) : Type 0 where
-  pub words : (n : ℕ) → n < length s.core.ram.words → IsKnown s.policy (nth_tag s.core.ram n) (standing.owners n)
+pub record Stands (standing : Standing) (s : Machine CompartmentState CompartmentTag) : Type 0 where
+  pub words : (n : ℕ) → n < length s.core.ram.words → IsKnown s.policy.count (nth_tag s.core.ram n) (standing.owners n)
   pub pcs : (h : ℕ) → is_ready_in s.core h ≡ true → (hart_at s.core h).pc_tag ≡ Pc (standing.last h).owner (standing.last h).jumped
 
 pub record Promises (standing : Standing) (e : Event CompartmentTag) : Type 0 where
@@ -25,11 +26,11 @@ pub record Promises (standing : Standing) (e : Event CompartmentTag) : Type 0 wh
   pub follows : is_retirement e ≡ true → MayFollow (standing.last e.hart).owner (standing.last e.hart).jumped (standing.owners (e.pc / 4))
 
 module _ (birth : ℕ → Birth) (entries : List ℕ) where
-  pub line_stands : (events : List (Event CompartmentTag)) (s : Machine ℕ CompartmentTag) → CompLine birth entries events s
+  pub line_stands : (events : List (Event CompartmentTag)) (s : Machine CompartmentState CompartmentTag) → CompLine birth entries events s
       → Stands (standing_of birth entries events) s
   line_stands events s line = record { words = λ n within. record { tag_is = line.tags n within; few = line.few n within }; pcs = line.pcs }
 
-  pub line_after : (before : List (Event CompartmentTag)) (e : Event CompartmentTag) (t : Machine ℕ CompartmentTag)
+  pub line_after : (before : List (Event CompartmentTag)) (e : Event CompartmentTag) (t : Machine CompartmentState CompartmentTag)
       → Stands (stands_after (standing_of birth entries before) e) t → CompLine birth entries (before ++ e ∷ []) t
   line_after before e t after =
       let stands = subst (λ standing. Stands standing t) (sym (stands_next birth entries before e)) after in
@@ -58,7 +59,7 @@ stands_still standing e unretired none =
 -- ---- any turn
 
 -- a turn does as promised, and the line stands after it
-pub record IsKept (old : Standing) (e : Event CompartmentTag) (t : Machine ℕ CompartmentTag) : Type 0 where
+pub record IsKept (old : Standing) (e : Event CompartmentTag) (t : Machine CompartmentState CompartmentTag) : Type 0 where
   pub promises : Promises old e
   pub stands : Stands (stands_after old e) t
 
@@ -67,7 +68,7 @@ module _ (old : Standing) (e : Event CompartmentTag) where
   pub same_owners : service_of e ≡ None → (stands_after old e).owners ≡ old.owners
   same_owners none = ap (owners_by old.owners) none
 
-  pub not_retired : (t : Machine ℕ CompartmentTag) → is_retirement e ≡ false → service_of e ≡ None → Stands old t → IsKept old e t
+  pub not_retired : (t : Machine CompartmentState CompartmentTag) → is_retirement e ≡ false → service_of e ≡ None → Stands old t → IsKept old e t
   not_retired t unretired none stands = record {
     promises = promises_nothing old e unretired;
     stands = subst (λ standing. Stands standing t) (sym (stands_still old e unretired none)) stands;

@@ -18,7 +18,7 @@ use Rattle.turn_steps.proofs.KeptLemmas.{words_bytes}
 use Rattle.engine_trait.specs.Events.{Event}
 use Rattle.engine_trait.specs.Machine.{IsMachine, Machine, hart_at}
 use Rattle.engine_trait.specs.Turn.{core_served}
-use Rattle.compartment_policy.specs.Compartments.{compartments, is_writer}
+use Rattle.compartment_policy.specs.Compartments.{CompartmentState, compartments, is_writer}
 use Rattle.compartment_policy.specs.declared.tag.CompartmentTag.{CompartmentTag}
 use Rattle.policy_parts.specs.Part.{Planned, beside_others, value_after}
 use Rattle.part_turns.specs.Moments.{service_of, Service}
@@ -52,7 +52,7 @@ covered_in_memory range n count inside covered = grind (arith, nat_tests)
 
 -- ---- the turn
 
-module _ (old : Standing) (s : Machine ℕ CompartmentTag) (line : Stands old s) (h : ℕ) (look : Look CompartmentTag)
+module _ (old : Standing) (s : Machine CompartmentState CompartmentTag) (line : Stands old s) (h : ℕ) (look : Look CompartmentTag)
     (outs : Outs CompartmentTag) (e : Event CompartmentTag)
     (allows : Allows compartments s h look outs e) (p : Plan CompartmentTag) where
   abbrev arguments : Args CompartmentTag
@@ -64,18 +64,18 @@ module _ (old : Standing) (s : Machine ℕ CompartmentTag) (line : Stands old s)
   module _ (planned : Planned compartments s.policy look.service arguments outs.pc p) (new : RamState CompartmentTag) (n : ℕ)
       (within : n < length s.core.ram.words) where
     abbrev KnownWhere : Bool → Type 0
-    KnownWhere has = IsKnown (value_after compartments s.policy p) (nth_tag new n) (if has then owned_after service (old.owners n) else old.owners n)
+    KnownWhere has = IsKnown (value_after compartments s.policy p).count (nth_tag new n) (if has then owned_after service (old.owners n) else old.owners n)
 
     -- what the book says of a word, whether the range has it or not
     word_known : IsServed compartments s.policy p s.core.ram new n
-        → IsKnown (value_after compartments s.policy p) (nth_tag new n) (owners_by old.owners (Some service) n)
+        → IsKnown (value_after compartments s.policy p).count (nth_tag new n) (owners_by old.owners (Some service) n)
     word_known (written range range_is low high tag word) =
         subst KnownWhere (sym (covered_within range p.range n range_is low high))
         (known_within s.policy look.service arguments outs.pc p (nth_tag s.core.ram n) (nth_tag new n) tag (old.owners n) planned (line.words n within))
     word_known (kept outside tag word) =
         subst KnownWhere (sym (not_covered p.range n outside))
         (known_outside s.policy look.service arguments outs.pc p (nth_tag new n) (old.owners n)
-        (subst (λ tag. IsKnown s.policy tag (old.owners n)) (sym tag) (line.words n within)))
+        (subst (λ tag. IsKnown s.policy.count tag (old.owners n)) (sym tag) (line.words n within)))
 
     -- a word of the range that becomes zero
     zeroes_by_right : p.zero ≡ true → is_covered p.range n ≡ true → IsServed compartments s.policy p s.core.ram new n
@@ -121,7 +121,7 @@ module _ (old : Standing) (s : Machine ℕ CompartmentTag) (line : Stands old s)
       promises = promised old s line h look outs e allows service_writes;
       stands = record {
         words = λ n within.
-            subst (λ service. IsKnown (value_after compartments s.policy p) (nth_tag ram_after n) (owners_by old.owners service n)) (sym called)
+            subst (λ service. IsKnown (value_after compartments s.policy p).count (nth_tag ram_after n) (owners_by old.owners service n)) (sym called)
             (word_known planned ram_after n (subst (λ count. n < count) same_count within) (word_served n));
         pcs = pcs_after old s line h look outs e allows (moved_to (with_answer (hart_at s.core h) p.answer) look.effect.next outs.pc) ram_after refl
             (words_plain s.core.ram words);

@@ -8,7 +8,7 @@ use Rattle.policy_trait.specs.declared.services.Answer.{Answer}
 use Rattle.policy_trait.specs.declared.services.Args.{Args}
 use Rattle.policy_trait.specs.declared.services.Plan.{Plan}
 use Rattle.policy_trait.specs.declared.services.PlanEnd.TheVariants as plan_end
-use Rattle.compartment_policy.specs.Compartments.{compartment_knows, compartment_limit, compartment_plan, compartments, given_by, is_range, is_writer, let_plan, letting, refused_for, refused_plan, new_place, split_plan, splitting, words_of}
+use Rattle.compartment_policy.specs.Compartments.{CompartmentState, compartment_knows, compartment_plan, compartments, given_by, is_range, is_writer, let_plan, letting, refused_for, refused_plan, new_place, split_plan, splitting, words_of}
 use Rattle.compartment_policy.specs.declared.tag.CompartmentTag.{CompartmentTag}
 use Rattle.compartment_policy.specs.declared.tag.CompartmentTag.TheVariants.{Pc, Place, Plain}
 use Rattle.policy_product.specs.Both.{tag_beside}
@@ -25,30 +25,30 @@ data IsOwn (count number : ℕ) (a : Args CompartmentTag) (pc : CompartmentTag) 
   splits : (number == 32) ≡ true → p ≡ splitting count (words_of a) pc → IsOwn count number a pc p
   lets : (number == 32) ≡ false → p ≡ letting number a.a2 (words_of a) pc → IsOwn count number a pc p
 
-module _ (count number : ℕ) (a : Args CompartmentTag) (pc : CompartmentTag) (p : Plan CompartmentTag) where
+module _ (state : CompartmentState) (number : ℕ) (a : Args CompartmentTag) (pc : CompartmentTag) (p : Plan CompartmentTag) where
   split_by : (fits few : Bool) → (number == 32) ≡ true
-      → (if fits then (if few then Ok (splitting count (words_of a) pc) else Err plan_end.Spent) else refused_plan why.Range) ≡ Ok p
-      → IsOwn count number a pc p
-  split_by true true is e = splits is (sym (ok_is (splitting count (words_of a) pc) p e))
+      → (if fits then (if few then Ok (splitting state.count (words_of a) pc) else Err plan_end.Spent) else refused_plan why.Range) ≡ Ok p
+      → IsOwn state.count number a pc p
+  split_by true true is e = splits is (sym (ok_is (splitting state.count (words_of a) pc) p e))
   split_by true false is e = absurd cc
   split_by false few is e = absurd cc
 
   let_by : (fits known : Bool) → (number == 32) ≡ false
       → (if fits then (if known then Ok (letting number a.a2 (words_of a) pc) else refused_plan why.Args) else refused_plan why.Range) ≡ Ok p
-      → IsOwn count number a pc p
+      → IsOwn state.count number a pc p
   let_by true true is e = lets is (sym (ok_is (letting number a.a2 (words_of a) pc) p e))
   let_by true false is e = absurd cc
   let_by false known is e = absurd cc
 
-  own_by : (split : Bool) → (number == 32) ≡ split → (if split then split_plan count a pc else let_plan number count a pc) ≡ Ok p
-      → IsOwn count number a pc p
-  own_by true is e = split_by (is_range a.ram (words_of a)) (nat_lt count compartment_limit) is e
-  own_by false is e = let_by (is_range a.ram (words_of a)) (nat_lt a.a2 count) is e
+  own_by : (split : Bool) → (number == 32) ≡ split → (if split then split_plan state a pc else let_plan number state.count a pc) ≡ Ok p
+      → IsOwn state.count number a pc p
+  own_by true is e = split_by (is_range a.ram (words_of a)) (nat_lt state.count state.limit) is e
+  own_by false is e = let_by (is_range a.ram (words_of a)) (nat_lt a.a2 state.count) is e
 
-  own_plan : compartment_plan count number a pc ≡ Ok p → IsOwn count number a pc p
+  own_plan : compartment_plan state number a pc ≡ Ok p → IsOwn state.count number a pc p
   own_plan e = own_by (number == 32) refl e
 
-  not_zeroed : IsOwn count number a pc p → p.zero ≡ false
+  not_zeroed : IsOwn state.count number a pc p → p.zero ≡ false
   not_zeroed (splits is same) = ap (λ (q : Plan CompartmentTag). q.zero) same
   not_zeroed (lets is same) = ap (λ (q : Plan CompartmentTag). q.zero) same
 
@@ -117,9 +117,9 @@ module _ (count number : ℕ) (a : Args CompartmentTag) (pc : CompartmentTag) (o
 -- ---- another policy's service
 
 -- a word is as before, whether it was zeroed or not
-kept_tag : (count : ℕ) (zeroed : Bool) (pc tag new : CompartmentTag) → tag_beside compartments count zeroed pc tag ≡ Ok new → new ≡ tag
-kept_tag count false pc tag new e = sym (ok_is tag new e)
-kept_tag count true pc tag new e = (allowed_tag (is_writer pc tag) why.Consent tag new e).same
+kept_tag : (state : CompartmentState) (zeroed : Bool) (pc tag new : CompartmentTag) → tag_beside compartments state zeroed pc tag ≡ Ok new → new ≡ tag
+kept_tag state false pc tag new e = sym (ok_is tag new e)
+kept_tag state true pc tag new e = (allowed_tag (is_writer pc tag) why.Consent tag new e).same
 
 -- the book has no service with another number
 unchanged : (split lets_in lets_write : Bool) (other : ℕ) (answer : Option (Answer CompartmentTag)) (owned : Owned)
@@ -134,47 +134,51 @@ unchanged false false true other answer owned is = absurd cc
 
 -- ---- any service's plan
 
-not_less : (knows split : Bool) (count owner : ℕ) → owner < count → owner < (if knows then (if split then count + 1 else count) else count)
-not_less true true count owner few = omega arith
-not_less true false count owner few = few
-not_less false split count owner few = few
+-- how many compartments there are after a plan, by whether the policy knows the service and whether words are split off
+abbrev state_after : Bool → Bool → CompartmentState → CompartmentState
+state_after knows split state = if knows then record state { count = if split then state.count + 1 else state.count } else state
 
-module _ (count number : ℕ) (a : Args CompartmentTag) (pc : CompartmentTag) (p : Plan CompartmentTag) where
+not_less : (knows split : Bool) (state : CompartmentState) (owner : ℕ) → owner < state.count → owner < (state_after knows split state).count
+not_less true true state owner few = omega arith
+not_less true false state owner few = few
+not_less false split state owner few = few
+
+module _ (state : CompartmentState) (number : ℕ) (a : Args CompartmentTag) (pc : CompartmentTag) (p : Plan CompartmentTag) where
   -- a word that no service's range has
-  pub known_outside : (tag : CompartmentTag) (owned : Owned) → IsKnown count tag owned → IsKnown (value_after compartments count p) tag owned
+  pub known_outside : (tag : CompartmentTag) (owned : Owned) → IsKnown state.count tag owned → IsKnown (value_after compartments state p).count tag owned
   known_outside tag owned known = record {
     tag_is = known.tag_is;
-    few = not_less (compartment_knows p.service) (p.service == 32) count owned.owner known.few;
+    few = not_less (compartment_knows p.service) (p.service == 32) state owned.owner known.few;
   }
 
-  module _ (tag new : CompartmentTag) (given : word_tag compartments count p tag ≡ Ok new) where
+  module _ (tag new : CompartmentTag) (given : word_tag compartments state p tag ≡ Ok new) where
     -- the policy's own rule for the word, or another's service
     given_if : (knows : Bool) → compartment_knows number ≡ knows → p.service ≡ number
-        → (if knows then new_place p.service p.note p.pc tag else tag_beside compartments count p.zero p.pc tag) ≡ Ok new
+        → (if knows then new_place p.service p.note p.pc tag else tag_beside compartments state p.zero p.pc tag) ≡ Ok new
     given_if knows is service =
-        subst (λ test. (if test then new_place p.service p.note p.pc tag else tag_beside compartments count p.zero p.pc tag) ≡ Ok new)
+        subst (λ test. (if test then new_place p.service p.note p.pc tag else tag_beside compartments state p.zero p.pc tag) ≡ Ok new)
         (ap compartment_knows service ∙ is) given
 
     abbrev KnownWhere : Owned → Bool → Type 0
     KnownWhere owned knows =
-        IsKnown (if knows then (if p.service == 32 then count + 1 else count) else count) new (owned_after (service_of_plan number a p) owned)
+        IsKnown (state_after knows (p.service == 32) state).count new (owned_after (service_of_plan number a p) owned)
 
     -- a word of the range
-    pub known_within : (owned : Owned) → Planned compartments count number a pc p → IsKnown count tag owned
-        → IsKnown (value_after compartments count p) new (owned_after (service_of_plan number a p) owned)
+    pub known_within : (owned : Owned) → Planned compartments state number a pc p → IsKnown state.count tag owned
+        → IsKnown (value_after compartments state p).count new (owned_after (service_of_plan number a p) owned)
     known_within owned (own knows service planned) known =
         subst (KnownWhere owned) (sym (ap compartment_knows service ∙ knows))
-        (own_known count number a pc owned new p knows known.few (own_plan count number a pc p planned)
+        (own_known state.count number a pc owned new p knows known.few (own_plan state number a pc p planned)
         (ap (new_place p.service p.note p.pc) (sym known.tag_is) ∙ given_if true knows service))
     known_within owned (others unknown service from_pc answers) known =
         subst (KnownWhere owned) (sym (ap compartment_knows service ∙ unknown))
-        (subst (IsKnown count new) (sym (unchanged (number == 32) (number == 33) (number == 34) a.a2 p.answer owned unknown))
-        (record { tag_is = kept_tag count p.zero p.pc tag new (given_if false unknown service) ∙ known.tag_is; few = known.few }))
+        (subst (IsKnown state.count new) (sym (unchanged (number == 32) (number == 33) (number == 34) a.a2 p.answer owned unknown))
+        (record { tag_is = kept_tag state p.zero p.pc tag new (given_if false unknown service) ∙ known.tag_is; few = known.few }))
 
     -- a word that becomes zero let the compartment of the pc write it
-    pub zeroed_by_right : Planned compartments count number a pc p → p.zero ≡ true → is_writer pc tag ≡ true
-    zeroed_by_right (own knows service planned) zeroed = let kept = not_zeroed count number a pc p (own_plan count number a pc p planned) in absurd cc
+    pub zeroed_by_right : Planned compartments state number a pc p → p.zero ≡ true → is_writer pc tag ≡ true
+    zeroed_by_right (own knows service planned) zeroed = let kept = not_zeroed state number a pc p (own_plan state number a pc p planned) in absurd cc
     zeroed_by_right (others unknown service from_pc answers) zeroed =
         (allowed_tag (is_writer pc tag) why.Consent tag new
-        (ap (λ from. tag_beside compartments count true from tag) (sym from_pc) ∙ ap (λ zero. tag_beside compartments count zero p.pc tag) (sym zeroed)
+        (ap (λ from. tag_beside compartments state true from tag) (sym from_pc) ∙ ap (λ zero. tag_beside compartments state zero p.pc tag) (sym zeroed)
         ∙ given_if false unknown service)).allows

@@ -6,19 +6,19 @@ use Rattle.std.proofs.lemmas.List.FromFn.{get_or-map-range_with_len}
 use Rattle.policy_trait.specs.declared.birth.Birth.{Birth}
 use Rattle.tag_memory.specs.Hart.{HartState, fresh_hart}
 use Rattle.engine_trait.specs.Machine.{Machine, has_no_stop, is_ready_in, stop_at}
-use Rattle.compartment_policy.specs.Compartments.{compartments}
+use Rattle.compartment_policy.specs.Compartments.{CompartmentState, compartments}
 use Rattle.compartment_policy.specs.declared.tag.CompartmentTag.{CompartmentTag}
 use Rattle.compartment_policy.specs.declared.tag.CompartmentTag.TheVariants.{Plain}
 use Rattle.part_turns.specs.Start.{first_hart, first_machine}
 use Rattle.comp_runs.specs.CompLine.{CompLine, place_of, standing_of}
 use Rattle.comp_runs.specs.OwnerBook.{first_owners}
 
-module _ (birth : ℕ → Birth) (words entries : List ℕ) (count : ℕ) (few : (n : ℕ) → n < length words → (birth (4 * n)).owner < count) where
-  abbrev machine : Machine ℕ CompartmentTag
-  machine = first_machine compartments count birth words entries
+module _ (birth : ℕ → Birth) (words entries : List ℕ) (state : CompartmentState) (few : (n : ℕ) → n < length words → (birth (4 * n)).owner < state.count) where
+  abbrev machine : Machine CompartmentState CompartmentTag
+  machine = first_machine compartments state birth words entries
 
   abbrev starting : ℕ → HartState CompartmentTag
-  starting entry = first_hart compartments count birth words entries entry
+  starting entry = first_hart compartments state birth words entries entry
 
   hart_there : (h : ℕ) → is_ready_in machine.core h ≡ true → h < length entries
   hart_there h ready =

@@ -10,7 +10,7 @@ use Rattle.turn_steps.specs.declared.stop.Stop.TheVariants as stop
 use Rattle.engine_trait.specs.Events.{Event}
 use Rattle.engine_trait.specs.Machine.{CoreState, IsMachine, Machine, has_no_stop, hart_at, is_ready_in, stop_at, stopping}
 use Rattle.engine_trait.specs.Turn.{stopped_at}
-use Rattle.compartment_policy.specs.Compartments.{compartments}
+use Rattle.compartment_policy.specs.Compartments.{CompartmentState, compartments}
 use Rattle.compartment_policy.specs.declared.tag.CompartmentTag.{CompartmentTag}
 use Rattle.compartment_policy.specs.declared.tag.CompartmentTag.TheVariants.{Pc}
 use Rattle.part_turns.specs.Moments.{service_of}
@@ -22,7 +22,7 @@ use Rattle.comp_runs.proofs.ServiceLemmas.{IsKnown}
 use Rattle.comp_runs.proofs.LineLemmas.{IsKept, Stands, same_owners}
 use Rattle.comp_runs.proofs.AllowedLemmas.{last_elsewhere, promised, stores_nothing}
 
-module _ (old : Standing) (s : Machine ℕ CompartmentTag) (line : Stands old s) (h : ℕ) where
+module _ (old : Standing) (s : Machine CompartmentState CompartmentTag) (line : Stands old s) (h : ℕ) where
   -- a failure leaves what stands
   pub stopped_stands : (why : Stop) → Stands old (stopped_at s h why)
   stopped_stands why = record { words = line.words; pcs = λ n ready. line.pcs n (ready_after s.core h n why ready) }
@@ -34,7 +34,7 @@ stopped_not_ready core h why within ready =
     let going = (and_parts (nat_lt h (length core.harts)) (has_no_stop (stop_at (stopping core h why) h)) ready).1 in
     cc
 
-module _ (old : Standing) (s : Machine ℕ CompartmentTag) (line : Stands old s) (h : ℕ) (look : Look CompartmentTag)
+module _ (old : Standing) (s : Machine CompartmentState CompartmentTag) (line : Stands old s) (h : ℕ) (look : Look CompartmentTag)
     (outs : Outs CompartmentTag) (e : Event CompartmentTag)
     (allows : Allows compartments s h look outs e) where
   pcs_stopped : IsMachine compartments s → (why : Stop) (n : ℕ) → is_ready_in (stopping s.core h why) n ≡ true
@@ -54,7 +54,7 @@ module _ (old : Standing) (s : Machine ℕ CompartmentTag) (line : Stands old s)
     });
     stands = record {
       words = λ n within.
-          subst (λ (owners : OwnerBook). IsKnown s.policy (nth_tag s.core.ram n) (owners n)) (sym (same_owners old e no_call)) (line.words n within);
+          subst (λ (owners : OwnerBook). IsKnown s.policy.count (nth_tag s.core.ram n) (owners n)) (sym (same_owners old e no_call)) (line.words n within);
       pcs = pcs_stopped is (stop.Exit code);
     };
   }

@@ -3,7 +3,7 @@ use Rattle.std.proofs.Common.{ℕ, List, sym, subst}
 use Rattle.policy_trait.specs.declared.birth.Birth.{Birth}
 use Rattle.engine_trait.specs.Events.{Event}
 use Rattle.engine_trait.specs.Machine.{IsMachine, Machine}
-use Rattle.compartment_policy.specs.Compartments.{compartments}
+use Rattle.compartment_policy.specs.Compartments.{CompartmentState, compartments}
 use Rattle.compartment_policy.specs.declared.tag.CompartmentTag.{CompartmentTag}
 use Rattle.part_turns.specs.Turns.{Turns, exits, goes, idles, serves, stops}
 use Rattle.part_turns.specs.Keeps.{Keeps}
@@ -14,9 +14,9 @@ use Rattle.comp_runs.proofs.StopLemmas.{exited, stopped_stands}
 use Rattle.comp_runs.proofs.GoLemmas.{went}
 use Rattle.comp_runs.proofs.ServeLemmas.{served}
 
-module _ (old : Standing) (s : Machine ℕ CompartmentTag) (is : IsMachine compartments s) (line : Stands old s) (h : ℕ)
+module _ (old : Standing) (s : Machine CompartmentState CompartmentTag) (is : IsMachine compartments s) (line : Stands old s) (h : ℕ)
     (e : Event CompartmentTag) where
-  turn_kept : (t : Machine ℕ CompartmentTag) → Turns compartments s h e t → IsKept old e t
+  turn_kept : (t : Machine CompartmentState CompartmentTag) → Turns compartments s h e t → IsKept old e t
   turn_kept t (idles ready hart unretired no_call same) = not_retired old e t unretired no_call (subst (Stands old) (sym same) line)
   turn_kept t (stops why ready hart unretired no_call same) =
       not_retired old e t unretired no_call (subst (Stands old) (sym same) (stopped_stands old s line h why))

@@ -5,6 +5,7 @@ use Rattle.policy_trait.specs.declared.birth.Birth.{Birth}
 use Rattle.engine_trait.specs.Events.{Event, is_retirement}
 use Rattle.engine_trait.specs.Machine.{Machine, hart_at, is_ready_in}
 use Rattle.compartment_policy.specs.declared.tag.CompartmentTag.{CompartmentTag}
+use Rattle.compartment_policy.specs.Compartments.{CompartmentState}
 use Rattle.compartment_policy.specs.declared.tag.CompartmentTag.TheVariants.{Pc, Place}
 use Rattle.comp_runs.specs.CompSafe.{is_jump, owner_at}
 use Rattle.comp_runs.specs.OwnerBook.{Owned, OwnerBook, first_owners, owners_after}
@@ -41,8 +42,8 @@ module _ (birth : ℕ → Birth) (entries : List ℕ) where
 
   -- Each word's tag says what the book says of it, and its owner is one of the compartments. A ready hart's pc says whose
   -- word it obeyed last, and whether that was a jump.
-  pub record CompLine (events : List (Event CompartmentTag)) (s : Machine ℕ CompartmentTag) : Type 0 where
+  pub record CompLine (events : List (Event CompartmentTag)) (s : Machine CompartmentState CompartmentTag) : Type 0 where
     pub tags : (n : ℕ) → n < length s.core.ram.words → slice_index_or s.core.ram.tags n s.core.ram.plain ≡ place_of ((standing_of events).owners n)
-    pub few : (n : ℕ) → n < length s.core.ram.words → ((standing_of events).owners n).owner < s.policy
+    pub few : (n : ℕ) → n < length s.core.ram.words → ((standing_of events).owners n).owner < s.policy.count
     pub pcs : (h : ℕ) → is_ready_in s.core h ≡ true
         → (hart_at s.core h).pc_tag ≡ Pc ((standing_of events).last h).owner ((standing_of events).last h).jumped

@@ -6,6 +6,7 @@ use Rattle.policy_trait.specs.declared.birth.Birth.{Birth}
 use Rattle.policy_trait.specs.declared.services.Answer.{Answer}
 use Rattle.policy_trait.specs.declared.services.Words.{Words}
 use Rattle.policy_trait.specs.declared.sets.CompartmentSet.{CompartmentSet}
+use Rattle.compartment_policy.specs.Compartments.{let_in_service, let_write_service, split_service}
 use Rattle.engine_trait.specs.Events.{Event}
 use Rattle.part_turns.specs.Moments.{Service, service_of}
 
@@ -37,12 +38,12 @@ split_off None old = old
 split_off (Some answer) old = record { owner = answer.value; into = set_of 0; write = set_of 0 }
 
 module _ {T : Type 0} where
-  -- what a service does to a word of its range: 32 splits it off, 33 lets a2 jump to it, 34 lets a2 write it
+  -- what a service does to a word of its range: splits it off, lets a2 jump to it, or lets a2 write it
   abbrev pub owned_after : Service T → Owned → Owned
   owned_after x old =
-      if x.number == 32 then split_off x.answer old else
-      if x.number == 33 then record old { into = set_with old.into x.arguments.a2 } else
-      if x.number == 34 then record old { write = set_with old.write x.arguments.a2 } else
+      if x.number == split_service then split_off x.answer old else
+      if x.number == let_in_service then record old { into = set_with old.into x.arguments.a2 } else
+      if x.number == let_write_service then record old { write = set_with old.write x.arguments.a2 } else
       old
 
   abbrev pub owners_by : OwnerBook → Option (Service T) → OwnerBook

@@ -2,7 +2,7 @@
 
 ghost use Rattle.std.specs.Prelude.{◌≡◌, ℕ, ◌*◌, ◌<◌, List, [], length};
 ghost use Rattle.policy_trait.specs.declared.birth.Birth.{Birth};
-ghost use Rattle.compartment_policy.specs.Compartments.{compartments};
+ghost use Rattle.compartment_policy.specs.Compartments.{CompartmentState, compartments};
 ghost use Rattle.engine_trait.specs.Events.{Event};
 ghost use Rattle.part_turns.specs.Keeps.{Keeps};
 ghost use Rattle.part_turns.specs.Moments.{Moment};
@@ -33,7 +33,7 @@ pub fn safe_law()
 
 /// The line holds at every start whose owners are all below the count of compartments. The function does nothing.
 pub fn start_law()
-    ensures { (birth : ℕ → Birth) (words entries : List ℕ) (count : ℕ)
-        → ((n : ℕ) → n < length words → (birth (4 * n)).owner < count)
-        → CompLine birth entries [] (first_machine compartments count birth words entries) }
+    ensures { (birth : ℕ → Birth) (words entries : List ℕ) (state : CompartmentState)
+        → ((n : ℕ) → n < length words → (birth (4 * n)).owner < state.count)
+        → CompLine birth entries [] (first_machine compartments state birth words entries) }
 {}

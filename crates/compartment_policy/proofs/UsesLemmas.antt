@@ -1,5 +1,5 @@
 -- Each input that a group does not ignore changes an answer: a word of compartment 0, entered from one, that writes one.
-use Rattle.std.proofs.Common.{◌≡◌, ℕ, true, false, not, if◌then◌else◌, Ok, Err, refl, sym, ◌∙◌, true≢false}
+use Rattle.std.proofs.Common.{◌≡◌, false, not, if◌then◌else◌, Ok, Err, refl, sym, ◌∙◌, true≢false}
 use Rattle.std.proofs.Math.Bool.{or-true}
 use Rattle.shared_terms.proofs.CaseLemmas.{not_refused}
 use Rattle.rv_decode.specs.declared.groups.Group.{Group}
@@ -8,7 +8,7 @@ use Rattle.policy_trait.specs.UseLaws.{ignored_input}
 use Rattle.policy_trait.specs.Uses.{Input, Pc, Instruction, First, Second, Word, UsesExactly, is_ignored, with_input}
 use Rattle.policy_trait.specs.declared.rules.Ins.{Ins}
 use Rattle.policy_trait.specs.declared.rules.Why.TheVariants as why
-use Rattle.compartment_policy.specs.Compartments.{IsCount, compartment_ignores, compartment_rule, compartments, is_jump, is_store, refused_for}
+use Rattle.compartment_policy.specs.Compartments.{CompartmentState, IsCount, compartment_ignores, compartment_rule, compartments, is_jump, is_store, refused_for}
 use Rattle.compartment_policy.specs.CompartmentLaws.{compartment_laws}
 use Rattle.compartment_policy.specs.declared.tag.CompartmentTag.{CompartmentTag}
 use Rattle.compartment_policy.specs.declared.tag.CompartmentTag.TheVariants as tag
@@ -35,8 +35,8 @@ differs Word = λ g is e.
     let made : compartment_rule g (with_input Word tag.Plain all_at_home) ≡ Err (refused_for (why.Rule g)) = rw (is) refl in
     not_refused (sym made ∙ e ∙ allowed g)
 
-pub compartments_use_exactly : (count : ℕ) → UsesExactly compartments count
-compartments_use_exactly count = record {
-  ignored = λ g i is. ignored_input compartments IsCount compartment_laws count g i is;
+pub compartments_use_exactly : (state : CompartmentState) → UsesExactly compartments state
+compartments_use_exactly state = record {
+  ignored = λ g i is. ignored_input compartments IsCount compartment_laws state g i is;
   used = λ g i is. record { inputs = all_at_home; tag = tag.Plain; differs = differs i g is };
 }

@@ -1,5 +1,5 @@
 -- Compartments: each memory word has an owner, a set of those that may jump to it and a set of those that may write it.
--- The policy's value is how many compartments there are.
+-- The policy's value is how many compartments there are, and how many there may be.
 use Rattle.std.specs.Prelude.{ℕ, ◌+◌, ◌*◌, ◌%◌, ◌^◌, ◌<◌, ◌≤◌, ◌==◌, nat_le, nat_lt, Bool, true, false, not, ◌&&◌, ◌||◌, List, ◌++◌, codes, Option, Some, None, Result, Ok, Err, if◌then◌else◌}
 use Rattle.std.specs.Fmt.{decimal}
 use Rattle.pump_words.specs.Texts.{hex8_text}
@@ -24,12 +24,24 @@ use Rattle.policy_trait.specs.declared.services.Words.{Words}
 use Rattle.compartment_policy.specs.declared.tag.CompartmentTag.{CompartmentTag}
 use Rattle.compartment_policy.specs.declared.tag.CompartmentTag.TheVariants.{Plain, Pc, Place}
 
--- compartments are numbered from 0, and there are never more
+-- a set of compartments has room for so many, which are numbered from 0
 abbrev pub compartment_limit : ℕ
 compartment_limit = 32
 
-abbrev pub IsCount : ℕ → Type 0
-IsCount count = (1 ≤ count) × (count ≤ compartment_limit)
+-- how many compartments there are, which is the number of the next, and how many there may be
+pub record CompartmentState : Type 0 where
+  pub count : ℕ
+  pub limit : ℕ
+
+-- so many compartments at the start, and as many as a set has room for may come to be
+abbrev pub first_compartments : ℕ → CompartmentState
+first_compartments count = record { count = count; limit = compartment_limit }
+
+-- there is one at least, and there are no more than there may be, which a set has room for
+pub record IsCount (state : CompartmentState) : Type 0 where
+  pub some : 1 ≤ state.count
+  pub within : state.count ≤ state.limit
+  pub few : state.limit ≤ compartment_limit
 
 abbrev pub refused_for : Why → Refused
 refused_for reason = record { part = Comp; why = reason }
@@ -128,10 +140,11 @@ splitting count words pc = record {
   answer = Some (record { value = count; tag = Plain; rest = rest.Plain });
 }
 
-abbrev pub split_plan : ℕ → Args CompartmentTag → CompartmentTag → Result (Plan CompartmentTag) PlanEnd
-split_plan count a pc =
+-- while there may be one more
+abbrev pub split_plan : CompartmentState → Args CompartmentTag → CompartmentTag → Result (Plan CompartmentTag) PlanEnd
+split_plan state a pc =
     if is_range a.ram (words_of a) then
-    (if nat_lt count compartment_limit then Ok (splitting count (words_of a) pc) else Err plan_end.Spent)
+    (if nat_lt state.count state.limit then Ok (splitting state.count (words_of a) pc) else Err plan_end.Spent)
     else refused_plan why.Range
 
 -- the compartment let into the words, or let write them
@@ -145,8 +158,8 @@ let_plan number count a pc =
     (if nat_lt a.a2 count then Ok (letting number a.a2 (words_of a) pc) else refused_plan why.Args)
     else refused_plan why.Range
 
-abbrev pub compartment_plan : ℕ → ℕ → Args CompartmentTag → CompartmentTag → Result (Plan CompartmentTag) PlanEnd
-compartment_plan count number a pc = if number == split_service then split_plan count a pc else let_plan number count a pc
+abbrev pub compartment_plan : CompartmentState → ℕ → Args CompartmentTag → CompartmentTag → Result (Plan CompartmentTag) PlanEnd
+compartment_plan state number a pc = if number == split_service then split_plan state a pc else let_plan number state.count a pc
 
 -- what the service makes of an owner's word, where `other` is the compartment that it names
 abbrev pub given_by : ℕ → ℕ → ℕ → CompartmentSet → CompartmentSet → CompartmentTag
@@ -165,8 +178,8 @@ new_place number other Plain old = Err (refused_for why.NotOwner)
 new_place number other (Place owner into write) old = Err (refused_for why.NotOwner)
 
 -- a number that was given is never given again
-abbrev pub compartment_commit : ℕ → Plan CompartmentTag → ℕ
-compartment_commit count plan = if plan.service == split_service then count + 1 else count
+abbrev pub compartment_commit : CompartmentState → Plan CompartmentTag → CompartmentState
+compartment_commit state plan = record state { count = if plan.service == split_service then state.count + 1 else state.count }
 
 -- ---- the texts
 
@@ -182,21 +195,21 @@ IsOfWords Plain = Unit {0}
 IsOfWords (Pc owner jumped) = owner < 2 ^ 32
 IsOfWords (Place owner into write) = (owner < 2 ^ 32) × (into.bits < 2 ^ 32) × (write.bits < 2 ^ 32)
 
-abbrev pub compartments : PolicyModel CompartmentTag ℕ
+abbrev pub compartments : PolicyModel CompartmentTag CompartmentState
 compartments = record {
-  plain = λ count. Plain;
-  rule = λ count g x. compartment_rule g x;
-  ignores = λ count g. compartment_ignores g;
-  knows = λ count number. compartment_knows number;
-  uses = λ count number. compartment_uses number;
-  lend = λ count tag. Ok tt;
-  room = λ count. 0;
+  plain = λ state. Plain;
+  rule = λ state g x. compartment_rule g x;
+  ignores = λ state g. compartment_ignores g;
+  knows = λ state number. compartment_knows number;
+  uses = λ state number. compartment_uses number;
+  lend = λ state tag. Ok tt;
+  room = λ state. 0;
   plan = compartment_plan;
-  retag = λ count plan old. new_place plan.service plan.note plan.pc old;
-  wipe = λ count pc old. compartment_wipe pc old;
+  retag = λ state plan old. new_place plan.service plan.note plan.pc old;
+  wipe = λ state pc old. compartment_wipe pc old;
   commit = compartment_commit;
-  start_pc = λ count birth. Pc birth.owner false;
-  start_word = λ count birth. Place birth.owner birth.into birth.write;
-  text = λ count tag. compartment_text tag;
-  listed = λ count place. None;
+  start_pc = λ state birth. Pc birth.owner false;
+  start_word = λ state birth. Place birth.owner birth.into birth.write;
+  text = λ state tag. compartment_text tag;
+  listed = λ state place. None;
 }

@@ -1,14 +1,14 @@
 //! Laws of compartments.
 
-ghost use Rattle.std.specs.Prelude.{◌≡◌, ℕ};
+ghost use Rattle.std.specs.Prelude.{◌≡◌};
 ghost use Rattle.policy_trait.specs.Uses.{UsesExactly};
-ghost use Rattle.compartment_policy.specs.Compartments.{IsOfWords, compartment_text, compartments};
+ghost use Rattle.compartment_policy.specs.Compartments.{CompartmentState, IsOfWords, compartment_text, compartments};
 ghost use Rattle.compartment_policy.specs.declared.tag.CompartmentTag.{CompartmentTag};
 
-/// However many compartments there are, a rule uses exactly the inputs that its mask does not ignore: an ignored one
-/// changes no answer, and each other one changes some. The function does nothing.
+/// However many compartments there are and may be, a rule uses exactly the inputs that its mask does not ignore: an ignored
+/// one changes no answer, and each other one changes some. The function does nothing.
 pub fn ignores_law()
-    ensures { (count : ℕ) → UsesExactly compartments count }
+    ensures { (state : CompartmentState) → UsesExactly compartments state }
 {}
 
 /// Two tags of one text are one, where their numbers are words. The function does nothing.

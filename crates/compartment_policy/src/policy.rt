@@ -4,7 +4,7 @@ ghost use Rattle.std.specs.Prelude.{◌≡◌, ◌+◌, ◌≤◌, ◌++◌, cod
 ghost use Rattle.std.specs.Fmt.{decimal};
 ghost use Rattle.arrayvec.specs.ArrayVec.{array_vec_len};
 ghost use Rattle.pump_words.specs.Texts.{hex8_text};
-ghost use Rattle.compartment_policy.specs.Compartments.{compartments};
+ghost use Rattle.compartment_policy.specs.Compartments.{compartments, first_compartments};
 
 use crate::rules::{entered, is_jump, is_store, is_writer, may_write, refused};
 use crate::services::{LET_IN, LET_WRITE, SPLIT, let_other, retagged, split};
@@ -17,32 +17,38 @@ use rv_decode::Group;
 use std::alloc::AllocError;
 use std::marker::Model;
 
-/// The policy of compartments. Contracts see it as how many compartments there are, which is the number of the next one;
-/// the numbers below it are in use.
+/// How many compartments a set has room for.
+const COMPARTMENT_LIMIT: u32 = 32;
+
+/// The policy of compartments. Contracts see it as how many compartments there are, which is the number of the next one, and
+/// how many there may be; the numbers below the first are in use.
 #[derive(Drop)]
 pub struct Compartments {
     count: u32,
+    limit: u32,
 }
 
 impl Model for Compartments {
-    ghost use Rattle.std.specs.Prelude.{ℕ};
-    ghost use Rattle.compartment_policy.specs.Compartments.{IsCount};
+    ghost use Rattle.compartment_policy.specs.Compartments.{CompartmentState, IsCount};
 
-    ghost Value = { ℕ };
+    ghost Value = { CompartmentState };
 
-    ghost view = { λ s. s.count };
+    ghost view = { λ s. record { count = s.count; limit = s.limit } };
 
-    ghost invariant = { λ s. IsCount s.count };
+    ghost invariant = { λ s. IsCount (record { count = s.count; limit = s.limit }) };
 }
 
 impl Compartments {
-    /// So many compartments, from 1 to 32.
+    /// So many compartments, from 1 to 32; there may be 32.
     pub fn new(count: u32) -> Compartments
         requires some { 1 ≤ count }
         requires few { count ≤ 32 }
-        ensures { result ≡ count }
+        ensures { result ≡ first_compartments count }
     {
-        Compartments { count }
+        Compartments {
+            count,
+            limit: COMPARTMENT_LIMIT,
+        }
     }
 }
 
@@ -117,7 +123,7 @@ impl Policy for Compartments {
         pc: CompartmentTag,
     ) -> Result<Plan<CompartmentTag>, PlanEnd> {
         if number == SPLIT {
-            split(self.count, arguments, pc)
+            split(self.count, self.limit, arguments, pc)
         } else {
             let_other(number, self.count, arguments, pc)
         }

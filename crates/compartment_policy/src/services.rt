@@ -16,9 +16,6 @@ pub(crate) const LET_IN: u32 = 33;
 /// The number of the service that lets a compartment write words.
 pub(crate) const LET_WRITE: u32 = 34;
 
-/// How many compartments there can be.
-pub(crate) const COMPARTMENT_LIMIT: u32 = 32;
-
 /// The words that the arguments name: a0 is their base, a1 their count.
 fn words_of(arguments: &Args<CompartmentTag>) -> Words
     ensures { result ≡ words_of arguments.now }
@@ -37,19 +34,20 @@ fn is_range(ram: u32, words: Words) -> bool
     words.base % 4 == 0 && words.count >= 1 && end <= u64::from(ram)
 }
 
-/// The words split off as the compartment of the next number, which is `count`.
+/// The words split off as the compartment of the next number, which is `count`, while that is below `limit`.
 pub(crate) fn split(
     count: u32,
+    limit: u32,
     arguments: &Args<CompartmentTag>,
     pc: CompartmentTag,
 ) -> Result<Plan<CompartmentTag>, PlanEnd>
-    ensures { result ≡ split_plan count arguments.now pc }
+    ensures { result ≡ split_plan (record { count = count; limit = limit }) arguments.now pc }
 {
     let words = words_of(arguments);
     if !is_range(arguments.ram, words) {
         return Err(refuse(Why::Range));
     }
-    if count >= COMPARTMENT_LIMIT {
+    if count >= limit {
         return Err(PlanEnd::Spent);
     }
     Ok(Plan {

@@ -33,7 +33,7 @@ impl<T: TagTable<Tag = u32>, C: RuleStore, R: Rules<Tag = u32> + Drop> Model for
     ghost view = { λ d. tt };
 
     ghost invariant = { λ d. (slice_get (T.state d.tags).tags 0 ≡ Some (R.book d.rules).plain)
-        × AreRules (R.book d.rules) (T.state d.tags).tags (C.state d.store).kept };
+        × AreRules (R.book d.rules) (T.state d.tags).tags (C.state d.store).sets };
 }
 
 impl<T: TagTable<Tag = u32>, C: RuleStore, R: Rules<Tag = u32> + Drop> Desk<T, C, R> {
@@ -70,12 +70,12 @@ type AskingDesk<'a> = Desk<Interner<u32>, RuleCache, Asking<'a, Toy>>;
 
 /// The desk of the rules, with up to 7 tags, of which the plain one is there, and 2 kept rules.
 fn desk_of<'a>(alloc: Global, rules: Asking<'a, Toy>) -> Result<AskingDesk<'a>, Fail> {
-    let mut tags: Interner<u32> = Interner::made(alloc, 7);
+    let mut tags: Interner<u32> = Interner::made(alloc, 7)?;
     let plain = rules.plain();
     if tags.intern(plain).is_err() {
         return Err(Fail::from("no memory"));
     }
-    let store = RuleCache::made(alloc, 2)?;
+    let store = RuleCache::made(alloc, 1, 2)?;
     Ok(Desk { tags, store, rules })
 }
 

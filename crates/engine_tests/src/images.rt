@@ -46,7 +46,7 @@ pub(crate) fn keeping<P: Policy>(
     if cache == 0 || limit == 0 {
         return Err("no room")?;
     }
-    let started = start_cached(alloc, policy, image, cache, limit);
+    let started = start_cached(alloc, policy, image, 1, cache, limit);
     Ok(started.ok().ok_or("no engine")?)
 }
 

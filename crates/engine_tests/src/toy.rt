@@ -14,8 +14,8 @@ use std::cell::Cell;
 /// operand's to 10: a plain operand has a plain result. The rule refuses a first operand with the tag 9, and ignores the
 /// other three tags. Nor is a value with the tag 9 lent.
 ///
-/// The one service, 40, notes a0 and answers what was noted before, with the tag of a0. It makes of the tags of the words
-/// at 4 and 8 what is left of each to 100, and zeroes the words where a0 is 0. A word with the tag 9 is refused as no live
+/// The one service, 40, notes a0 and answers what was noted before, at most 1000, with the tag of a0. It makes of the tags of the
+/// words at 4 and 8 what is left of each to 100, and zeroes the words where a0 is 0. A word with the tag 9 is refused as no live
 /// one, and one with the tag 8 as not the caller's.
 #[derive(Drop)]
 pub(crate) struct Toy {
@@ -36,7 +36,7 @@ impl Toy {
 }
 
 impl Policy for Toy {
-    ghost use Rattle.std.proofs.Common.{◌≡◌, ℕ, ◌-◌, ◌==◌, Some, Ok, Err, true, false, codes, if◌then◌else◌, refl, rules};
+    ghost use Rattle.std.proofs.Common.{◌≡◌, ℕ, ◌-◌, ◌==◌, min, Some, Ok, Err, true, false, codes, if◌then◌else◌, lit≤, refl, rules};
     ghost use Rattle.policy_trait.specs.declared.rules.Part.TheVariants.{Heap};
     ghost use Rattle.policy_trait.specs.declared.rules.Why.TheVariants.{NotLive, NotOwner, Rule};
     ghost use Rattle.policy_trait.specs.declared.services.Rest.TheVariants.{Plain};
@@ -51,7 +51,7 @@ impl Policy for Toy {
       uses = λ s number. 1;
       lend = λ s tag. if tag == 9 then Err Heap else Ok tt;
       room = λ s. 12;
-      plan = λ s number a pc. Ok (record { service = number; pc = pc; note = a.a0; range = Some (record { base = 4; count = 2 }); zero = a.a0 == 0; answer = Some (record { value = s.noted; tag = a.t0; rest = Plain }) });
+      plan = λ s number a pc. Ok (record { service = number; pc = pc; note = a.a0; range = Some (record { base = 4; count = 2 }); zero = a.a0 == 0; answer = Some (record { value = min s.noted 1000; tag = a.t0; rest = Plain }) });
       retag = λ s p old. if old == 9 then Err (record { part = Heap; why = NotLive }) else if old == 8 then Err (record { part = Heap; why = NotOwner }) else Ok (100 - old);
       wipe = λ s pc old. Ok pc;
       commit = λ s p. record s { noted = p.note };
@@ -117,7 +117,7 @@ impl Policy for Toy {
             range: Some(Words { base: 4, count: 2 }),
             zero: arguments.a0 == 0,
             answer: Some(Answer {
-                value: self.noted,
+                value: self.noted.min(1000),
                 tag: arguments.t0,
                 rest: Rest::Plain,
             }),
@@ -183,5 +183,16 @@ impl Policy for Toy {
       few = λ s k known. Prim.search rules;
       service = λ s k a pc p known given. Prim.search rules;
       value = λ s k a pc p known given. Prim.search rules;
+      unused = λ s k a b pc known same j. Ok (record {
+        service = k;
+        pc = pc;
+        note = same.a0 (lit≤ tt) j;
+        range = Some (record { base = 4; count = 2 });
+        zero = same.a0 (lit≤ tt) j == 0;
+        answer = Some (record { value = min s.noted 1000; tag = same.t0 (lit≤ tt) j; rest = Plain });
+      });
+      blind_retag = λ s p x old. refl;
+      blind_commit = λ s p x. refl;
+      words = λ s k a pc p can holds are given. Prim.search rules;
     } };
 }

@@ -1,14 +1,15 @@
 -- What a turn leaves of the account.
-use Rattle.std.proofs.Common.{◌≡◌, ℕ, ◌≤◌, ◌==◌, Bool, true, false, List, [], ◌∷◌, Option, Some, None, Result, Ok, Err, filter, not, take, refl, ap, sym, ◌∙◌, length, if◌then◌else◌, arith}
+use Rattle.std.proofs.Common.{◌≡◌, ℕ, ◌≤◌, ◌==◌, Bool, true, false, List, [], ◌∷◌, Option, Some, None, Result, Ok, Err, filter, not, take, refl, ap, sym, ◌∙◌, length, if◌then◌else◌, slice_index_or, slice_set, arith}
 use Rattle.std.proofs.lemmas.Bool.{le-ltb}
 use Rattle.std.proofs.lemmas.Bool.Decides.{nat_tests}
 use Rattle.std.specs.List.{list_any}
+use Rattle.rv_decode.specs.declared.groups.Group.{Group}
 use Rattle.policy_trait.specs.Model.{PolicyModel}
 use Rattle.policy_trait.specs.declared.rules.Outs.{Outs}
 use Rattle.monitor_calls.specs.Service.{Job}
 use Rattle.turn_steps.specs.declared.look.Look.{Look}
 use Rattle.turn_steps.specs.declared.stop.Stop.{Stop}
-use Rattle.engine_trait.specs.Accounts.{Account, IsUncached, Key, account_after_turn, after_look, after_rule, after_service, is_kept, is_over, keeping, key_of, look_counted, looked_up, rule_counted, rule_kept, same_key, seeing, with_tags, written_tags}
+use Rattle.engine_trait.specs.Accounts.{Account, IsUncached, Key, account_after_turn, after_look, after_rule, after_service, is_kept, is_over, keeping, key_of, look_counted, looked_up, rule_counted, rule_kept, same_key, seeing, set_keys, set_of, with_tags, written_tags}
 use Rattle.shared_terms.specs.Counts.{next_count}
 use Rattle.engine_trait.specs.Machine.{Machine}
 use Rattle.engine_trait.specs.Turn.{rule_answer, job_at, preparation}
@@ -18,20 +19,30 @@ use Rattle.engine_trait.specs.declared.ends.Halt.{Halt}
 pub keeps_some : (rules : ℕ) → 1 ≤ rules → (rules == 0) ≡ false
 keeps_some rules some = grind (arith, nat_tests)
 
+-- where there is one set, it is the first
+pub one_set : (group : Group) → set_of group 1 ≡ 0
+one_set group = omega arith
+
 -- ---- the account of an engine that keeps no rules: each look-up is a miss, and no tag has a word
 
 module _ {T : Type 0} (eq : T → T → Bool) (a : Account T) (plain : IsUncached a) where
+  -- every group belongs to the one set, which has no key
+  no_keys : (key : Key T) → set_keys eq key a ≡ []
+  no_keys key = ap (λ (sets : List (List (Key T))). slice_index_or sets (set_of key.group (length sets)) []) plain.sets ∙ ap (λ place. slice_index_or ([] ∷ []) place []) (one_set key.group)
+
   pub looked_up_missed : (key : Key T) → looked_up eq key a ≡ record a { misses = next_count a.misses }
   looked_up_missed key =
-      ap (λ kept. if list_any (same_key eq key) kept then record (keeping eq key a) { hits = next_count a.hits } else record a { misses = next_count a.misses }) plain.kept
+      ap (λ keys. if list_any (same_key eq key) keys then record (keeping eq key a) { hits = next_count a.hits } else record a { misses = next_count a.misses }) (no_keys key)
 
   keeping_none : (key : Key T) → keeping eq key a ≡ a
   keeping_none key =
-      ap (λ n. record a { kept = take n (key ∷ filter (λ other. not (same_key eq key other)) a.kept) }) plain.capacity
-      ∙ ap (λ kept. record a { kept = kept }) (sym plain.kept)
+      ap (λ n. record a { sets = slice_set a.sets (set_of key.group (length a.sets)) (take n (key ∷ filter (λ other. not (same_key eq key other)) (set_keys eq key a))) }) plain.ways
+      ∙ ap (λ (sets : List (List (Key T))). record a { sets = slice_set sets (set_of key.group (length sets)) [] }) plain.sets
+      ∙ ap (λ place. record a { sets = slice_set ([] ∷ []) place [] }) (one_set key.group)
+      ∙ ap (λ sets. record a { sets = sets }) (sym plain.sets)
 
   seeing_none : (tags : List T) → seeing eq tags a ≡ a
-  seeing_none tags = ap (λ n. if n == 0 then a else record a { seen = with_tags eq a.seen tags }) plain.capacity
+  seeing_none tags = ap (λ n. if n == 0 then a else record a { seen = with_tags eq a.seen tags }) plain.ways
 
   rule_kept_none : {E : Type 0} (key : Key T) (answer : Result (Outs T) E) → rule_kept eq key answer a ≡ a
   rule_kept_none key (Ok outs) = ap (λ kept. seeing eq (outs.pc ∷ outs.result ∷ []) kept) (keeping_none key) ∙ seeing_none (outs.pc ∷ outs.result ∷ [])
@@ -39,6 +50,10 @@ module _ {T : Type 0} (eq : T → T → Bool) (a : Account T) (plain : IsUncache
 
   pub never_over : is_over a ≡ false
   never_over = le-ltb a.limit (length a.seen) (let empty : length a.seen ≡ 0 = ap length plain.seen in omega (arith, empty))
+
+  -- nor with whatever tags that come
+  pub seeing_never_over : (tags : List T) → is_over (seeing eq tags a) ≡ false
+  seeing_never_over tags = ap is_over (seeing_none tags) ∙ never_over
 
 module _ {S T : Type 0} (eq : T → T → Bool) (m : PolicyModel T S) (s : Machine S T) (h : ℕ) where
   after_rule_none : (found : Result (Look T) Stop) (a : Account T) → IsUncached a → after_rule eq m s h found a ≡ a
@@ -69,6 +84,13 @@ module _ {S T : Type 0} (eq : T → T → Bool) (m : PolicyModel T S) (s : Machi
   unfolding look_counted
   look_counted_missed a look plain looked = ap (λ found. after_look eq m s h found a) looked ∙ looked_up_missed eq a plain (key_of eq m s h look)
 
+  pub rule_counted_missed : (a : Account T) (look : Look T) → IsUncached a → preparation m s h ≡ Ok look → rule_counted eq m s h a ≡ record a { misses = next_count a.misses }
+  unfolding rule_counted
+  rule_counted_missed a look plain looked =
+      let missed = look_counted_missed a look plain looked in
+      ap (λ b. after_rule eq m s h (preparation m s h) b) missed
+      ∙ after_rule_none (preparation m s h) (record a { misses = next_count a.misses }) (record { ways = plain.ways; seen = plain.seen; sets = plain.sets })
+
   look_counted_none : (a : Account T) (why : Stop) → preparation m s h ≡ Err why → look_counted eq m s h a ≡ a
   unfolding look_counted
   look_counted_none a why looked = ap (λ found. after_look eq m s h found a) looked
@@ -76,7 +98,7 @@ module _ {S T : Type 0} (eq : T → T → Bool) (m : PolicyModel T S) (s : Machi
   pub accounted_missed : (a : Account T) (look : Look T) → IsUncached a → preparation m s h ≡ Ok look
       → account_after_turn eq m s h a ≡ record a { misses = next_count a.misses; turns = next_count a.turns }
   accounted_missed a look plain looked =
-      settled_account a (record a { misses = next_count a.misses }) (record { capacity = plain.capacity; seen = plain.seen; kept = plain.kept })
+      settled_account a (record a { misses = next_count a.misses }) (record { ways = plain.ways; seen = plain.seen; sets = plain.sets })
       (look_counted_missed a look plain looked)
 
   pub accounted_checked : (a : Account T) (why : Stop) → IsUncached a → preparation m s h ≡ Err why → account_after_turn eq m s h a ≡ record a { turns = next_count a.turns }
@@ -90,7 +112,7 @@ module _ {S T : Type 0} (eq : T → T → Bool) (m : PolicyModel T S) (s : Machi
   pub accounted_plain : (a : Account T) → IsUncached a → (n : ℕ) × (account_after_turn eq m s h a ≡ record a { misses = n; turns = next_count a.turns })
   accounted_plain a plain =
       let looked = look_counted_plain a plain in
-      (looked.0, settled_account a (record a { misses = looked.0 }) (record { capacity = plain.capacity; seen = plain.seen; kept = plain.kept }) looked.1)
+      (looked.0, settled_account a (record a { misses = looked.0 }) (record { ways = plain.ways; seen = plain.seen; sets = plain.sets }) looked.1)
 
 -- ---- any account: a turn leaves the halt, and counts itself once
 
@@ -99,7 +121,7 @@ either_halt halt true x y first second = first
 either_halt halt false x y first second = second
 
 seeing_halt : {T : Type 0} (eq : T → T → Bool) (tags : List T) (a : Account T) → (seeing eq tags a).halt ≡ a.halt
-seeing_halt eq tags a = either_halt a.halt (a.capacity == 0) a (record a { seen = with_tags eq a.seen tags }) refl refl
+seeing_halt eq tags a = either_halt a.halt (a.ways == 0) a (record a { seen = with_tags eq a.seen tags }) refl refl
 
 looked_up_halt : {T : Type 0} (eq : T → T → Bool) (key : Key T) (a : Account T) → (looked_up eq key a).halt ≡ a.halt
 looked_up_halt eq key a = either_halt a.halt (is_kept eq key a) (record (keeping eq key a) { hits = next_count a.hits }) (record a { misses = next_count a.misses }) refl refl

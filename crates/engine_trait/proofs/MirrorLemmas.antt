@@ -14,7 +14,6 @@ use Rattle.tag_memory.specs.Hart.{HartState}
 use Rattle.tag_memory.specs.Maps.{hart_by, ram_by}
 use Rattle.turn_steps.specs.Looks.{is_call, look_result}
 use Rattle.turn_steps.specs.Maps.{look_by}
-use Rattle.turn_steps.specs.declared.effects.Done.TheVariants as done
 use Rattle.turn_steps.specs.declared.look.Look.{Look}
 use Rattle.turn_steps.specs.declared.stop.Stop.{Stop}
 use Rattle.turn_steps.specs.declared.stop.Stop.TheVariants as stop

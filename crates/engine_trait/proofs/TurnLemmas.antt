@@ -13,7 +13,7 @@ use Rattle.turn_steps.specs.declared.stop.Stop.{Stop}
 use Rattle.engine_trait.specs.Events.{event_by, event_of, is_retiring, is_retirement}
 use Rattle.engine_trait.specs.EngineLaws.{is_made}
 use Rattle.engine_trait.specs.Machine.{CoreState, Machine, has_no_stop, hart_at, is_ready_in, stop_at}
-use Rattle.engine_trait.specs.Turn.{Turned, rule_answer, attempt, carried_at, turn_effect, end_of, job_at, or_unserved, turn_job, preparation, service_on, settlement, turn_by, turn_of}
+use Rattle.engine_trait.specs.Turn.{Turned, rule_answer, rule_at, attempt, carried_at, turn_effect, end_of, job_at, or_unserved, turn_job, preparation, service_on, settlement, turn_by, turn_of}
 use Rattle.engine_trait.specs.declared.ends.TurnEnd.TheVariants as ends
 
 pub absent_waits : {T : Type 0} (core : CoreState T) (h : ℕ) → length core.harts ≤ h → is_ready_in core h ≡ false
@@ -25,6 +25,11 @@ pub job_ruled : {S T : Type 0} (m : PolicyModel T S) (s : Machine S T) (h : ℕ)
 unfolding job_at
 job_ruled m s h look outs looked ruled =
     ap (λ found. found >>= λ l. rule_answer m s h l >>= λ o. turn_job m s h l o) looked ∙ ap (λ answer. answer >>= λ o. turn_job m s h look o) ruled
+
+-- the answer of the rule, where the turn comes to it
+pub rule_looked : {S T : Type 0} (m : PolicyModel T S) (s : Machine S T) (h : ℕ) (look : Look T) → preparation m s h ≡ Ok look → rule_at m s h ≡ rule_answer m s h look
+unfolding rule_at
+rule_looked m s h look looked = ap (λ found. found >>= rule_answer m s h) looked
 
 -- an instruction that calls no service has no work of one
 pub planned_own : {S T : Type 0} (m : PolicyModel T S) (s : Machine S T) (h : ℕ) (look : Look T) (outs : Outs T) → is_call look.group ≡ false → turn_job m s h look outs ≡ Ok None

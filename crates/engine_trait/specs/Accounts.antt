@@ -1,8 +1,9 @@
 -- The account of an engine: the tags that have words, the keys of kept rules, the counts, and why it is stopped as a whole.
-use Rattle.std.specs.Prelude.{◌≡◌, ℕ, ◌==◌, Bool, ◌&&◌, not, nat_lt, List, [], ◌∷◌, ◌++◌, filter, length, map, take, Option, Some, None, Result, Ok, Err, if◌then◌else◌}
+use Rattle.std.specs.Prelude.{◌≡◌, ℕ, ◌%◌, ◌==◌, Bool, ◌&&◌, not, nat_lt, List, [], ◌∷◌, ◌++◌, filter, length, map, take, Option, Some, None, Result, Ok, Err, if◌then◌else◌, slice_index_or, slice_set}
 use Rattle.std.specs.List.{list_any}
 use Rattle.rv_decode.specs.contracts.groups.GroupPartialEq.TheImpl.{eq-value}
 use Rattle.rv_decode.specs.declared.groups.Group.{Group}
+use Rattle.rv_decode.specs.declared.groups.Group.TheVariants as group
 use Rattle.policy_trait.specs.Model.{PolicyModel, masked_inputs}
 use Rattle.policy_trait.specs.declared.rules.Ins.{Ins}
 use Rattle.policy_trait.specs.declared.rules.Outs.{Outs}
@@ -20,6 +21,34 @@ use Rattle.engine_trait.specs.declared.ends.Halt.{Halt}
 abbrev pub group_eq : Group → Group → Bool
 group_eq = eq-value.it
 
+-- the groups in the order of the table of groups, from 1
+abbrev pub group_number : Group → ℕ
+group_number group.Const = 1
+group_number group.Here = 2
+group_number group.Jal = 3
+group_number group.Jalr = 4
+group_number group.Branch = 5
+group_number group.LoadWord = 6
+group_number group.LoadPart = 7
+group_number group.StoreWord = 8
+group_number group.StorePart = 9
+group_number group.Move = 10
+group_number group.AddImm = 11
+group_number group.AluImm = 12
+group_number group.Add = 13
+group_number group.Sub = 14
+group_number group.Alu = 15
+group_number group.Fence = 16
+group_number group.Exit = 17
+group_number group.Put = 18
+group_number group.Get = 19
+group_number group.Break = 20
+group_number group.Call = 21
+
+-- the set of rules that a group belongs to, where there are so many
+abbrev pub set_of : Group → ℕ → ℕ
+set_of group count = group_number group % count
+
 -- what a rule is looked up by: the group and the five tags, each input that the policy ignores made plain
 pub record Key (T : Type 0) : Type 0 where
   pub group : Group
@@ -30,10 +59,10 @@ pub record Account (T : Type 0) : Type 0 where
   -- the tags that have words, in the order of their first appearance, and how many may have
   pub seen : List T
   pub limit : ℕ
-  -- the keys of the rules that are kept, the most recent first, and how many may be. With a capacity of 0 there are no
-  -- words, no limit and no kept rules.
-  pub kept : List (Key T)
-  pub capacity : ℕ
+  -- the keys of the rules that are kept, a list for each set, the most recent first, and how many each set may have. With 0
+  -- there are no words, no limit and no kept rules.
+  pub sets : List (List (Key T))
+  pub ways : ℕ
   pub turns : ℕ
   pub hits : ℕ
   pub misses : ℕ
@@ -41,9 +70,9 @@ pub record Account (T : Type 0) : Type 0 where
 
 -- the account of an engine that keeps no rules: no tag has a word
 pub record IsUncached {T : Type 0} (account : Account T) : Type 0 where
-  pub capacity : account.capacity ≡ 0
+  pub ways : account.ways ≡ 0
   pub seen : account.seen ≡ []
-  pub kept : account.kept ≡ []
+  pub sets : account.sets ≡ [] ∷ []
 
 -- what an engine tells of its counts
 abbrev pub counts_of : {T : Type 0} → Account T → Counts
@@ -51,7 +80,7 @@ counts_of account = record { turns = account.turns; hits = account.hits; misses 
 
 -- an engine that keeps no rules, at the start
 abbrev pub plain_account : {T : Type 0} → Account T
-plain_account = record { seen = []; limit = 0; kept = []; capacity = 0; turns = 0; hits = 0; misses = 0; halt = None }
+plain_account = record { seen = []; limit = 0; sets = [] ∷ []; ways = 0; turns = 0; hits = 0; misses = 0; halt = None }
 
 module _ {T : Type 0} (eq : T → T → Bool) where
   -- a tag that is new goes to the end
@@ -71,14 +100,22 @@ module _ {T : Type 0} (eq : T → T → Bool) where
   abbrev pub same_key : Key T → Key T → Bool
   same_key x y = group_eq x.group y.group && same_inputs x.inputs y.inputs
 
+  -- the kept keys of the set that a key belongs to
+  abbrev pub set_keys : Key T → Account T → List (Key T)
+  set_keys key account = slice_index_or account.sets (set_of key.group (length account.sets)) []
+
   -- whether a rule is kept under the key
   abbrev pub is_kept : Key T → Account T → Bool
-  is_kept key account = list_any (same_key key) account.kept
+  is_kept key account = list_any (same_key key) (set_keys key account)
 
   -- the key goes to the front, and the last one goes where there are too many
+  abbrev pub fronted : ℕ → Key T → List (Key T) → List (Key T)
+  fronted ways key keys = take ways (key ∷ filter (λ other. not (same_key key other)) keys)
+
+  -- it does so in its set
   abbrev pub keeping : Key T → Account T → Account T
   keeping key account =
-      record account { kept = take account.capacity (key ∷ filter (λ other. not (same_key key other)) account.kept) }
+      record account { sets = slice_set account.sets (set_of key.group (length account.sets)) (fronted account.ways key (set_keys key account)) }
 
   -- a look-up is a hit, which moves the key to the front, or a miss
   abbrev pub looked_up : Key T → Account T → Account T
@@ -87,7 +124,7 @@ module _ {T : Type 0} (eq : T → T → Bool) where
 
   -- the tags have words from now on
   abbrev pub seeing : List T → Account T → Account T
-  seeing tags account = if account.capacity == 0 then account else record account { seen = with_tags account.seen tags }
+  seeing tags account = if account.ways == 0 then account else record account { seen = with_tags account.seen tags }
 
   -- an allowed rule is kept, and its outputs have words
   abbrev pub rule_kept : {E : Type 0} → Key T → Result (Outs T) E → Account T → Account T
@@ -106,6 +143,10 @@ answer_tags (Some answer) = answer.tag ∷ []
 -- the tags that a service writes: those of its range, ascending, and that of its answer
 abbrev pub written_tags : {T : Type 0} → Job T → List T
 written_tags job = map (λ word. word.2) job.words ++ answer_tags job.plan.answer
+
+-- the first of them, if there is any
+abbrev pub first_written : {T : Type 0} → Job T → List T
+first_written job = take 1 (written_tags job)
 
 module _ {S T : Type 0} (eq : T → T → Bool) (m : PolicyModel T S) (s : Machine S T) (h : ℕ) where
   -- the key that the rule of a look is kept under

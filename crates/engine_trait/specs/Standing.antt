@@ -1,9 +1,10 @@
 -- An engine as its callers see it, and one step of it: the turn of a hart with what it leaves of the account.
-use Rattle.std.specs.Prelude.{◌≡◌, ◌⊎◌, ℕ, Bool, true, false, ◌&&◌, List, Option, Some, None, IsOk}
+use Rattle.std.specs.Prelude.{◌≡◌, ◌⊎◌, ℕ, Bool, true, false, ◌&&◌, List, Option, Some, None, Ok, IsOk}
 use Rattle.policy_trait.specs.Model.{PolicyModel}
-use Rattle.engine_trait.specs.Accounts.{Account, account_after_turn, before_out, is_over, look_counted, rule_counted}
+use Rattle.monitor_calls.specs.Service.{Job}
+use Rattle.engine_trait.specs.Accounts.{Account, account_after_turn, before_out, first_written, is_over, look_counted, rule_counted, seeing}
 use Rattle.engine_trait.specs.Machine.{Machine, is_ready_in}
-use Rattle.engine_trait.specs.Turn.{preparation, stopped_at, turn_of}
+use Rattle.engine_trait.specs.Turn.{job_at, rule_at, stopped_at, turn_of}
 use Rattle.engine_trait.specs.declared.ends.Halt.{Halt}
 use Rattle.engine_trait.specs.declared.ends.Halt.TheVariants as halt
 use Rattle.turn_steps.specs.declared.stop.Stop.{Stop}
@@ -34,6 +35,19 @@ is_ready e h = is_running e.account.halt && is_ready_in e.machine.core h
 -- the account stopped for want of memory
 abbrev pub wanting : {T : Type 0} → Account T → Account T
 wanting account = record account { halt = Some halt.Memory }
+
+module _ {S T : Type 0} (eq : T → T → Bool) (m : PolicyModel T S) (e : Standing S T) (h : ℕ) where
+  -- Memory ran out as the rule was asked, whose outputs can all have words: the look-up is counted, and the rule is not kept.
+  pub record GivesUpAtRule (account : Account T) : Type 0 where
+    pub fits : is_over (rule_counted eq m e.machine h e.account) ≡ false
+    pub left : account ≡ wanting (look_counted eq m e.machine h e.account)
+
+  -- Memory ran out in a service that nothing refuses, and the first tag that it writes can have a word: the rule is kept.
+  pub record GivesUpAtService (account : Account T) : Type 0 where
+    pub job : Job T
+    pub served : job_at m e.machine h ≡ Ok (Some job)
+    pub fits : is_over (seeing eq (first_written job) (rule_counted eq m e.machine h e.account)) ≡ false
+    pub left : account ≡ wanting (rule_counted eq m e.machine h e.account)
 
 module _ {S T : Type 0} (eq : T → T → Bool) (m : PolicyModel T S) (e : Standing S T) (feed : List ℕ) (h : ℕ) where
   -- the turn is made: it is the machine's, and it is counted
@@ -67,14 +81,14 @@ module _ {S T : Type 0} (eq : T → T → Bool) (m : PolicyModel T S) (e : Stand
   unfoldable pub step : Stepped S T
   step = step_by (is_ready e h) (is_over (account_after_turn eq m e.machine h e.account))
 
-  -- Memory ran out in a turn that came to its rule: the look-up is counted, and the rule is kept where the turn came to its
-  -- service; the engine is stopped, the turn is not counted, and nothing else changes.
+  -- Memory ran out in a turn whose rule allows, and not where tag words had run out: the engine is stopped, the turn is not
+  -- counted, and nothing else changes.
   pub record GivesUp (f : Standing S T) (fed : List ℕ) : Type 0 where
     pub ready : is_ready e h ≡ true
-    pub asked : IsOk (preparation m e.machine h)
+    pub allowed : IsOk (rule_at m e.machine h)
     pub machine : f.machine ≡ e.machine
     pub unfed : fed ≡ feed
-    pub account : (f.account ≡ wanting (look_counted eq m e.machine h e.account)) ⊎ (f.account ≡ wanting (rule_counted eq m e.machine h e.account))
+    pub account : GivesUpAtRule eq m e h f.account ⊎ GivesUpAtService eq m e h f.account
 
 -- a stop that is no exit: one of the checks or the policy ended the turn
 abbrev pub IsFailure : Stop → Type 0

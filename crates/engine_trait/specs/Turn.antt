@@ -54,6 +54,12 @@ abbrev pub or_unserved : {T : Type 0} → ℕ → ℕ → Result (Job T) PlanEnd
 or_unserved pc service (Ok job) = Ok (Some job)
 or_unserved pc service (Err end) = Err (service_stop pc service end)
 
+-- whether it is the work of a policy's service that nothing refuses
+abbrev pub is_job : {T : Type 0} → Result (Option (Job T)) Stop → Bool
+is_job (Ok (Some job)) = true
+is_job (Ok None) = false
+is_job (Err why) = false
+
 -- ---- the core after the effect
 
 -- after a service: the words are written, a0 has the answer, the pc goes on
@@ -104,6 +110,10 @@ module _ {S T : Type 0} (m : PolicyModel T S) (s : Machine S T) where
   unfoldable pub rule_answer : ℕ → Look T → Result (Outs T) Stop
   rule_answer h look = or_violation (hart_at s.core h).pc (m.rule s.policy look.group look.inputs)
 
+  -- the answer of the rule, where the turn comes to one
+  unfoldable pub rule_at : ℕ → Result (Outs T) Stop
+  rule_at h = preparation h >>= rule_answer h
+
   -- what the policy's service that is called will do: its plan, and the words of the plan's range
   unfoldable pub service_on : ℕ → Look T → Outs T → Result (Job T) PlanEnd
   service_on h look outs =
@@ -120,6 +130,10 @@ module _ {S T : Type 0} (m : PolicyModel T S) (s : Machine S T) where
     look ← preparation h
     outs ← rule_answer h look
     turn_job h look outs
+
+  -- the turn comes to a service of the policy that nothing refuses
+  abbrev pub is_served : ℕ → Bool
+  is_served h = is_job (job_at h)
 
 module _ {S T : Type 0} (m : PolicyModel T S) (s : Machine S T) (feed : List ℕ) (h : ℕ) where
   -- the effect: that of the service, of which the policy takes note, or that of the instruction

@@ -1,5 +1,5 @@
 -- Each input that a rule does not ignore changes an answer: where all is allowed, a tag in its place that is not.
-use Rattle.std.proofs.Common.{◌≡◌, ℕ, true, false, List, Some, Result, true≢false}
+use Rattle.std.proofs.Common.{◌≡◌, ℕ, false, List, Some, Result, true≢false}
 use Rattle.shared_terms.proofs.CaseLemmas.{not_refused}
 use Rattle.rv_decode.specs.declared.groups.Group.{Group}
 use Rattle.policy_trait.specs.UseLaws.{ignored_input}

@@ -1,5 +1,5 @@
 -- Flow keeps the laws of a policy.
-use Rattle.std.proofs.Common.{◌≡◌, ℕ, false, Option, Some, None, List, refl}
+use Rattle.std.proofs.Common.{◌≡◌, ℕ, Option, Some, None, List, refl}
 use Rattle.std.proofs.lemmas.Bool.{false≢true}
 use Rattle.rv_decode.specs.declared.groups.Group.{Group}
 use Rattle.policy_trait.specs.PolicyLaws.{KeepsLaws}
@@ -47,4 +47,8 @@ flow_laws = record {
   few = λ edges k known. absurd (false≢true known);
   service = λ edges k a pc p known given. absurd (false≢true known);
   value = λ edges k a pc p known given. absurd (false≢true known);
+  unused = λ edges k a b pc known same. refl;
+  blind_retag = λ edges p x old. refl;
+  blind_commit = λ edges p x. refl;
+  words = λ edges k a pc p can held are given. absurd (false≢true can.known);
 }

@@ -1,5 +1,5 @@
 -- Each input that a rule does not ignore changes an answer: where all is allowed, the tag of a free word is not.
-use Rattle.std.proofs.Common.{◌≡◌, true, false, true≢false}
+use Rattle.std.proofs.Common.{◌≡◌, false, true≢false}
 use Rattle.shared_terms.proofs.CaseLemmas.{not_refused}
 use Rattle.rv_decode.specs.declared.groups.Group.{Group}
 use Rattle.policy_trait.specs.UseLaws.{ignored_input}

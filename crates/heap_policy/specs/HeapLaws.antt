@@ -1,5 +1,5 @@
 -- Heap safety keeps the laws of a policy.
-use Rattle.std.proofs.Common.{◌≡◌, ℕ, ◌+◌, ◌*◌, ◌%◌, ◌<◌, ◌≤◌, ◌==◌, Bool, true, false, cond, List, [], ◌∷◌, Option, Some, None, Ok, Err, IsTrue, nat_lt, if◌then◌else◌, refl, sym, ap, subst, arith}
+use Rattle.std.proofs.Common.{◌≡◌, ℕ, ◌+◌, ◌*◌, ◌%◌, ◌^◌, ◌<◌, ◌≤◌, ◌==◌, Bool, true, false, cond, List, [], ◌∷◌, Option, Some, None, Ok, Err, IsTrue, nat_lt, if◌then◌else◌, refl, sym, ap, subst, arith}
 use Rattle.std.proofs.lemmas.Bool.Decides.{nat_tests}
 use Rattle.std.proofs.lemmas.List.Elements.{All-filter, All-head, All-push, All-tail, All-weaker}
 use Rattle.std.proofs.lemmas.Option.{none-some, same_Some}
@@ -54,11 +54,12 @@ rule_masked g x = ap (λ result. outs_or_refusal g (if is_static x.ci then resul
 
 -- ---- the plans
 
--- a plan of this policy: where its range is, what its answer is, and that its block can be handed out
+-- a plan of this policy: where its range is, what its answer is and how large at most, and that its block can be handed out
 record IsHeapPlan (state : HeapState) (number : ℕ) (p : Plan HeapTag) : Type 0 where
   service : p.service ≡ number
   within : IsSpace state.space → ForSome p.range (IsRange state.space.top)
   plain : (x : Answer HeapTag) → p.answer ≡ Some x → x.rest ≡ rest.Plain
+  low : (x : Answer HeapTag) → p.answer ≡ Some x → x.value ≤ state.space.top
   hands_out : (number ≡ free_service → ⊥) → ForSome p.range (CanHandOut state p.note)
 
 -- what is found has what all have
@@ -80,6 +81,10 @@ as_range : (top : ℕ) (words : Words) → words.base % 4 ≡ 0 → 1 ≤ words.
     → IsRange top words
 as_range top words aligned nonempty within = record { aligned = aligned; nonempty = nonempty; within = within }
 
+-- they start below its end
+starts_below : (state : HeapState) (words : Words) → words.base + 4 * words.count ≤ state.space.top → words.base ≤ state.space.top
+starts_below state words within = omega (arith, within)
+
 -- the next block at the place where it fits
 made : (state : HeapState) (number : ℕ) (words : Words) (pc : HeapTag) → malloc_service ≡ number → CanHandOut state state.next words
     → IsHeapPlan state number (handing_out state.next words pc)
@@ -89,6 +94,8 @@ made state number words pc is can = record {
       subst (IsRange state.space.top) (same_Some words x x_is)
       (as_range state.space.top words can.fit.aligned can.some can.fit.lies_free.to);
   plain = λ x x_is. ap (λ (y : Answer HeapTag). y.rest) (sym (same_Some _ x x_is));
+  low = λ x x_is.
+      subst (λ (value : ℕ). value ≤ state.space.top) (ap (λ (y : Answer HeapTag). y.value) (same_Some _ x x_is)) (starts_below state words can.fit.lies_free.to);
   hands_out = λ differs x x_is. subst (CanHandOut state state.next) (same_Some words x x_is) can;
 }
 
@@ -98,6 +105,7 @@ passed state number pc is = record {
   service = is;
   within = λ space x x_is. absurd (none-some x x_is);
   plain = λ x x_is. ap (λ (y : Answer HeapTag). y.rest) (sym (same_Some _ x x_is));
+  low = λ x x_is. subst (λ (value : ℕ). value ≤ state.space.top) (ap (λ (y : Answer HeapTag). y.value) (same_Some _ x x_is)) (omega arith);
   hands_out = λ differs x x_is. absurd (none-some x x_is);
 }
 
@@ -111,6 +119,7 @@ released state number block pc is lies = record {
       let here = lies space in
       subst (IsRange state.space.top) (same_Some words x x_is) (as_range state.space.top words here.aligned here.some here.to);
   plain = λ x x_is. absurd (none-some x x_is);
+  low = λ x x_is. absurd (none-some x x_is);
   hands_out = λ differs. absurd (differs (sym is));
 }
 
@@ -241,6 +250,15 @@ wider : (low high : ℕ) (words : Words) → low ≤ high → IsRange low words 
 wider low high words le range =
     record { aligned = range.aligned; nonempty = range.nonempty; within = omega (arith, le, range.within) }
 
+word_below : (top ram value : ℕ) → value ≤ top → top ≤ ram → ram < 2 ^ 32 → value < 2 ^ 32
+word_below top ram value low room fits = omega (arith, low, room, fits)
+
+-- ---- the services use a0 alone
+
+unused_by : (state : HeapState) (number : ℕ) (a b : Args HeapTag) (pc : HeapTag) → a.a0 ≡ b.a0 → a.t0 ≡ b.t0
+    → heap_plan state number a pc ≡ heap_plan state number b pc
+unused_by state number a b pc value tag = λ j. heap_plan state number (record a { a0 = value j; t0 = tag j }) pc
+
 pub heap_laws : KeepsLaws heap IsHeap
 heap_laws = record {
   masks = λ state g x. rule_masked g x;
@@ -265,4 +283,9 @@ heap_laws = record {
   few = λ state k known. omega arith;
   service = λ state k a pc p known given. (planned state k a pc p known given).service;
   value = λ state k a pc p known given x x_is. plain_keeps a x ((planned state k a pc p known given).plain x x_is);
+  unused = λ state k a b pc known same. unused_by state k a b pc (same.a0 (omega arith)) (same.t0 (omega arith));
+  blind_retag = λ state p x old. refl;
+  blind_commit = λ state p x. refl;
+  words = λ state k a pc p can holds are given x x_is.
+      word_below state.space.top a.ram x.value ((planned state k a pc p can.known given).low x x_is) can.room are.ram;
 }

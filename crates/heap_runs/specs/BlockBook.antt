@@ -4,7 +4,7 @@ use Rattle.std.specs.List.{filter, fold}
 use Rattle.policy_trait.specs.declared.services.Answer.{Answer}
 use Rattle.engine_trait.specs.Events.{Event}
 use Rattle.live_blocks.specs.declared.block.Block.{Block}
-use Rattle.heap_policy.specs.Heap.{words_of}
+use Rattle.heap_policy.specs.Heap.{free_service, malloc_service, words_of}
 use Rattle.heap_policy.specs.declared.tag.HeapTag.{HeapTag}
 use Rattle.heap_policy.specs.declared.tag.HeapTag.TheVariants.{Val, Ptr, Static, Cell, Free}
 use Rattle.part_turns.specs.Moments.{Service, service_of}
@@ -42,12 +42,12 @@ book_without (Static content) book = book
 book_without (Cell number content) book = book
 book_without Free book = book
 
--- 48 hands out a block of a0 bytes, 49 takes that of the pointer in a0 back
+-- malloc hands out a block of a0 bytes, free takes that of the pointer in a0 back
 abbrev pub blocks_by : BlockBook → Option (Service HeapTag) → BlockBook
 blocks_by book None = book
 blocks_by book (Some x) =
-    if x.number == 48 then handed_by x.arguments.a0 x.answer book else
-    if x.number == 49 then book_without x.arguments.t0 book else
+    if x.number == malloc_service then handed_by x.arguments.a0 x.answer book else
+    if x.number == free_service then book_without x.arguments.t0 book else
     book
 
 abbrev pub blocks_after : BlockBook → Event HeapTag → BlockBook

@@ -4,6 +4,7 @@ use Rattle.std.specs.List.{Contains}
 use Rattle.policy_trait.specs.declared.services.Answer.{Answer}
 use Rattle.engine_trait.specs.Events.{Asked, Event, Touch, is_retirement}
 use Rattle.live_blocks.specs.declared.block.Block.{Block}
+use Rattle.heap_policy.specs.Heap.{malloc_service}
 use Rattle.heap_policy.specs.declared.tag.HeapTag.{HeapTag}
 use Rattle.heap_policy.specs.declared.tag.HeapTag.TheVariants.{Val, Ptr}
 use Rattle.part_turns.specs.Moments.{Moment, Service, service_of}
@@ -26,7 +27,7 @@ module _ (base top : ℕ) where
   -- What a turn does, in the book as it stands before it. Blocks are 0, 1, 2 and so on. A retired access to the heap reaches
   -- a live block by its pointer, any other has a plain value as its address, and no word of the heap is obeyed.
   pub record HeapTurn (book : BlockBook) (event : Event HeapTag) : Type 0 where
-    pub numbers : (x : Service HeapTag) (answer : Answer HeapTag) (number : ℕ) → service_of event ≡ Some x → x.number ≡ 48 → x.answer ≡ Some answer
+    pub numbers : (x : Service HeapTag) (answer : Answer HeapTag) (number : ℕ) → service_of event ≡ Some x → x.number ≡ malloc_service → x.answer ≡ Some answer
         → answer.tag ≡ Ptr number → number ≡ length book
     pub inside : (touch : Touch) (asked : Asked HeapTag) → is_retirement event ≡ true → event.access ≡ Some touch → event.asked ≡ Some asked
         → is_in_heap touch.address ≡ true → ReachesBlock book asked.inputs.t1 touch

@@ -4,3 +4,4 @@ pub mod PieceLemmas
 pub mod ReadingLemmas
 pub mod SavedLemmas
 pub mod SupplyLemmas
+pub mod ToldLemmas

@@ -75,7 +75,7 @@ wide32 = record {
   below = λ bytes fits. omega (arith, fits 0, fits 1, fits 2, fits 3);
 }
 
-guard_ok : {A : Type 0} (b : Bool) (error : ImageError) (x y : A) → cond b (Err error) (Ok x) ≡ Ok y → (b ≡ false) × (x ≡ y)
+pub guard_ok : {A : Type 0} (b : Bool) (error : ImageError) (x y : A) → cond b (Err error) (Ok x) ≡ Ok y → (b ≡ false) × (x ≡ y)
 guard_ok true error x y e = absurd cc
 guard_ok false error x y e = (refl, cc)
 

@@ -1,6 +1,8 @@
 pub mod FieldLemmas
 pub mod LoopLemmas
+pub mod RoomLemmas
 pub mod PartLemmas
+pub mod SegmentRoomLemmas
 pub mod BuildingLemmas
 pub mod ListLemmas
 pub mod RowLemmas

@@ -53,7 +53,7 @@ in_order-behind : (before : Option WordRange) (range : WordRange) → in_order i
 in_order-behind None range e = omega arith
 in_order-behind (Some other) range e = leb-true _ _ e
 
-range_inside : (size ram field : ℕ) (bytes : List ℕ) (x : WordRange × List ℕ) → range_at size ram field bytes ≡ Ok x → x.0.address + 4 * x.0.words ≤ ram
+pub range_inside : (size ram field : ℕ) (bytes : List ℕ) (x : WordRange × List ℕ) → range_at size ram field bytes ≡ Ok x → x.0.address + 4 * x.0.words ≤ ram
 unfolding range_at
 range_inside size ram field bytes x e =
     on_ok (field_at size field is_aligned bytes) _ x e λ address address-is e1.
@@ -62,7 +62,7 @@ range_inside size ram field bytes x e =
     let fits = both _ _ (tested_fits w32 size (is_word_count ram address.0) _ address.1 words words-is) in
     subst (λ (y : WordRange × List ℕ). y.0.address + 4 * y.0.words ≤ ram) (ok_is made x e2) (leb-true _ _ fits.1)
 
-range_lies : (size ram row : ℕ) (before : Option WordRange) (bytes : List ℕ) (x : WordRange × List ℕ) → range_behind_at size ram row before bytes ≡ Ok x → LiesBehind ram before x.0
+pub range_lies : (size ram row : ℕ) (before : Option WordRange) (bytes : List ℕ) (x : WordRange × List ℕ) → range_behind_at size ram row before bytes ≡ Ok x → LiesBehind ram before x.0
 unfolding range_behind_at
 range_lies size ram row before bytes x e =
     on_ok (range_at size ram 6 bytes) _ x e λ range range-is e1.
@@ -73,7 +73,7 @@ range_lies size ram row before bytes x e =
     })
 
 -- the words that were read behind others
-on_front : {S A P : Type 0} (front : List A) (read : Result (List A × S) ImageError) (all : List A) (s : S) → with_front front read ≡ Ok (all, s) → ((xs : List A) → read ≡ Ok (xs, s) → front ++ xs ≡ all → P) → P
+pub on_front : {S A P : Type 0} (front : List A) (read : Result (List A × S) ImageError) (all : List A) (s : S) → with_front front read ≡ Ok (all, s) → ((xs : List A) → read ≡ Ok (xs, s) → front ++ xs ≡ all → P) → P
 on_front {S} {A} front (Ok x) all s e next =
     let same : (front ++ x.0, x.1) ≡ (all, s) = ok_is (front ++ x.0, x.1) (all, s) e in
     next x.0 (ap (λ (t : S). Ok (x.0, t)) (ap (λ (y : List A × S). y.1) same)) (ap (λ (y : List A × S). y.0) same)

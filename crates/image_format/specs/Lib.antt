@@ -6,3 +6,4 @@ pub mod Parts
 pub mod Seen
 pub mod Made
 pub mod Reading
+pub mod Rooms

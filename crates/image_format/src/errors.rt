@@ -32,7 +32,7 @@ pub enum ImageError {
     #[error("field {0} at {1}")]
     Field(u8, usize),
     /// A row doesn't stand in its list's order behind the row before it: the list's number, and the
-    /// row's. Row 0 of one of the lists 2 to 5 tells of a count other than 0: no row of theirs is taken yet.
+    /// row's, which is 1 at least.
     #[error("order {0} row {1}")]
     Order(u8, u32),
     /// Bytes stand behind the last list: the offset of the first of them.

@@ -1,15 +1,14 @@
 //! The rows of an image's lists, read one behind the other.
 
-ghost use Rattle.std.specs.Prelude.{◌≡◌, ℕ, Bool, ◌+◌, ◌<◌, Some};
+ghost use Rattle.std.specs.Prelude.{◌≡◌, ℕ, Bool, ◌+◌, ◌<◌, ◌≤◌, Some, IfOk, length};
 ghost use Rattle.std.proofs.Common.{arith};
 ghost use Rattle.image_format.specs.Conditions.{is_clear_of, is_label_after, is_edge_after, is_compartment_after, in_order};
 ghost use Rattle.image_format.specs.Reading.{Gives, Reads, range_at, label_at, edge_at, compartment_at, row_at, rows_at, list_at};
 
 use crate::errors::{ImageEnd, ImageError};
 use crate::fields::{aligned_of, number_of, owner_of, place_of, word_count_of};
-use crate::room::room_for;
+use crate::room::{Kept, Room, Rooms};
 use crate::rows::{CompartmentRange, Edge, Label, WordRange};
-use std::alloc::Global;
 
 /// What rows are read under: the file's length, and the bytes of the RAM.
 #[derive(Clone, Copy)]
@@ -27,25 +26,20 @@ pub(crate) struct RowPlace<R> {
 }
 
 /// A row of a list.
-pub(crate) trait Row: Copy {
+pub(crate) trait Row: Kept {
     ghost fields: { ℕ → ℕ → Reads Self };
 
     ghost follows: { Self → Self → Bool };
 
-    ghost BYTES: { ℕ };
-
-    /// The bytes of a row, in the file and in memory.
-    const BYTES: usize;
-
     /// The row at the front of the bytes.
     fn read(bounds: Bounds, bytes: &[u8]) -> Result<(Self, &[u8]), ImageEnd>
-        ensures { Gives (λ x. (x.0, x.1.now)) result (fields bounds.size bounds.ram bytes.now) };
+        ensures row { Gives (λ x. (x.0, x.1.now)) result
+            (fields bounds.size bounds.ram bytes.now) }
+        ensures takes { IfOk result (λ x. length x.1.now + Self.Kept.BYTES ≤ length bytes.now) };
 
     /// Whether the row may stand behind the other.
     fn is_after(self, before: Self) -> bool
         ensures { result ≡ follows before self };
-
-    ghost has_bytes: { 0 < BYTES };
 }
 
 /// A range whose address and words are the fields of these numbers.
@@ -63,16 +57,18 @@ pub(crate) fn range_of(
     Ok((WordRange { address, words }, rest))
 }
 
-impl Row for WordRange {
-    ghost fields = { λ size ram. range_at size ram 8 };
-
-    ghost follows = { is_clear_of };
-
+impl Kept for WordRange {
     ghost BYTES = { 8 };
 
     const BYTES: usize = size_of::<WordRange>();
 
     ghost has_bytes = { Prim.omega arith };
+}
+
+impl Row for WordRange {
+    ghost fields = { λ size ram. range_at size ram 8 };
+
+    ghost follows = { is_clear_of };
 
     fn read(bounds: Bounds, bytes: &[u8]) -> Result<(WordRange, &[u8]), ImageEnd> {
         range_of(8, bounds, bytes)
@@ -83,16 +79,18 @@ impl Row for WordRange {
     }
 }
 
-impl Row for Label {
-    ghost fields = { label_at };
-
-    ghost follows = { is_label_after };
-
+impl Kept for Label {
     ghost BYTES = { 8 };
 
     const BYTES: usize = size_of::<Label>();
 
     ghost has_bytes = { Prim.omega arith };
+}
+
+impl Row for Label {
+    ghost fields = { label_at };
+
+    ghost follows = { is_label_after };
 
     #[tactic(auto, unfolding(crate::specs::Reading::label_at))]
     fn read(bounds: Bounds, bytes: &[u8]) -> Result<(Label, &[u8]), ImageEnd> {
@@ -106,18 +104,20 @@ impl Row for Label {
     }
 }
 
-impl Row for Edge {
-    ghost fields = { λ size _. edge_at size };
-
-    ghost follows = { is_edge_after };
-
+impl Kept for Edge {
     ghost BYTES = { 8 };
 
     const BYTES: usize = size_of::<Edge>();
 
     ghost has_bytes = { Prim.omega arith };
+}
 
-    #[tactic(auto, unfolding(crate::specs::Reading::edge_at))]
+impl Row for Edge {
+    ghost fields = { λ size _. edge_at size };
+
+    ghost follows = { is_edge_after };
+
+    #[tactic(auto, unfolding(crate::specs::Reading::edge_at), using(crate::proofs::RoomLemmas::edge_takes))]
     fn read(bounds: Bounds, bytes: &[u8]) -> Result<(Edge, &[u8]), ImageEnd> {
         let (source, rest) = number_of(bounds.size, bytes)?;
         let (target, rest) = number_of(bounds.size, rest)?;
@@ -129,16 +129,18 @@ impl Row for Edge {
     }
 }
 
-impl Row for CompartmentRange {
-    ghost fields = { compartment_at };
-
-    ghost follows = { is_compartment_after };
-
+impl Kept for CompartmentRange {
     ghost BYTES = { 20 };
 
     const BYTES: usize = size_of::<CompartmentRange>();
 
     ghost has_bytes = { Prim.omega arith };
+}
+
+impl Row for CompartmentRange {
+    ghost fields = { compartment_at };
+
+    ghost follows = { is_compartment_after };
 
     #[tactic(auto, unfolding(crate::specs::Reading::compartment_at))]
     fn read(bounds: Bounds, bytes: &[u8]) -> Result<(CompartmentRange, &[u8]), ImageEnd> {
@@ -175,10 +177,11 @@ pub(crate) fn in_place<R: Row>(row: R, before: Option<R>) -> bool
 /// The row at the front of the bytes, in order behind the one before it.
 #[tactic(auto, unfolding(crate::specs::Reading::row_at))]
 fn row_of<R: Row>(place: RowPlace<R>, bounds: Bounds, bytes: &[u8]) -> Result<(R, &[u8]), ImageEnd>
-    ensures { Gives
+    ensures row { Gives
         (λ x. (x.0, record { row = place.row + 1; before = Some x.0; bytes = x.1.now })) result
         (row_at place.list R.follows (R.fields bounds.size bounds.ram)
         (record { row = place.row; before = place.before; bytes = bytes.now })) }
+    ensures takes { IfOk result (λ x. length x.1.now + R.BYTES ≤ length bytes.now) }
 {
     let (row, rest) = R::read(bounds, bytes)?;
     if !in_place(row, place.before) {
@@ -189,7 +192,7 @@ fn row_of<R: Row>(place: RowPlace<R>, bounds: Bounds, bytes: &[u8]) -> Result<(R
 
 /// That many rows, one behind the other.
 fn rows_of<R: Row>(
-    alloc: Global,
+    rooms: Rooms,
     list: u8,
     count: u32,
     bounds: Bounds,
@@ -198,23 +201,23 @@ fn rows_of<R: Row>(
     ensures { Gives (λ x. (x.0.items, x.1.now)) result
         (rows_at count (row_at list R.follows (R.fields bounds.size bounds.ram)) bytes.now) }
 {
-    let mut rows = room_for(alloc, count as usize, R::BYTES, bytes.len())?;
+    let mut rows: Room<R> = rooms.room_for(count as usize, bytes)?;
     let mut before = None;
     let mut rest = bytes;
     for row in 0..count {
         let place = RowPlace { list, row, before };
         let (next, after) = row_of(place, bounds, rest)?;
-        rows.push(next)?;
+        rows.push(next);
         before = Some(next);
         rest = after;
     }
-    Ok((rows, rest))
+    Ok((rows.into_items(), rest))
 }
 
 /// A list behind the segments: a count, and that many rows.
 #[tactic(auto, unfolding(crate::specs::Reading::list_at))]
 pub(crate) fn list_of<R: Row>(
-    alloc: Global,
+    rooms: Rooms,
     list: u8,
     bounds: Bounds,
     bytes: &[u8],
@@ -224,5 +227,5 @@ pub(crate) fn list_of<R: Row>(
         (row_at list R.follows (R.fields bounds.size bounds.ram)) bytes.now) }
 {
     let (count, rest) = number_of(bounds.size, bytes)?;
-    rows_of(alloc, list, count, bounds, rest)
+    rows_of(rooms, list, count, bounds, rest)
 }

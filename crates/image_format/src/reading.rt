@@ -9,7 +9,7 @@ use crate::errors::{ImageEnd, ImageError};
 use crate::fields::{harts_of, heap_base_of, heap_bytes_of, opening_of, place_of, ram_of};
 use crate::image::Image;
 use crate::lists::{Bounds, list_of};
-use crate::room::room_for;
+use crate::room::{Room, Rooms};
 use crate::rows::{CompartmentRange, Edge, Label, WordRange};
 use crate::segments::segment_list_of;
 use crate::sizes::Sizes;
@@ -35,21 +35,21 @@ fn sizes_of(size: usize, bytes: &[u8]) -> Result<(Sizes, &[u8]), ImageEnd>
 
 /// One entry for each hart.
 fn entries_of(
-    alloc: Global,
+    rooms: Rooms,
     sizes: Sizes,
     size: usize,
     bytes: &[u8],
 ) -> Result<(Vec<u32>, &[u8]), ImageEnd>
     ensures { Gives (λ x. (x.0.items, x.1.now)) result (entries_at size sizes bytes.now) }
 {
-    let mut entries = room_for(alloc, sizes.harts as usize, size_of::<u32>(), bytes.len())?;
+    let mut entries: Room<u32> = rooms.room_for(sizes.harts as usize, bytes)?;
     let mut rest = bytes;
     for _ in 0..sizes.harts {
         let (entry, after) = place_of(5, size, sizes.ram, rest)?;
-        entries.push(entry)?;
+        entries.push(entry);
         rest = after;
     }
-    Ok((entries, rest))
+    Ok((entries.into_items(), rest))
 }
 
 /// The image up to the first condition that fails.
@@ -57,19 +57,20 @@ fn entries_of(
 fn image_in(alloc: Global, bytes: &[u8]) -> Result<Image, ImageEnd>
     ensures { Gives (λ image. image) result (image_of bytes.now) }
 {
+    let rooms = Rooms::new(alloc);
     let size = bytes.len();
     let rest = opening_of(size, bytes)?;
     let (sizes, rest) = sizes_of(size, rest)?;
-    let (entries, rest) = entries_of(alloc, sizes, size, rest)?;
+    let (entries, rest) = entries_of(rooms, sizes, size, rest)?;
     let bounds = Bounds {
         size,
         ram: sizes.ram,
     };
-    let (segments, rest) = segment_list_of(alloc, bounds, rest)?;
-    let (code, rest) = list_of::<WordRange>(alloc, 2, bounds, rest)?;
-    let (labels, rest) = list_of::<Label>(alloc, 3, bounds, rest)?;
-    let (edges, rest) = list_of::<Edge>(alloc, 4, bounds, rest)?;
-    let (compartments, rest) = list_of::<CompartmentRange>(alloc, 5, bounds, rest)?;
+    let (segments, rest) = segment_list_of(rooms, bounds, rest)?;
+    let (code, rest) = list_of::<WordRange>(rooms, 2, bounds, rest)?;
+    let (labels, rest) = list_of::<Label>(rooms, 3, bounds, rest)?;
+    let (edges, rest) = list_of::<Edge>(rooms, 4, bounds, rest)?;
+    let (compartments, rest) = list_of::<CompartmentRange>(rooms, 5, bounds, rest)?;
     if !rest.is_empty() {
         let offset = size.saturating_sub(rest.len());
         return Err(ImageEnd::Bad(ImageError::Trailing(offset)));

@@ -2,12 +2,14 @@
 
 ghost use Rattle.std.specs.Prelude.{◌≡◌, ◌+◌, ◌*◌, ◌<◌, ◌==◌, [], length, slice_index_or, OnOk, OnErr};
 ghost use Rattle.std.specs.Int.{w32};
+ghost use Rattle.std.proofs.Common.{arith};
+ghost use Rattle.image_format.specs.Rooms.{HasPlacesFor};
 ghost use Rattle.image_format.specs.Reading.{Gives, number_at, times, with_front, range_behind_at, segment_at, rows_at, list_at};
 
 use crate::errors::{ImageEnd, ImageError};
 use crate::fields::number_of;
 use crate::lists::{Bounds, in_place, range_of};
-use crate::room::room_for;
+use crate::room::{Kept, Room, Rooms};
 use crate::rows::WordRange;
 use std::alloc::{AllocError, Global};
 use std::marker::Model;
@@ -27,6 +29,14 @@ impl Extent {
     {
         u64::from(self.address) + 4 * u64::from(self.words) == u64::from(address)
     }
+}
+
+impl Kept for Extent {
+    ghost BYTES = { 12 };
+
+    const BYTES: usize = size_of::<Extent>();
+
+    ghost has_bytes = { Prim.omega arith };
 }
 
 /// Words that the memory starts with, in segments: each has an address in bytes, and words from there on.
@@ -138,18 +148,20 @@ fn range_behind(
 
 /// Adds that many words to the others: what stands behind them.
 fn words_of<'a>(
-    contents: &mut Vec<u32>,
+    contents: &mut Room<u32>,
     count: u32,
     size: usize,
     bytes: &'a [u8],
 ) -> Result<&'a [u8], ImageEnd>
-    ensures { Gives (λ rest. (contents.new.items, rest.now)) result
+    requires { HasPlacesFor count 4 (length bytes.now) contents.old }
+    ensures read { Gives (λ rest. (contents.new.items, rest.now)) result
         (with_front contents.old.items (times count (number_at w32 size) bytes.now)) }
+    ensures places { contents.new.places ≡ contents.old.places }
 {
     let mut rest = bytes;
     for _ in 0..count {
         let (word, after) = number_of(size, rest)?;
-        contents.push(word)?;
+        contents.push(word);
         rest = after;
     }
     Ok(rest)
@@ -157,7 +169,7 @@ fn words_of<'a>(
 
 /// That many segments, one behind the other.
 fn segments_of(
-    alloc: Global,
+    rooms: Rooms,
     count: u32,
     bounds: Bounds,
     bytes: &[u8],
@@ -167,8 +179,8 @@ fn segments_of(
 {
     // A row takes at least the bytes of an extent, and the words of all rows together lie in the RAM.
     let most_words = bounds.ram as usize / 4;
-    let mut extents = room_for(alloc, count as usize, size_of::<Extent>(), bytes.len())?;
-    let mut contents = room_for(alloc, most_words, size_of::<u32>(), bytes.len())?;
+    let mut extents: Room<Extent> = rooms.room_for(count as usize, bytes)?;
+    let mut contents: Room<u32> = rooms.room_for(most_words, bytes)?;
     let mut before = None;
     let mut rest = bytes;
     for row in 0..count {
@@ -179,16 +191,20 @@ fn segments_of(
             address: range.address,
             first,
             words: range.words,
-        })?;
+        });
         before = Some(range);
     }
-    Ok((Segments { extents, contents }, rest))
+    let segments = Segments {
+        extents: extents.into_items(),
+        contents: contents.into_items(),
+    };
+    Ok((segments, rest))
 }
 
 /// The first list: a count, and that many segments.
 #[tactic(auto, unfolding(crate::specs::Reading::list_at))]
 pub(crate) fn segment_list_of(
-    alloc: Global,
+    rooms: Rooms,
     bounds: Bounds,
     bytes: &[u8],
 ) -> Result<(Segments, &[u8]), ImageEnd>
@@ -196,5 +212,5 @@ pub(crate) fn segment_list_of(
         (list_at bounds.size (segment_at bounds.size bounds.ram) bytes.now) }
 {
     let (count, rest) = number_of(bounds.size, bytes)?;
-    segments_of(alloc, count, bounds, rest)
+    segments_of(rooms, count, bounds, rest)
 }

@@ -1,3 +1,5 @@
+//! The sizes at the head of an image's file.
+
 /// The sizes at the head of a file: the number of harts, and the RAM and the heap region in bytes.
 #[derive(Clone, Copy)]
 pub(crate) struct Sizes {

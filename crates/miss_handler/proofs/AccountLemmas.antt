@@ -8,7 +8,7 @@ use Rattle.pump_words.specs.Same.{TellsApart}
 use Rattle.policy_trait.specs.declared.rules.Outs.{Outs}
 use Rattle.engine_trait.specs.Accounts.{Account, is_kept, looked_up}
 use Rattle.rule_cache.specs.Named.{IsAccountOf, IsKeyBelow, IsToldApart, TellsBelow, key_by}
-use Rattle.rule_cache.specs.Stores.{Store, counted_as, lookup_of, looked_for}
+use Rattle.rule_cache.specs.Stores.{Store, counted_as, lookup_of, looked_for, set_rules}
 use Rattle.rule_cache.specs.declared.key.Key.{Key}
 use Rattle.rule_cache.proofs.AccountLemmas.{all_told, hit_alike, kept_alike, miss_alike}
 use Rattle.tag_intern.specs.Table.{HasNoRepeats, TableState}
@@ -16,7 +16,7 @@ use Rattle.tag_intern.specs.Words.{tag_at}
 use Rattle.miss_handler.specs.Asked.{AreRules}
 use Rattle.miss_handler.specs.Books.{Rulebook}
 use Rattle.miss_handler.specs.Told.{Tells}
-use Rattle.miss_handler.proofs.RuleLemmas.{keys_below}
+use Rattle.miss_handler.proofs.RuleLemmas.{keys_below, set_are}
 
 -- ---- words of tags are told apart as the tags are
 
@@ -41,14 +41,14 @@ module _ {T : Type 0} (eq : T → T → Bool) (laws : IsEquivalence eq) (exact :
 -- ---- the key of a look-up is told from the kept ones
 
 module _ {T : Type 0} (eq : T → T → Bool) (laws : IsEquivalence eq) (exact : TellsApart eq) (book : Rulebook T) (table : TableState T) (store : Store) (key : Key)
-    (distinct : HasNoRepeats table.tags) (below : IsKeyBelow (length table.tags) key) (rules : AreRules book table.tags store.kept) where
+    (distinct : HasNoRepeats table.tags) (below : IsKeyBelow (length table.tags) key) (rules : AreRules book table.tags store.sets) where
   abbrev pub read : ℕ → T
   read = tag_at book.plain table.tags
 
   pub apart : IsToldApart read eq key store
   apart =
-      all_told read eq key (length table.tags) (keys_of store.kept) (tells_below eq laws exact book.plain table.tags distinct) below
-      (keys_below book table.tags store.kept rules)
+      all_told read eq key (length table.tags) (keys_of (set_rules key store)) (tells_below eq laws exact book.plain table.tags distinct) below
+      (keys_below book table.tags (set_rules key store) (set_are book table.tags key store rules))
 
   module _ (account : Account T) (tells : Tells book.plain table store account) where
     -- the account finds as the store does

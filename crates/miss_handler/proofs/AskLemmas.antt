@@ -35,7 +35,7 @@ module _ {T : Type 0} (eq : T → T → Bool) (book : Rulebook T) (table : Table
     pub distinct : HasNoRepeats table.tags
     pub plain_word : slice_get table.tags 0 ≡ Some book.plain
     pub in_words : AreInWords (length table.tags) words
-    pub rules : AreRules book table.tags store.kept
+    pub rules : AreRules book table.tags store.sets
 
   module _ (asked : IsAsked) where
     -- word 0 stands for the plain tag
@@ -98,9 +98,9 @@ module _ {T : Type 0} (eq : T → T → Bool) (book : Rulebook T) (table : Table
             (subst (λ k. Tells book.plain table (looked_for key store) (rule_kept eq {E = Refused} k (Ok (outs_on book table.tags outs)) (looked_up eq k account))) key_told
             (hit_tells eq asked.laws asked.exact book table store key asked.distinct key_below asked.rules account tells outs is)))
 
-        pub hit_still : AreRules book table.tags next.kept
+        pub hit_still : AreRules book table.tags next.sets
         hit_still =
-            subst (λ (s : Store). AreRules book table.tags s.kept) (sym next_is) (hit_rules book table.tags store key asked.rules outs is)
+            subst (λ (s : Store). AreRules book table.tags s.sets) (sym next_is) (hit_rules book table.tags store key asked.rules outs is)
 
     -- ---- the rule is not found, and asked
 
@@ -115,9 +115,9 @@ module _ {T : Type 0} (eq : T → T → Bool) (book : Rulebook T) (table : Table
 
     module _ (none : lookup_of key store ≡ None) (middle next : Store) (middle_is : middle ≡ looked_for key store) (new : TableState T) where
       -- the look-up changes no rule
-      middle_rules : AreRules book table.tags middle.kept
+      middle_rules : AreRules book table.tags middle.sets
       middle_rules =
-          subst (AreRules book table.tags) (sym (ap (λ (s : Store). s.kept) middle_is ∙ ap (λ at. (counted_as key at store).kept) none)) asked.rules
+          subst (AreRules book table.tags) (sym (ap (λ (s : Store). s.sets) middle_is ∙ ap (λ at. (counted_as key at store).sets) none)) asked.rules
 
       module _ (outs : Outs ℕ) (is : IsAnswered eq book table new key outs) (next_is : next ≡ store_with key outs middle) where
         miss_tells : (account : Account T) → Tells book.plain table store account
@@ -133,9 +133,9 @@ module _ {T : Type 0} (eq : T → T → Bool) (book : Rulebook T) (table : Table
             (keeping_tells eq asked.laws book table new key outs is asked.exact middle asked.distinct key_below middle_rules
             (looked_up eq (tag_key book table.tags group words) account) (looked_tells account tells middle middle_is))))
 
-        miss_still : AreRules book new.tags next.kept
+        miss_still : AreRules book new.tags next.sets
         miss_still =
-            subst (λ (s : Store). AreRules book new.tags s.kept) (sym next_is)
+            subst (λ (s : Store). AreRules book new.tags s.sets) (sym next_is)
             (kept_rules eq asked.laws book table new key outs is middle key_words middle_rules)
 
       -- ---- by how the question ends
@@ -157,8 +157,8 @@ module _ {T : Type 0} (eq : T → T → Bool) (book : Rulebook T) (table : Table
             (looked_tells account tells next (unkept ∙ middle_is))
 
         pub still_by : (end : Result (Outs ℕ) E) → IfOk end (IsAnswered eq book table new key) → IfOk end (λ outs. next ≡ store_with key outs middle)
-            → OnErr end (new ≡ table) → OnErr end (next ≡ middle) → AreRules book new.tags next.kept
+            → OnErr end (new ≡ table) → OnErr end (next ≡ middle) → AreRules book new.tags next.sets
         still_by (Ok outs) is next_is same unkept = miss_still outs is next_is
         still_by (Err why) is next_is same unkept =
-            subst (λ (t : TableState T). AreRules book t.tags next.kept) (sym same)
-            (subst (λ (s : Store). AreRules book table.tags s.kept) (sym unkept) middle_rules)
+            subst (λ (t : TableState T). AreRules book t.tags next.sets) (sym same)
+            (subst (λ (s : Store). AreRules book table.tags s.sets) (sym unkept) middle_rules)

@@ -1,17 +1,17 @@
 -- A rule that is found: it is kept already, and its outputs have words.
-use Rattle.std.proofs.Common.{◌≡◌, ℕ, zero, suc, ◌==◌, Bool, true, false, not, ◌&&◌, cond, List, [], ◌∷◌, filter, is_some, length, take, Option, Some, None, Ok, if◌then◌else◌, refl, sym, ap, subst, ◌∙◌, arith}
+use Rattle.std.proofs.Common.{◌≡◌, ℕ, zero, suc, ◌==◌, Bool, true, false, not, ◌&&◌, cond, List, [], ◌∷◌, filter, is_some, length, take, Option, Some, None, Ok, if◌then◌else◌, slice_index_or, slice_set, refl, sym, ap, subst, ◌∙◌, arith}
 use Rattle.std.specs.Cmp.{IsEquivalence}
-use Rattle.std.proofs.lemmas.List.{take-take}
+use Rattle.std.proofs.lemmas.List.{length-set, take-take}
 use Rattle.std.proofs.lemmas.Option.{slice_get-get_or}
 use Rattle.rv_decode.specs.contracts.groups.GroupEq.TheImpl.Laws.{laws-law}
 use Rattle.pump_words.specs.Same.{TellsApart}
 use Rattle.policy_trait.specs.declared.rules.Outs.{Outs}
 use Rattle.policy_trait.specs.declared.rules.Refused.{Refused}
 use Rattle.engine_trait.specs.Accounts as accounts
-use Rattle.engine_trait.specs.Accounts.{Account, group_eq, is_kept, looked_up, rule_kept, same_key, seeing, with_tags}
+use Rattle.engine_trait.specs.Accounts.{Account, fronted, group_eq, is_kept, looked_up, rule_kept, same_key, seeing, set_keys, set_of, with_tags}
 use Rattle.shared_terms.specs.Counts.{next_count}
 use Rattle.rule_cache.specs.Named.{IsKeyBelow, key_by}
-use Rattle.rule_cache.specs.Stores.{Store, counted_as, lookup_of, looked_for}
+use Rattle.rule_cache.specs.Stores.{Store, counted_as, lookup_of, looked_for, set_rules}
 use Rattle.rule_cache.specs.declared.key.Key.{Key}
 use Rattle.tag_intern.specs.Table.{HasNoRepeats, TableState}
 use Rattle.tag_intern.specs.Words.{tag_at}
@@ -21,7 +21,7 @@ use Rattle.miss_handler.specs.Asked.{AreOutWords, AreRules, IsRule, outs_on}
 use Rattle.miss_handler.specs.Books.{Rulebook}
 use Rattle.miss_handler.specs.Told.{Tells}
 use Rattle.miss_handler.proofs.AccountLemmas.{found_alike, look_tells}
-use Rattle.miss_handler.proofs.RuleLemmas.{rule_found, rules_with}
+use Rattle.miss_handler.proofs.RuleLemmas.{rule_found, rules_with, set_are}
 
 -- ---- a key that is kept twice is kept once
 
@@ -42,6 +42,15 @@ module _ {X : Type 0} (p : X → Bool) where
   fronted_twice x passes zero xs = refl
   fronted_twice x passes (suc n) xs =
       rw passes (ap (λ rest. x ∷ rest) (ap (take n) (filter_taken n xs) ∙ take-take n n (filter p xs) (omega arith)))
+
+-- what is done twice to the list at a place is done once
+module _ {X : Type 0} (f : X → X) (once : (x : X) → f (f x) ≡ f x) where
+  twice_set : (xs : List X) (place : ℕ) (d : X)
+      → slice_set (slice_set xs place (f (slice_index_or xs place d))) place (f (slice_index_or (slice_set xs place (f (slice_index_or xs place d))) place d))
+      ≡ slice_set xs place (f (slice_index_or xs place d))
+  twice_set [] place d = refl
+  twice_set (x ∷ xs) zero d = ap (λ y. y ∷ xs) (once x)
+  twice_set (x ∷ xs) (suc place) d = ap (λ rest. x ∷ rest) (twice_set xs place d)
 
 -- ---- an account in which the key is found
 
@@ -64,8 +73,15 @@ module _ {T : Type 0} (eq : T → T → Bool) (laws : IsEquivalence eq) where
   keeping_twice : (key : accounts.Key T) (account : Account T) (hits : ℕ)
       → accounts.keeping eq key (record (accounts.keeping eq key account) { hits = hits }) ≡ record (accounts.keeping eq key account) { hits = hits }
   keeping_twice key account hits =
-      ap (λ kept. record account { kept = kept; hits = hits })
-      (fronted_twice (λ other. not (same_key eq key other)) key (ap not (self_same key)) account.capacity account.kept)
+      let place = set_of key.group (length account.sets) in
+      let count = length-set account.sets place (fronted eq account.ways key (set_keys eq key account)) in
+      ap (λ n. record account {
+        sets = slice_set (accounts.keeping eq key account).sets (set_of key.group n)
+            (fronted eq account.ways key (slice_index_or (accounts.keeping eq key account).sets (set_of key.group n) []));
+        hits = hits;
+      }) count
+      ∙ ap (λ sets. record account { sets = sets; hits = hits })
+      (twice_set (fronted eq account.ways key) (λ keys. fronted_twice (λ other. not (same_key eq key other)) key (ap not (self_same key)) account.ways keys) account.sets place [])
 
   -- a key that is found is kept already
   keeping_found : (key : accounts.Key T) (account : Account T) → is_kept eq key account ≡ true
@@ -74,7 +90,7 @@ module _ {T : Type 0} (eq : T → T → Bool) (laws : IsEquivalence eq) where
 
   -- tags that have words change no account
   seeing_known : (tags : List T) (account : Account T) → with_tags eq account.seen tags ≡ account.seen → seeing eq tags account ≡ account
-  seeing_known tags account known = elim (account.capacity == 0) as (λ none.
+  seeing_known tags account known = elim (account.ways == 0) as (λ none.
       (if none then account else record account { seen = with_tags eq account.seen tags }) ≡ account) [
         | true ↦ refl
         | false ↦ ap (λ seen. record account { seen = seen }) known
@@ -96,23 +112,23 @@ outs_words book tags words below = record {
   result = slice_get-get_or tags words.result book.plain below.result;
 }
 
-module _ {T : Type 0} (book : Rulebook T) (tags : List T) (store : Store) (key : Key) (rules : AreRules book tags store.kept) (words : Outs ℕ)
+module _ {T : Type 0} (book : Rulebook T) (tags : List T) (store : Store) (key : Key) (rules : AreRules book tags store.sets) (words : Outs ℕ)
     (is : lookup_of key store ≡ Some words) where
   pub hit_rule : IsRule book tags (key, words)
-  hit_rule = rule_found book tags key store.kept words is rules
+  hit_rule = rule_found book tags key (set_rules key store) words is (set_are book tags key store rules)
 
-  hit_by : (at : Option (Outs ℕ)) → at ≡ Some words → AreRules book tags (counted_as key at store).kept
+  hit_by : (at : Option (Outs ℕ)) → at ≡ Some words → AreRules book tags (counted_as key at store).sets
   hit_by None none = absurd cc
   hit_by (Some other) some =
       let same : words ≡ other = cc in
-      rules_with book tags key store.capacity other store.kept (subst (λ w. IsRule book tags (key, w)) same hit_rule) rules
+      rules_with book tags key other store (subst (λ w. IsRule book tags (key, w)) same hit_rule) rules
 
   -- the rules are what they were, in another order
-  pub hit_rules : AreRules book tags (looked_for key store).kept
+  pub hit_rules : AreRules book tags (looked_for key store).sets
   hit_rules = hit_by (lookup_of key store) is
 
 module _ {T : Type 0} (eq : T → T → Bool) (laws : IsEquivalence eq) (exact : TellsApart eq) (book : Rulebook T) (table : TableState T) (store : Store) (key : Key)
-    (distinct : HasNoRepeats table.tags) (below : IsKeyBelow (length table.tags) key) (rules : AreRules book table.tags store.kept)
+    (distinct : HasNoRepeats table.tags) (below : IsKeyBelow (length table.tags) key) (rules : AreRules book table.tags store.sets)
     (account : Account T) (tells : Tells book.plain table store account) (words : Outs ℕ) (is : lookup_of key store ≡ Some words) where
   abbrev read : accounts.Key T
   read = key_by (tag_at book.plain table.tags) key

@@ -21,7 +21,7 @@ use Rattle.miss_handler.specs.Asked.{AreInWords, AreRules, IsRule}
 use Rattle.miss_handler.specs.Books.{Rulebook}
 use Rattle.miss_handler.specs.Told.{Tells}
 use Rattle.miss_handler.proofs.AccountLemmas.{apart}
-use Rattle.miss_handler.proofs.RuleLemmas.{in_words_grown, ins_grown, key_grown, keys_below, keys_grown, outs_below, outs_read, rules_grown, rules_with}
+use Rattle.miss_handler.proofs.RuleLemmas.{in_words_grown, ins_grown, key_grown, outs_below, outs_read, rules_grown, rules_with, sets_below, sets_grown}
 
 -- ---- a table as tags come and go
 
@@ -38,11 +38,11 @@ cut_back eq laws table grown left outs len len_is grown_is left_is =
 
 module _ {T : Type 0} (plain : T) (old new : List T) (grows : Extends old new) where
   -- an account beside a store is so as the table grows
-  account_grown : (account : Account T) (store : Store) → AllByRecursion (IsKeyBelow (length old)) (keys_of store.kept)
+  account_grown : (account : Account T) (store : Store) → AllByRecursion (λ kept. AllByRecursion (IsKeyBelow (length old)) (keys_of kept)) store.sets
       → IsAccountOf (tag_at plain old) account store → IsAccountOf (tag_at plain new) account store
   account_grown account store below is = record {
-    kept = is.kept ∙ sym (keys_grown plain old new grows (keys_of store.kept) below);
-    capacity = is.capacity;
+    sets = is.sets ∙ sym (sets_grown plain old new grows store.sets below);
+    ways = is.ways;
     hits = is.hits;
     misses = is.misses;
   }
@@ -50,24 +50,24 @@ module _ {T : Type 0} (plain : T) (old new : List T) (grows : Extends old new) w
 module _ {T : Type 0} (eq : T → T → Bool) (tags : List T) (account : Account T) where
   -- tags that get words change no kept key and no count
   seeing_counts : (tag_of : ℕ → T) (store : Store) → IsAccountOf tag_of account store → IsAccountOf tag_of (seeing eq tags account) store
-  seeing_counts tag_of store is = elim (account.capacity == 0) as (λ none.
+  seeing_counts tag_of store is = elim (account.ways == 0) as (λ none.
       IsAccountOf tag_of (if none then account else record account { seen = with_tags eq account.seen tags }) store) [
         | true ↦ is
-        | false ↦ record { kept = is.kept; capacity = is.capacity; hits = is.hits; misses = is.misses }
+        | false ↦ record { sets = is.sets; ways = is.ways; hits = is.hits; misses = is.misses }
       ]
 
   seeing_limit : (seeing eq tags account).limit ≡ account.limit
-  seeing_limit = elim (account.capacity == 0) as (λ none.
+  seeing_limit = elim (account.ways == 0) as (λ none.
       (if none then account else record account { seen = with_tags eq account.seen tags }).limit ≡ account.limit) [
         | true ↦ refl
         | false ↦ refl
       ]
 
-  seeing_seen : 1 ≤ account.capacity → (seeing eq tags account).seen ≡ with_tags eq account.seen tags
-  seeing_seen room = by (account.capacity == 0) refl
+  seeing_seen : 1 ≤ account.ways → (seeing eq tags account).seen ≡ with_tags eq account.seen tags
+  seeing_seen room = by (account.ways == 0) refl
     where
-      by : (none : Bool) → (account.capacity == 0) ≡ none → (seeing eq tags account).seen ≡ with_tags eq account.seen tags
-      by true none = let zero : account.capacity ≡ 0 = eqb-true account.capacity 0 none in absurd (omega (arith, room, zero))
+      by : (none : Bool) → (account.ways == 0) ≡ none → (seeing eq tags account).seen ≡ with_tags eq account.seen tags
+      by true none = let zero : account.ways ≡ 0 = eqb-true account.ways 0 none in absurd (omega (arith, room, zero))
       by false some = ap (λ none. (if none then account else record account { seen = with_tags eq account.seen tags }).seen) some
 
 -- ---- a rule that allows
@@ -91,13 +91,13 @@ module _ {T : Type 0} (eq : T → T → Bool) (laws : IsEquivalence eq) (book : 
   }
 
   -- and so are all
-  pub kept_rules : (store : Store) → AreInWords (length table.tags) key.words → AreRules book table.tags store.kept
-      → AreRules book new.tags (store_with key words store).kept
+  pub kept_rules : (store : Store) → AreInWords (length table.tags) key.words → AreRules book table.tags store.sets
+      → AreRules book new.tags (store_with key words store).sets
   kept_rules store below rules =
-      rules_with book new.tags key store.capacity words store.kept (kept_rule below) (rules_grown book table.tags new.tags grows store.kept rules)
+      rules_with book new.tags key words store (kept_rule below) (rules_grown book table.tags new.tags grows store.sets rules)
 
   module _ (exact : TellsApart eq) (store : Store) (distinct : HasNoRepeats table.tags) (below : IsKeyBelow (length table.tags) key)
-      (rules : AreRules book table.tags store.kept) (account : Account T) (tells : Tells book.plain table store account) where
+      (rules : AreRules book table.tags store.sets) (account : Account T) (tells : Tells book.plain table store account) where
     abbrev read : accounts.Key T
     read = key_by (tag_at book.plain table.tags) key
 
@@ -122,14 +122,14 @@ module _ {T : Type 0} (eq : T → T → Bool) (laws : IsEquivalence eq) (book : 
         subst (λ k. IsAccountOf (tag_at book.plain new.tags) (accounts.keeping eq k account) (store_with key words store))
         (key_grown book.plain table.tags new.tags grows key below)
         (keeping_alike (tag_at book.plain new.tags) eq key account store
-        (account_grown book.plain table.tags new.tags grows account store (keys_below book table.tags store.kept rules) tells.rules)
-        (apart eq laws exact book new store key distinct_new below_new (rules_grown book table.tags new.tags grows store.kept rules)) words)
+        (account_grown book.plain table.tags new.tags grows account store (sets_below book table.tags store.sets rules) tells.rules)
+        (apart eq laws exact book new store key distinct_new below_new (rules_grown book table.tags new.tags grows store.sets rules)) words)
 
     -- the account is that with the rule kept and the outputs seen
     pub keeping_tells : Tells book.plain new (store_with key words store) (rule_kept eq {E = Refused} read (Ok is.outs) account)
     keeping_tells =
         let tags = is.outs.pc ∷ is.outs.result ∷ [] in
-        let room : 1 ≤ account.capacity = subst (λ n. 1 ≤ n) (sym tells.rules.capacity) tells.room in
+        let room : 1 ≤ account.ways = subst (λ n. 1 ≤ n) (sym tells.rules.ways) tells.room in
         record {
           seen =
               seeing_seen eq tags (accounts.keeping eq read account) room ∙ ap (λ seen. with_outs eq seen is.outs) tells.seen

@@ -5,16 +5,18 @@ use Rattle.std.specs.Map.{keys_of, lookup}
 use Rattle.std.proofs.lemmas.Option.{get_or_from_slice_get, slice_get-get_or, slice_get_within}
 use Rattle.policy_trait.specs.declared.rules.Ins.{Ins}
 use Rattle.policy_trait.specs.declared.rules.Outs.{Outs}
+use Rattle.engine_trait.specs.Accounts.{set_of}
 use Rattle.rule_cache.specs.Keys.{key_eq}
-use Rattle.rule_cache.specs.Named.{IsKeyBelow, key_by}
-use Rattle.rule_cache.specs.Stores.{Rules, with_rule, without}
+use Rattle.rule_cache.specs.Named.{IsKeyBelow, key_by, keys_by}
+use Rattle.rule_cache.specs.Stores.{Rules, Store, set_rules, store_with, with_rule, without}
 use Rattle.rule_cache.specs.declared.key.Key.{Key}
 use Rattle.rule_cache.proofs.KeyLemmas.{key_told}
+use Rattle.rule_cache.proofs.StoreLemmas.{all_at, all_set}
 use Rattle.tag_intern.specs.Table.{Extends}
 use Rattle.tag_intern.specs.Words.{tag_at}
 use Rattle.tag_intern.proofs.TableLemmas.{longer, same_words}
 use Rattle.miss_handler.specs.Answered.{AreWordsOf}
-use Rattle.miss_handler.specs.Asked.{AreInWords, AreOutWords, AreRules, IsRule, ins_on, outs_on}
+use Rattle.miss_handler.specs.Asked.{AreInWords, AreOutWords, AreRules, AreSetRules, IsRule, ins_on, outs_on}
 use Rattle.miss_handler.specs.Books.{Rulebook}
 
 -- ---- what words stand for as the table grows
@@ -43,11 +45,18 @@ module _ {T : Type 0} (plain : T) where
     };
   }
 
-  pub keys_grown : (old new : List T) → Extends old new → (keys : List Key) → AllByRecursion (IsKeyBelow (length old)) keys
+  keys_grown : (old new : List T) → Extends old new → (keys : List Key) → AllByRecursion (IsKeyBelow (length old)) keys
       → map (key_by (tag_at plain new)) keys ≡ map (key_by (tag_at plain old)) keys
   keys_grown old new grows [] below = refl
   keys_grown old new grows (key ∷ keys) below =
       λ j. key_grown old new grows key below.0 j ∷ keys_grown old new grows keys below.1 j
+
+  -- so do those of all sets
+  pub sets_grown : (old new : List T) → Extends old new → (sets : List Rules) → AllByRecursion (λ kept. AllByRecursion (IsKeyBelow (length old)) (keys_of kept)) sets
+      → map (keys_by (tag_at plain new)) sets ≡ map (keys_by (tag_at plain old)) sets
+  sets_grown old new grows [] below = refl
+  sets_grown old new grows (kept ∷ sets) below =
+      λ j. keys_grown old new grows (keys_of kept) below.0 j ∷ sets_grown old new grows sets below.1 j
 
   -- words of outputs stand for them
   pub outs_read : (tags : List T) (outs : Outs T) (words : Outs ℕ) → AreWordsOf tags outs words
@@ -99,10 +108,14 @@ module _ {T : Type 0} (book : Rulebook T) (old new : List T) (grows : Extends ol
     answer = ap (book.rule rule.0.group) (ins_grown rule.0.words is.ins) ∙ is.answer ∙ ap Ok (sym (outs_grown rule.1 is.outs));
   }
 
+  set_grown : (kept : Rules) → AreSetRules book old kept → AreSetRules book new kept
+  set_grown [] are = tt
+  set_grown (rule ∷ kept) are = (rule_grown rule are.0, set_grown kept are.1)
+
   -- each kept rule is still the policy's answer
-  pub rules_grown : (kept : Rules) → AreRules book old kept → AreRules book new kept
+  pub rules_grown : (sets : List Rules) → AreRules book old sets → AreRules book new sets
   rules_grown [] are = tt
-  rules_grown (rule ∷ kept) are = (rule_grown rule are.0, rules_grown kept are.1)
+  rules_grown (kept ∷ sets) are = (set_grown kept are.0, rules_grown sets are.1)
 
 -- ---- rules come and are found
 
@@ -121,14 +134,23 @@ module _ {X : Type 0} (P : X → Type 0) where
 
 module _ {T : Type 0} (book : Rulebook T) (tags : List T) (key : Key) where
   -- a rule that comes to rules
-  pub rules_with : (capacity : ℕ) (words : Outs ℕ) (kept : Rules) → IsRule book tags (key, words) → AreRules book tags kept
-      → AreRules book tags (with_rule capacity key words kept)
-  rules_with capacity words kept is are =
-      all_take (IsRule book tags) capacity ((key, words) ∷ without key kept)
+  set_with : (ways : ℕ) (words : Outs ℕ) (kept : Rules) → IsRule book tags (key, words) → AreSetRules book tags kept
+      → AreSetRules book tags (with_rule ways key words kept)
+  set_with ways words kept is are =
+      all_take (IsRule book tags) ways ((key, words) ∷ without key kept)
       (is, all_filter (IsRule book tags) (λ rule. not (key_eq key rule.0)) kept are)
 
+  -- the rules of the set that the key belongs to
+  pub set_are : (store : Store) → AreRules book tags store.sets → AreSetRules book tags (set_rules key store)
+  set_are store are = all_at (AreSetRules book tags) store.sets [] (set_of key.group (length store.sets)) are tt
+
+  pub rules_with : (words : Outs ℕ) (store : Store) → IsRule book tags (key, words) → AreRules book tags store.sets → AreRules book tags (store_with key words store).sets
+  rules_with words store is are =
+      all_set (AreSetRules book tags) store.sets (set_of key.group (length store.sets)) (with_rule store.ways key words (set_rules key store)) are
+      (set_with store.ways words (set_rules key store) is (set_are store are))
+
   -- what is found is a rule of the key
-  pub rule_found : (kept : Rules) (words : Outs ℕ) → lookup (key_eq key) kept ≡ Some words → AreRules book tags kept
+  pub rule_found : (kept : Rules) (words : Outs ℕ) → lookup (key_eq key) kept ≡ Some words → AreSetRules book tags kept
       → IsRule book tags (key, words)
   rule_found [] words found are = absurd cc
   rule_found (rule ∷ kept) words found are = (elim (key_eq key rule.0) as (λ same. key_eq key rule.0 ≡ same
@@ -141,8 +163,13 @@ module _ {T : Type 0} (book : Rulebook T) (tags : List T) (key : Key) where
       first same here = subst (IsRule book tags) (λ j. (sym same j, here j)) are.0
 
 -- the words of rules are those of tags
-pub keys_below : {T : Type 0} (book : Rulebook T) (tags : List T) (kept : Rules) → AreRules book tags kept
+pub keys_below : {T : Type 0} (book : Rulebook T) (tags : List T) (kept : Rules) → AreSetRules book tags kept
     → AllByRecursion (IsKeyBelow (length tags)) (keys_of kept)
 keys_below book tags [] are = tt
 keys_below book tags (rule ∷ kept) are =
     (record { pc = are.0.ins.pc; ci = are.0.ins.ci; t1 = are.0.ins.t1; t2 = are.0.ins.t2; tm = are.0.ins.tm }, keys_below book tags kept are.1)
+
+pub sets_below : {T : Type 0} (book : Rulebook T) (tags : List T) (sets : List Rules) → AreRules book tags sets
+    → AllByRecursion (λ kept. AllByRecursion (IsKeyBelow (length tags)) (keys_of kept)) sets
+sets_below book tags [] are = tt
+sets_below book tags (kept ∷ sets) are = (keys_below book tags kept are.0, sets_below book tags sets are.1)

@@ -51,6 +51,10 @@ module _ {T : Type 0} (book : Rulebook T) where
       pub outs : AreOutWords (length tags) rule.1
       pub answer : answer_on rule.0.group rule.0.words ≡ Ok (outs_on rule.1)
 
-    -- so is each
-    abbrev pub AreRules : Rules → Type 0
-    AreRules kept = AllByRecursion IsRule kept
+    -- so is each of a set
+    abbrev pub AreSetRules : Rules → Type 0
+    AreSetRules kept = AllByRecursion IsRule kept
+
+    -- and of all sets
+    abbrev pub AreRules : List Rules → Type 0
+    AreRules sets = AllByRecursion AreSetRules sets

@@ -1,5 +1,5 @@
 -- The rules of a policy as it stands, which its services don't change.
-use Rattle.std.specs.Prelude.{◌≡◌, ℕ, false, List, [], ◌∷◌, Result, refl, slice_index_or}
+use Rattle.std.specs.Prelude.{◌≡◌, ℕ, ◌-◌, false, List, [], ◌∷◌, Result, refl, slice_index_or}
 use Rattle.std.specs.Coded.{Coded, code_by, coded_list}
 use Rattle.rv_decode.specs.declared.groups.Group.{Group}
 use Rattle.rv_decode.specs.declared.groups.Group.TheVariants as group
@@ -8,7 +8,7 @@ use Rattle.policy_trait.specs.declared.rules.Ins.{Ins}
 use Rattle.policy_trait.specs.declared.rules.Mask.{Mask}
 use Rattle.policy_trait.specs.declared.rules.Outs.{Outs}
 use Rattle.policy_trait.specs.declared.rules.Refused.{Refused}
-use Rattle.rule_cache.specs.Keys.{group_number}
+use Rattle.engine_trait.specs.Accounts.{group_number}
 
 -- the plain tag, which inputs the rule of each group ignores, and the rules
 pub record Rulebook (T : Type 0) : Type 0 where
@@ -35,7 +35,7 @@ AreMasksOf m s masks = (group : Group) → masks group ≡ m.ignores s group
 -- a table of masks, one for each group in the groups' order
 abbrev pub mask_in : List Mask → Group → Mask
 mask_in masks group =
-    slice_index_or masks (group_number group) (record { pc = false; ci = false; t1 = false; t2 = false; tm = false })
+    slice_index_or masks (group_number group - 1) (record { pc = false; ci = false; t1 = false; t2 = false; tm = false })
 
 -- and the table of masks by their groups
 abbrev pub masks_listed : (Group → Mask) → List Mask

@@ -1,6 +1,6 @@
 //! `ask`: the answer of a kept rule, or that of the policy's, which is kept then.
 
-ghost use Rattle.std.specs.Prelude.{◌≡◌, ◌↔◌, ◌<◌, ◌≤◌, [], ◌∷◌, Err, IfOk, IsOk, IsOkAnd, OnErr, OnOk, Ok, Some, if◌then◌else◌, true, is_some, length, slice_get};
+ghost use Rattle.std.specs.Prelude.{◌≡◌, ◌↔◌, ◌+◌, ◌<◌, ◌≤◌, [], ◌∷◌, Err, IfOk, IsOk, IsOkAnd, OnErr, OnOk, Ok, Some, if◌then◌else◌, true, is_some, length, slice_get};
 ghost use Rattle.policy_trait.specs.Model.{masked_inputs};
 ghost use Rattle.policy_trait.specs.declared.rules.Refused.{Refused};
 ghost use Rattle.engine_trait.specs.Accounts.{Account, is_kept, looked_up, rule_kept, with_tags};
@@ -16,7 +16,7 @@ use crate::rules::Rules;
 use policy_trait::{Mask, Outs, Refused};
 use rule_cache::{InWords, Key, OutWords, RuleStore};
 use rv_decode::Group;
-use tag_intern::{Decoder, InternEnd, TagTable};
+use tag_intern::{Decoder, InternEnd, TagTable, has_word};
 
 /// The outputs of the rule of a group at five tags, all as words.
 ///
@@ -33,7 +33,7 @@ pub fn ask<T: TagTable, C: RuleStore, R: Rules<Tag = T::Tag>>(
 ) -> Result<OutWords, AskEnd>
     requires plain_word { slice_get (T.state tags.old).tags 0 ≡ Some (R.book rules.old).plain }
     requires in_words { AreInWords (length (T.state tags.old).tags) words }
-    requires rules { AreRules (R.book rules.old) (T.state tags.old).tags (C.state store.old).kept }
+    requires rules { AreRules (R.book rules.old) (T.state tags.old).tags (C.state store.old).sets }
 
     // The answer is that of the policy's rule.
     ensures answer { IfOk result (λ outs.
@@ -62,6 +62,12 @@ pub fn ask<T: TagTable, C: RuleStore, R: Rules<Tag = T::Tag>>(
         → IsOkAnd (answer_on (R.book rules.old) (T.state tags.old).tags group words)
         (λ outs. (T.state tags.old).limit
         < length (with_tags T.Tag.eq (T.state tags.old).tags (outs.pc ∷ outs.result ∷ []))) }
+
+    // Memory ran out only where the rule allows and all its outputs can have words.
+    ensures memory { result ≡ Err AskEnd.Memory
+        → IsOkAnd (answer_on (R.book rules.old) (T.state tags.old).tags group words)
+        (λ outs. length (with_tags T.Tag.eq (T.state tags.old).tags (outs.pc ∷ outs.result ∷ []))
+        ≤ (T.state tags.old).limit) }
     ensures within { length (T.state tags.new).tags ≤ (T.state tags.new).limit }
     ensures extends { Extends (T.state tags.old).tags (T.state tags.new).tags }
     ensures refused { OnErr result (T.state tags.new ≡ T.state tags.old) }
@@ -83,7 +89,7 @@ pub fn ask<T: TagTable, C: RuleStore, R: Rules<Tag = T::Tag>>(
 
     // The rules stay what they are, and each kept one is the policy's answer still.
     ensures book { R.book rules.new ≡ R.book rules.old }
-    ensures rules { AreRules (R.book rules.old) (T.state tags.new).tags (C.state store.new).kept }
+    ensures rules { AreRules (R.book rules.old) (T.state tags.new).tags (C.state store.new).sets }
 {
     let _len = tags.len(); // for the proof: no tag has two words
     let key = Key {
@@ -129,6 +135,10 @@ fn missed<T: TagTable, C: RuleStore, R: Rules<Tag = T::Tag>>(
         → IsOkAnd (answer_on (R.book rules.old) (T.state tags.old).tags key.group key.words)
         (λ outs. (T.state tags.old).limit
         < length (with_outs T.Tag.eq (T.state tags.old).tags outs)) }
+    ensures memory { result ≡ Err AskEnd.Memory
+        → IsOkAnd (answer_on (R.book rules.old) (T.state tags.old).tags key.group key.words)
+        (λ outs. length (with_outs T.Tag.eq (T.state tags.old).tags outs)
+        ≤ (T.state tags.old).limit) }
     ensures table { OnErr result (T.state tags.new ≡ T.state tags.old) }
     ensures store { OnErr result (C.state store.new ≡ C.state store.old) }
     ensures within { OnOk result (length (T.state tags.new).tags ≤ (T.state tags.new).limit) }
@@ -170,7 +180,8 @@ fn answer<T: TagTable, R: Rules<Tag = T::Tag>>(
     rules.answer(key.group, key.words.map(&decoder))
 }
 
-/// The words of the outputs, that of the pc first. A refusal leaves no tag behind.
+/// The words of the outputs, that of the pc first. `Full` is told only where there would be more tags with words than
+/// there may be, and `Memory` only where there is room for all outputs. Neither refusal leaves a tag behind.
 fn intern_outs<T: TagTable>(tags: &mut T, outs: Outs<T::Tag>) -> Result<OutWords, InternEnd>
     ensures words { IfOk result (AreWordsOf (T.state tags.new).tags outs) }
     ensures grown { OnOk result (T.state tags.new
@@ -178,10 +189,15 @@ fn intern_outs<T: TagTable>(tags: &mut T, outs: Outs<T::Tag>) -> Result<OutWords
     ensures within { OnOk result (length (T.state tags.new).tags ≤ (T.state tags.new).limit) }
     ensures full { result ≡ Err InternEnd.Full
         → (T.state tags.old).limit < length (with_outs T.Tag.eq (T.state tags.old).tags outs) }
+    ensures memory { result ≡ Err InternEnd.Memory
+        → length (with_outs T.Tag.eq (T.state tags.old).tags outs) ≤ (T.state tags.old).limit }
     ensures refused { OnErr result (T.state tags.new ≡ T.state tags.old) }
 {
     let len = tags.len();
-    let pc = tags.intern(outs.pc)?;
+    let pc = match tags.intern(outs.pc) {
+        Ok(pc) => pc,
+        Err(_) => return Err(end_without_words(tags, outs)),
+    };
     match tags.intern(outs.result) {
         Ok(result) => Ok(OutWords { pc, result }),
         Err(end) => {
@@ -189,4 +205,36 @@ fn intern_outs<T: TagTable>(tags: &mut T, outs: Outs<T::Tag>) -> Result<OutWords
             Err(end)
         }
     }
+}
+
+/// Why outputs have no words: there is no room for them, or else memory ran out.
+fn end_without_words<T: TagTable>(tags: &T, outs: Outs<T::Tag>) -> InternEnd
+    ensures full { (result ≡ InternEnd.Full) ↔ ((T.state tags.now).limit
+        < length (with_outs T.Tag.eq (T.state tags.now).tags outs)) }
+    ensures memory { (result ≡ InternEnd.Memory) ↔ (length (with_outs T.Tag.eq
+        (T.state tags.now).tags outs) ≤ (T.state tags.now).limit) }
+{
+    let room = tags.limit() - tags.len();
+    if new_tags(tags, outs) <= room {
+        return InternEnd::Memory;
+    }
+    InternEnd::Full
+}
+
+/// How many more tags have words once the outputs have.
+#[tactic(auto, using(crate::proofs::RoomLemmas::outs_add))]
+fn new_tags<T: TagTable>(tags: &T, outs: Outs<T::Tag>) -> u32
+    ensures count { length (T.state tags.now).tags + result
+        ≡ length (with_outs T.Tag.eq (T.state tags.now).tags outs) }
+{
+    let is_pc_known = has_word(tags, &outs.pc);
+    let is_result_known = outs.result == outs.pc || has_word(tags, &outs.result);
+    one_unless(is_pc_known) + one_unless(is_result_known)
+}
+
+/// One tag, or none where it is known.
+fn one_unless(is_known: bool) -> u32
+    ensures { result ≡ (if is_known then 0 else 1) }
+{
+    if is_known { 0 } else { 1 }
 }

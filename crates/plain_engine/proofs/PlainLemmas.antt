@@ -1,5 +1,5 @@
 -- Steps of an engine that keeps no rules, by where the turn ended.
-use Rattle.std.proofs.Common.{◌≡◌, ℕ, Bool, true, false, List, None, Result, Ok, Err, IsOk, refl, ap, sym, ◌∙◌, inl, subst, if◌then◌else◌}
+use Rattle.std.proofs.Common.{◌≡◌, ℕ, Bool, true, false, List, Option, Some, None, Result, Ok, Err, IsOk, refl, ap, sym, ◌∙◌, inr, subst, if◌then◌else◌}
 use Rattle.std.proofs.lemmas.Bool.{false≢true}
 use Rattle.policy_trait.specs.Model.{PolicyModel}
 use Rattle.shared_terms.specs.Steps.{◌>>=◌}
@@ -9,17 +9,17 @@ use Rattle.monitor_calls.specs.Service.{Job}
 use Rattle.turn_steps.specs.Looks.{is_call}
 use Rattle.turn_steps.specs.declared.look.Look.{Look}
 use Rattle.turn_steps.specs.declared.stop.Stop.{Stop}
-use Rattle.engine_trait.specs.Accounts.{Account, IsUncached, account_after_turn}
+use Rattle.engine_trait.specs.Accounts.{Account, IsUncached, account_after_turn, first_written, is_over, seeing}
 use Rattle.shared_terms.specs.Counts.{next_count}
 use Rattle.engine_trait.specs.Machine.{Machine, hart_at}
 use Rattle.engine_trait.specs.Standing.{GivesUp, Standing, Stepped, is_ready, step, wanting}
-use Rattle.engine_trait.specs.Turn.{Turned, rule_answer, turn_effect, or_unserved, turn_job, preparation, service_on, settlement, stopped_at, turn_of}
+use Rattle.engine_trait.specs.Turn.{Turned, rule_answer, turn_effect, is_job, is_served, job_at, or_unserved, turn_job, preparation, service_on, settlement, stopped_at, turn_of}
 use Rattle.engine_trait.specs.declared.ends.TurnEnd.{TurnEnd}
 use Rattle.engine_trait.specs.declared.ends.TurnEnd.TheVariants as ends
-use Rattle.engine_trait.proofs.AccountLemmas.{accounted_checked, accounted_missed, look_counted_missed}
+use Rattle.engine_trait.proofs.AccountLemmas.{accounted_checked, accounted_missed, rule_counted_missed, seeing_never_over}
 use Rattle.engine_trait.proofs.StepLemmas.{plain_step, ready_parts}
-use Rattle.engine_trait.proofs.TurnLemmas.{job_ruled, turn_checked, turn_refused, turn_ruled}
-use Rattle.plain_engine.specs.Plain.{EndsService, after_look_up, after_turn, allowed_turn, given_up, is_job, is_served}
+use Rattle.engine_trait.proofs.TurnLemmas.{job_ruled, rule_looked, turn_checked, turn_refused, turn_ruled}
+use Rattle.plain_engine.specs.Plain.{EndsService, after_look_up, after_turn, allowed_turn, given_up}
 
 module _ {S T : Type 0} (m : PolicyModel T S) (s : Machine S T) (h : ℕ) (look : Look T) (outs : Outs T) where
   -- an instruction that is no call of a policy's service has its own effect
@@ -28,17 +28,27 @@ module _ {S T : Type 0} (m : PolicyModel T S) (s : Machine S T) (h : ℕ) (look 
   own_turn feed own =
       ap (λ call. settlement m s feed h ((if call then or_unserved (hart_at s.core h).pc look.service (service_on m s h look outs) else Ok None) >>= λ job. Ok (turn_effect m s feed h look outs job))) own
 
-  is_job_by : (pc service : ℕ) (given : Result (Job T) PlanEnd) → IsOk given → is_job (or_unserved pc service given) ≡ true
-  is_job_by pc service (Ok job) given = refl
-  is_job_by pc service (Err end) given = absurd (false≢true given)
+  -- the work of a service that nothing refuses
+  abbrev pub HasJob : Result (Option (Job T)) Stop → Type 0
+  HasJob given = (job : Job T) × (given ≡ Ok (Some job))
+
+  has_job : (pc service : ℕ) (given : Result (Job T) PlanEnd) → IsOk given → HasJob (or_unserved pc service given)
+  has_job pc service (Ok job) ok = (job, refl)
+  has_job pc service (Err end) ok = absurd (false≢true ok)
 
   -- a service that nothing refuses
-  call_served : preparation m s h ≡ Ok look → rule_answer m s h look ≡ Ok outs → is_call look.group ≡ true → IsOk (service_on m s h look outs) → is_served m s h ≡ true
+  call_job : preparation m s h ≡ Ok look → rule_answer m s h look ≡ Ok outs → is_call look.group ≡ true → IsOk (service_on m s h look outs) → HasJob (job_at m s h)
   unfolding turn_job
-  call_served looked ruled call given =
-      ap is_job (job_ruled m s h look outs looked ruled)
-      ∙ ap (λ is_so. is_job (if is_so then or_unserved (hart_at s.core h).pc look.service (service_on m s h look outs) else Ok None)) call
-      ∙ is_job_by (hart_at s.core h).pc look.service (service_on m s h look outs) given
+  call_job looked ruled call given =
+      let there = has_job (hart_at s.core h).pc look.service (service_on m s h look outs) given in (
+        there.0,
+        job_ruled m s h look outs looked ruled
+            ∙ ap (λ is_so. if is_so then or_unserved (hart_at s.core h).pc look.service (service_on m s h look outs) else Ok None) call
+            ∙ there.1,
+      )
+
+  call_served : preparation m s h ≡ Ok look → rule_answer m s h look ≡ Ok outs → is_call look.group ≡ true → IsOk (service_on m s h look outs) → is_served m s h ≡ true
+  call_served looked ruled call given = ap is_job (call_job looked ruled call given).1
 
 -- a step as its parts tell it
 pub told : {S T : Type 0} (s : Stepped S T) (e f : Standing S T) (feed fed : List ℕ) (end ended : TurnEnd) → s ≡ record { standing = e; feed = feed; ended = end }
@@ -113,15 +123,28 @@ module _ {S T : Type 0} (eq : T → T → Bool) (m : PolicyModel T S) (e : Stand
       → step eq m e feed h ≡ record { standing = f; feed = fed; ended = ended }) (sym asked_is)
       (λ ruled own. allowed_step look outs (turn_effect m e.machine feed h look outs None) f fed ended looked ruled (own_turn m e.machine h look outs feed own))
 
-  -- memory ran out
-  pub gives_up : (look : Look T) (asked f : Standing S T) → preparation m e.machine h ≡ Ok look → asked ≡ after_look_up e → f ≡ given_up asked → GivesUp eq m e feed h f feed
-  gives_up look asked f looked asked_is f_is = subst (λ (x : Standing S T). GivesUp eq m e feed h x feed) (sym (f_is ∙ ap given_up asked_is)) (record {
-    ready = ready;
-    asked = subst IsOk (sym looked) refl;
-    machine = refl;
-    unfed = refl;
-    account = inl (ap wanting (sym (look_counted_missed eq m e.machine h e.account look plain looked)));
-  })
+  -- memory ran out in a service that nothing refuses
+  pub gives_up : (look : Look T) (outs : Outs T) (asked f : Standing S T) → preparation m e.machine h ≡ Ok look → asked ≡ after_look_up e → rule_answer m asked.machine h look ≡ Ok outs
+      → is_call look.group ≡ true → IsOk (service_on m asked.machine h look outs) → f ≡ given_up asked → GivesUp eq m e feed h f feed
+  gives_up look outs asked f looked asked_is =
+      subst (λ (x : Standing S T). rule_answer m x.machine h look ≡ Ok outs → is_call look.group ≡ true → IsOk (service_on m x.machine h look outs) → f ≡ given_up x → GivesUp eq m e feed h f feed) (sym asked_is)
+      (λ ruled call given f_is.
+      let there = call_job m e.machine h look outs looked ruled call given in
+      let counted = rule_counted_missed eq m e.machine h e.account look plain looked in
+      let missed : Account T = record e.account { misses = next_count e.account.misses } in
+      let still : IsUncached missed = record { ways = plain.ways; seen = plain.seen; sets = plain.sets } in
+      subst (λ (x : Standing S T). GivesUp eq m e feed h x feed) (sym f_is) (record {
+        ready = ready;
+        allowed = subst IsOk (sym (rule_looked m e.machine h look looked ∙ ruled)) refl;
+        machine = refl;
+        unfed = refl;
+        account = inr (record {
+          job = there.0;
+          served = there.1;
+          fits = ap (λ a. is_over (seeing eq (first_written there.0) a)) counted ∙ seeing_never_over eq missed still (first_written there.0);
+          left = ap wanting (sym counted);
+        });
+      }))
 
   pub unrefused : (look : Look T) (outs : Outs T) (asked : Standing S T) → preparation m e.machine h ≡ Ok look → asked ≡ after_look_up e → rule_answer m asked.machine h look ≡ Ok outs
       → is_call look.group ≡ true → IsOk (service_on m asked.machine h look outs) → is_served m e.machine h ≡ true

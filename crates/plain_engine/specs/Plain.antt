@@ -1,18 +1,16 @@
 -- The engine that asks its policy at every turn, and keeps no rules.
-use Rattle.std.specs.Prelude.{◌≡◌, ℕ, Bool, true, false, List, Option, Some, None, Result, Ok, Err}
+use Rattle.std.specs.Prelude.{◌≡◌, ℕ, List, Option, Some, None, Ok}
 use Rattle.policy_trait.specs.Model.{PolicyModel}
 use Rattle.shared_terms.specs.Steps.{◌>>=◌}
 use Rattle.policy_trait.specs.declared.rules.Outs.{Outs}
 use Rattle.tag_memory.specs.Hart.{HartState}
 use Rattle.tag_memory.specs.Ram.{RamState}
-use Rattle.monitor_calls.specs.Service.{Job}
 use Rattle.turn_steps.specs.declared.look.Look.{Look}
-use Rattle.turn_steps.specs.declared.stop.Stop.{Stop}
 use Rattle.engine_trait.specs.Accounts.{IsUncached, plain_account}
 use Rattle.shared_terms.specs.Counts.{next_count}
 use Rattle.engine_trait.specs.Machine.{CoreState, IsMachine, Machine, fresh_core}
 use Rattle.engine_trait.specs.Standing.{Standing}
-use Rattle.engine_trait.specs.Turn.{Turned, turn_effect, job_at, turn_job, settlement}
+use Rattle.engine_trait.specs.Turn.{Turned, turn_effect, turn_job, settlement}
 use Rattle.engine_trait.specs.declared.ends.Counts.{Counts}
 use Rattle.engine_trait.specs.declared.ends.Halt.{Halt}
 use Rattle.engine_trait.specs.declared.ends.Halt.TheVariants as halt
@@ -58,12 +56,3 @@ allowed_turn m s feed h look outs = settlement m s feed h (turn_job m s h look o
 pub record EndsService {S T : Type 0} (m : PolicyModel T S) (e : Standing S T) (h : ℕ) (look : Look T) (outs : Outs T) (ended : TurnEnd) (f : Standing S T) : Type 0 where
   pub turned : (feed : List ℕ) → allowed_turn m e.machine feed h look outs ≡ record { machine = f.machine; feed = feed; ended = ended }
   pub standing : f ≡ after_turn e f.machine
-
--- the hart is about to call a service of the policy that nothing refuses
-abbrev pub is_job : {T : Type 0} → Result (Option (Job T)) Stop → Bool
-is_job (Ok (Some job)) = true
-is_job (Ok None) = false
-is_job (Err why) = false
-
-abbrev pub is_served : {S T : Type 0} → PolicyModel T S → Machine S T → ℕ → Bool
-is_served m s h = is_job (job_at m s h)

@@ -10,9 +10,9 @@ ghost use Rattle.tag_memory.specs.Ram.{IsPlace, ram_bytes, ram_tag, ram_word};
 ghost use Rattle.engine_trait.specs.Accounts.{IsUncached};
 ghost use Rattle.engine_trait.specs.Machine.{IsMachine, stop_at};
 ghost use Rattle.engine_trait.specs.Standing.{GivesUp, IsFailure, StopsOnly, Unchanged, is_ready, step};
-ghost use Rattle.engine_trait.specs.Turn.{rule_answer, turn_effect, is_offered, preparation, service_on, stopped_at};
+ghost use Rattle.engine_trait.specs.Turn.{rule_answer, turn_effect, is_offered, is_served, preparation, service_on, stopped_at};
 ghost use Rattle.turn_steps.specs.Looks.{is_call};
-ghost use Rattle.plain_engine.specs.Plain.{EndsService, after_look_up, after_turn, given_up, is_served, machine_of, standing_of};
+ghost use Rattle.plain_engine.specs.Plain.{EndsService, after_look_up, after_turn, given_up, machine_of, standing_of};
 
 use engine_trait::{Core, Counts, Engine, Feed, Halt, Stop, TurnEnd};
 use monitor_calls::{Job, ServeEnd, serve};

@@ -3,13 +3,13 @@ use Rattle.std.proofs.Common.{◌≡◌, ℕ, ◌≤◌, Bool, true, false, ◌|
 use Rattle.std.proofs.lemmas.Bool.Decides.{nat_tests}
 use Rattle.image_format.specs.Picture.{Picture}
 use Rattle.sealing_policy.specs.Sealing.{sealing, sealing_knows}
-use Rattle.compartment_policy.specs.Compartments.{compartment_knows, compartments}
+use Rattle.compartment_policy.specs.Compartments.{CompartmentState, compartment_knows, compartments}
 use Rattle.flow_policy.specs.Flow.{flow}
 use Rattle.heap_policy.specs.Heap.{HeapState, heap, heap_knows}
 use Rattle.policy_product.specs.Both.{IsApart, both}
 use Rattle.policy_product.specs.Maybe.{knows_in, lend_in, maybe, room_in}
 use Rattle.policy_product.specs.declared.maybe.Maybe.{Maybe}
-use Rattle.policy_choice.specs.All.{all, choice_state, compartment_count, flat_all, heap_of, pair_of}
+use Rattle.policy_choice.specs.All.{all, choice_state, compartments_of, flat_all, heap_of, pair_of}
 use Rattle.policy_choice.specs.declared.choice.Choice.{Choice}
 use Rattle.policy_choice.specs.Flat.{parts_of}
 use Rattle.policy_choice.specs.Told.{IsToldAs}
@@ -27,9 +27,9 @@ neither : (k : ℕ) → compartment_knows k ≡ true → heap_knows k ≡ false
 neither k known = grind (arith, nat_tests)
 
 -- what a policy that may be off offers, at most
-comp_offers : (part : Option ℕ) (k : ℕ) → compartment_knows k ≡ false → knows_in compartments part k ≡ false
+comp_offers : (part : Option CompartmentState) (k : ℕ) → compartment_knows k ≡ false → knows_in compartments part k ≡ false
 comp_offers None k not = refl
-comp_offers (Some count) k not = not
+comp_offers (Some state) k not = not
 
 heap_offers : (part : Option HeapState) (k : ℕ) → heap_knows k ≡ false → knows_in heap part k ≡ false
 heap_offers None k not = refl
@@ -46,20 +46,20 @@ Others = Maybe (List (ℕ × ℕ)) × Maybe HeapState
 others_offer : (r : Others) (k : ℕ) → heap_knows k ≡ false → (both (maybe flow) (maybe heap)).knows r k ≡ false
 others_offer r k not = ap (λ first. first || knows_in heap r.1.part k) (flow_offers_none r.0.part k) ∙ heap_offers r.1.part k not
 
-sealing_apart : (part : Option ℕ) (r : Maybe ℕ × Others) (k : ℕ) → knows_in sealing part k ≡ true
+sealing_apart : (part : Option ℕ) (r : Maybe CompartmentState × Others) (k : ℕ) → knows_in sealing part k ≡ true
     → (both (maybe compartments) (both (maybe flow) (maybe heap))).knows r k ≡ false
 sealing_apart None r k known = absurd (cc known)
 sealing_apart (Some keys) r k known =
     ap (λ first. first || (both (maybe flow) (maybe heap)).knows r.1 k) (comp_offers r.0.part k (not_comp k known)) ∙ others_offer r.1 k (not_heap k known)
 
-comp_apart_in : (part : Option ℕ) (r : Others) (k : ℕ) → knows_in compartments part k ≡ true → (both (maybe flow) (maybe heap)).knows r k ≡ false
+comp_apart_in : (part : Option CompartmentState) (r : Others) (k : ℕ) → knows_in compartments part k ≡ true → (both (maybe flow) (maybe heap)).knows r k ≡ false
 comp_apart_in None r k known = absurd (cc known)
-comp_apart_in (Some count) r k known = others_offer r k (neither k known)
+comp_apart_in (Some state) r k known = others_offer r k (neither k known)
 
-pub seal_apart : (s : Maybe ℕ) (r : Maybe ℕ × Others) → IsApart (maybe sealing) (both (maybe compartments) (both (maybe flow) (maybe heap))) s r
+pub seal_apart : (s : Maybe ℕ) (r : Maybe CompartmentState × Others) → IsApart (maybe sealing) (both (maybe compartments) (both (maybe flow) (maybe heap))) s r
 seal_apart s r k known = sealing_apart s.part r k known
 
-pub comp_apart : (s : Maybe ℕ) (r : Others) → IsApart (maybe compartments) (both (maybe flow) (maybe heap)) s r
+pub comp_apart : (s : Maybe CompartmentState) (r : Others) → IsApart (maybe compartments) (both (maybe flow) (maybe heap)) s r
 comp_apart s r k known = comp_apart_in s.part r k known
 
 pub flow_apart : (s : Maybe (List (ℕ × ℕ))) (r : Maybe HeapState) → IsApart (maybe flow) (maybe heap) s r
@@ -67,7 +67,7 @@ flow_apart s r k known = let none = flow_offers_none s.part k in absurd (cc (non
 
 -- ---- who lends
 
-comp_lends : (part : Option ℕ) (tag : _) → lend_in compartments part tag ≡ Ok tt
+comp_lends : (part : Option CompartmentState) (tag : _) → lend_in compartments part tag ≡ Ok tt
 comp_lends None tag = refl
 comp_lends (Some count) tag = refl
 
@@ -90,7 +90,7 @@ seal_room : (on : Bool) → room_in sealing (if on then Some 0 else None) ≡ 0
 seal_room true = refl
 seal_room false = refl
 
-comp_room : (on : Bool) (count : ℕ) → room_in compartments (if on then Some count else None) ≡ 0
+comp_room : (on : Bool) (state : CompartmentState) → room_in compartments (if on then Some state else None) ≡ 0
 comp_room true count = refl
 comp_room false count = refl
 
@@ -105,7 +105,7 @@ heap_room false state ram fits = omega arith
 pub room_of_chosen : (choice : Choice) (g : Picture) → heap.room (heap_of g) ≤ g.ram → all.room (choice_state choice g) ≤ g.ram
 room_of_chosen choice g fits =
     let seal = seal_room choice.seal in
-    let comp = comp_room choice.comp (compartment_count g.compartments) in
+    let comp = comp_room choice.comp (compartments_of g) in
     let flow_is = flow_room choice.flow (map pair_of g.edges) in
     let last = heap_room choice.heap (heap_of g) g.ram fits in
     grind (arith, seal, comp, flow_is, last)

@@ -2,7 +2,7 @@
 -- declines to lend.
 use Rattle.std.proofs.Common.{◌≡◌, ℕ, Bool, true, false, ◌||◌, List, [], ◌∷◌, Option, Some, None, Result, Ok, Err, option_map, if◌then◌else◌, length, ◌==◌, refl, sym, ap, ◌∙◌, nat_le, arith}
 use Rattle.std.proofs.lemmas.Bool.Decides.{nat_tests}
-use Rattle.policy_trait.specs.Maps.{answer_by, args_by, ok_by, outs_by, plan_by}
+use Rattle.policy_trait.specs.Maps.{args_by, ok_by, outs_by, plan_by}
 use Rattle.policy_trait.specs.Model.{PolicyModel}
 use Rattle.shared_terms.specs.Steps.{◌>>=◌}
 use Rattle.policy_trait.specs.declared.rules.Outs.{Outs}
@@ -15,6 +15,7 @@ use Rattle.policy_trait.specs.declared.services.PlanEnd.{PlanEnd}
 use Rattle.policy_trait.specs.declared.services.Rest.{Rest}
 use Rattle.policy_trait.specs.declared.services.Rest.TheVariants.{AsA0, Plain}
 use Rattle.policy_product.specs.Both.{IsApart, beside_left, beside_right, both, both_outs, joint_text, left, lending_of, lent_if, rest_tag, right, tag_beside}
+use Rattle.policy_parts.proofs.MapLemmas.{plan_twice}
 use Rattle.policy_choice.specs.Flat.{Four, answer_among, flat, parts_of, plan_among}
 use Rattle.policy_choice.specs.Told.{IsToldAs}
 
@@ -206,14 +207,6 @@ module _ {T U V W : Type 0} (pc plain a0 : T × (U × (V × W))) where
   heap_plan p = ap (λ x. record (among (λ t (all : Flat). record all { heap = t }) p) { answer = x }) (heap_answer p.answer)
 
 -- ---- a plan with one component of its tags
-
--- a plan's tags changed twice
-answer_twice : {A B C : Type 0} (f : B → C) (g : A → B) (x : Option (Answer A)) → option_map (answer_by f) (option_map (answer_by g) x) ≡ option_map (answer_by (λ t. f (g t))) x
-answer_twice f g None = refl
-answer_twice f g (Some x) = refl
-
-plan_twice : {A B C : Type 0} (f : B → C) (g : A → B) (p : Plan A) → plan_by f (plan_by g p) ≡ plan_by (λ t. f (g t)) p
-plan_twice f g p = ap (λ x. record (plan_by (λ t. f (g t)) p) { answer = x }) (answer_twice f g p.answer)
 
 module _ {T U V W : Type 0} (p : Plan (T × (U × (V × W)))) where
   -- as the pairs nest

@@ -1,6 +1,7 @@
 -- Where no policy is chosen all are off, and the policy that is nothing mirrors all of them together.
 use Rattle.std.proofs.Common.{◌≡◌, ℕ, Bool, true, false, not, ◌&&◌, List, None, refl, sym, subst}
 use Rattle.image_format.specs.Picture.{Picture}
+use Rattle.compartment_policy.specs.Compartments.{CompartmentState}
 use Rattle.heap_policy.specs.Heap.{HeapState}
 use Rattle.policy_trait.specs.Mirrors.{Mirrors}
 use Rattle.policy_product.specs.Nothing.{nothing, no_tag}
@@ -13,13 +14,14 @@ use Rattle.policy_choice.specs.declared.choice.Choice.{Choice}
 abbrev pub all_off : AllState
 all_off = (record { part = None }, (record { part = None }, (record { part = None }, record { part = None })))
 
-off_if : (seal comp flow on_heap : Bool) (count : ℕ) (edges : List (ℕ × ℕ)) (region : HeapState) → (not seal && not comp && not flow && not on_heap) ≡ true
-    → (part_if seal 0, (part_if comp count, (part_if flow edges, part_if on_heap region))) ≡ all_off
-off_if false false false false count edges region none = refl
-off_if true comp flow on_heap count edges region none = absurd (cc none)
-off_if false true flow on_heap count edges region none = absurd (cc none)
-off_if false false true on_heap count edges region none = absurd (cc none)
-off_if false false false true count edges region none = absurd (cc none)
+off_if : (seal comp flow on_heap : Bool) (counts : CompartmentState) (edges : List (ℕ × ℕ)) (region : HeapState)
+    → (not seal && not comp && not flow && not on_heap) ≡ true
+    → (part_if seal 0, (part_if comp counts, (part_if flow edges, part_if on_heap region))) ≡ all_off
+off_if false false false false counts edges region none = refl
+off_if true comp flow on_heap counts edges region none = absurd (cc none)
+off_if false true flow on_heap counts edges region none = absurd (cc none)
+off_if false false true on_heap counts edges region none = absurd (cc none)
+off_if false false false true counts edges region none = absurd (cc none)
 
 pub none_is_off : (choice : Choice) (g : Picture) → is_none choice ≡ true → choice_state choice g ≡ all_off
 none_is_off choice g none = off_if choice.seal choice.comp choice.flow choice.heap _ _ _ none

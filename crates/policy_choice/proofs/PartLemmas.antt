@@ -3,7 +3,7 @@
 use Rattle.std.proofs.Common.{◌≡◌, ℕ, Bool, true, false, ◌||◌, List, Option, Some, None, Result, Ok, Err, option_map, refl, sym, ap, ◌∙◌, subst}
 use Rattle.sealing_policy.specs.Sealing.{sealing}
 use Rattle.sealing_policy.specs.declared.tag.SealTag.{SealTag}
-use Rattle.compartment_policy.specs.Compartments.{compartments}
+use Rattle.compartment_policy.specs.Compartments.{CompartmentState, compartments}
 use Rattle.compartment_policy.specs.declared.tag.CompartmentTag.{CompartmentTag}
 use Rattle.flow_policy.specs.Flow.{flow}
 use Rattle.flow_policy.specs.declared.tag.FlowTag.{FlowTag}
@@ -48,7 +48,7 @@ last_knows false false true d known no_a no_b no_c = absurd (cc no_c)
 
 -- ---- plans and commits
 
-module _ (s : AllState) (s0 : Maybe ℕ) (s1 : Maybe ℕ) (s2 : Maybe (List (ℕ × ℕ))) (s3 : Maybe HeapState) (is : (s0, (s1, (s2, s3))) ≡ s)
+module _ (s : AllState) (s0 : Maybe ℕ) (s1 : Maybe CompartmentState) (s2 : Maybe (List (ℕ × ℕ))) (s3 : Maybe HeapState) (is : (s0, (s1, (s2, s3))) ≡ s)
     (p : Plan AllTag) (given : IsGiven all s p) where
   rest_given : (maybe sealing).knows s0 p.service ≡ false → IsGiven (both (maybe compartments) (both (maybe flow) (maybe heap))) (s1, (s2, s3)) (plan_by right p)
   rest_given not =
@@ -145,7 +145,7 @@ plan_told s k a pc known lent lent_is r r_is =
     told_plan r (all.plan s k a pc)
     (r_is ∙ (ap (λ (l : Result (Unit {0}) PlanEnd). l >>= λ each. all_owner_plan (parts_of s) k (args_by parts_of a) (parts_of pc)) lent_is ∙ sym (all_told_flat.plan s k a pc known)))
 
-module _ (s : AllState) (s0 : Maybe ℕ) (s1 : Maybe ℕ) (s2 : Maybe (List (ℕ × ℕ))) (s3 : Maybe HeapState) (is : (s0, (s1, (s2, s3))) ≡ s)
+module _ (s : AllState) (s0 : Maybe ℕ) (s1 : Maybe CompartmentState) (s2 : Maybe (List (ℕ × ℕ))) (s3 : Maybe HeapState) (is : (s0, (s1, (s2, s3))) ≡ s)
     (k uses : ℕ) (arguments : Args AllTag) (uses_is : uses ≡ all.uses s k) where
   -- the first of the four that declines is the one that declines
   pub lent_told : (a b c d : Lent)
@@ -158,7 +158,7 @@ module _ (s : AllState) (s0 : Maybe ℕ) (s1 : Maybe ℕ) (s2 : Maybe (List (ℕ
       told
       ∙ (λ i. flat_lent (maybe sealing) (maybe compartments) (maybe flow) (maybe heap) (parts_of (is i)) k (uses_is i) (args_by parts_of arguments))
 
-module _ (s : AllState) (s0 : Maybe ℕ) (s1 : Maybe ℕ) (s2 : Maybe (List (ℕ × ℕ))) (s3 : Maybe HeapState) (is : (s0, (s1, (s2, s3))) ≡ s)
+module _ (s : AllState) (s0 : Maybe ℕ) (s1 : Maybe CompartmentState) (s2 : Maybe (List (ℕ × ℕ))) (s3 : Maybe HeapState) (is : (s0, (s1, (s2, s3))) ≡ s)
     (p : Plan AllTag) (old : AllTag) (given : IsGiven all s p) where
   -- the four new tags of a word are its new tag
   pub retag_told : (a : Result (Option SealTag) Refused) (b : Result (Option CompartmentTag) Refused) (c : Result (Option FlowTag) Refused) (d : Result (Option HeapTag) Refused)

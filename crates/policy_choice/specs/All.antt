@@ -12,7 +12,7 @@ use Rattle.policy_trait.specs.declared.services.PlanEnd.{PlanEnd}
 use Rattle.sealing_policy.specs.Sealing.{sealing}
 use Rattle.sealing_policy.specs.contracts.tag.SealTagPartialEq.TheImpl as seal_tag
 use Rattle.sealing_policy.specs.declared.tag.SealTag.{SealTag}
-use Rattle.compartment_policy.specs.Compartments.{compartments}
+use Rattle.compartment_policy.specs.Compartments.{CompartmentState, compartments, first_compartments}
 use Rattle.compartment_policy.specs.contracts.tag.CompartmentTagPartialEq.TheImpl as compartment_tag
 use Rattle.compartment_policy.specs.declared.tag.CompartmentTag.{CompartmentTag}
 use Rattle.flow_policy.specs.Flow.{flow}
@@ -31,7 +31,7 @@ abbrev pub AllTag : Type 0
 AllTag = Option SealTag × (Option CompartmentTag × (Option FlowTag × Option HeapTag))
 
 abbrev pub AllState : Type 0
-AllState = Maybe ℕ × (Maybe ℕ × (Maybe (List (ℕ × ℕ)) × Maybe HeapState))
+AllState = Maybe ℕ × (Maybe CompartmentState × (Maybe (List (ℕ × ℕ)) × Maybe HeapState))
 
 -- sealing, compartments, control flow and heap safety
 abbrev pub all : PolicyModel AllTag AllState
@@ -49,6 +49,10 @@ all_eq x y =
 abbrev pub compartment_count : List CompartmentRange → ℕ
 compartment_count rows = fold (λ (count : ℕ) (row : CompartmentRange). max count (row.owner + 1)) 1 rows
 
+-- the image's compartments, before words were split off
+abbrev pub compartments_of : Picture → CompartmentState
+compartments_of g = first_compartments (compartment_count g.compartments)
+
 abbrev pub pair_of : Edge → ℕ × ℕ
 pair_of edge = (edge.source, edge.target)
 
@@ -64,7 +68,7 @@ abbrev pub choice_state : Choice → Picture → AllState
 choice_state choice g = (
   part_if choice.seal 0,
   (
-    part_if choice.comp (compartment_count g.compartments),
+    part_if choice.comp (compartments_of g),
     (part_if choice.flow (map pair_of g.edges), part_if choice.heap (heap_of g)),
   ),
 )
@@ -75,7 +79,7 @@ abbrev pub TagParts : Type 0
 TagParts = Four (Option SealTag) (Option CompartmentTag) (Option FlowTag) (Option HeapTag)
 
 abbrev pub StateParts : Type 0
-StateParts = Four (Maybe ℕ) (Maybe ℕ) (Maybe (List (ℕ × ℕ))) (Maybe HeapState)
+StateParts = Four (Maybe ℕ) (Maybe CompartmentState) (Maybe (List (ℕ × ℕ))) (Maybe HeapState)
 
 abbrev pub flat_all : PolicyModel TagParts StateParts
 flat_all = flat (maybe sealing) (maybe compartments) (maybe flow) (maybe heap)

@@ -3,7 +3,7 @@ use Rattle.std.specs.Prelude.{ℕ, List}
 use Rattle.policy_trait.specs.PolicyLaws.{KeepsLaws}
 use Rattle.sealing_policy.specs.Sealing.{HasFewKeys, sealing}
 use Rattle.sealing_policy.specs.SealingLaws.{sealing_laws}
-use Rattle.compartment_policy.specs.Compartments.{IsCount, compartments}
+use Rattle.compartment_policy.specs.Compartments.{CompartmentState, IsCount, compartments}
 use Rattle.compartment_policy.specs.CompartmentLaws.{compartment_laws}
 use Rattle.flow_policy.specs.Flow.{HoldsAlways, flow}
 use Rattle.flow_policy.specs.FlowLaws.{flow_laws}
@@ -21,7 +21,7 @@ use Rattle.policy_choice.specs.All.{AllState, all}
 abbrev pub SealHolds : Maybe ℕ → Type 0
 SealHolds = MaybeHolds HasFewKeys
 
-abbrev pub CompHolds : Maybe ℕ → Type 0
+abbrev pub CompHolds : Maybe CompartmentState → Type 0
 CompHolds = MaybeHolds IsCount
 
 abbrev pub FlowHolds : Maybe (List (ℕ × ℕ)) → Type 0
@@ -35,7 +35,7 @@ abbrev pub LastHold : Maybe (List (ℕ × ℕ)) × Maybe HeapState → Type 0
 LastHold = BothHold FlowHolds HeapHolds
 
 -- of all but sealing
-abbrev pub RestHold : Maybe ℕ × (Maybe (List (ℕ × ℕ)) × Maybe HeapState) → Type 0
+abbrev pub RestHold : Maybe CompartmentState × (Maybe (List (ℕ × ℕ)) × Maybe HeapState) → Type 0
 RestHold = BothHold CompHolds LastHold
 
 abbrev pub AllHold : AllState → Type 0

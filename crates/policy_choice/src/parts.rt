@@ -3,37 +3,13 @@
 ghost use Rattle.std.specs.Prelude.{◌≡◌, ◌+◌, ◌≤◌, ◌++◌, IsTrue};
 ghost use Rattle.arrayvec.specs.ArrayVec.{array_vec_len};
 ghost use Rattle.policy_trait.specs.Model.{IsGiven};
-ghost use Rattle.policy_product.specs.Both.{both_ignore, joint_text, lending_of, lent_if, rest_tag};
+ghost use Rattle.policy_product.specs.Both.{both_ignore, joint_text};
 ghost use Rattle.policy_parts.specs.Part.{word_tag};
 ghost use Rattle.policy_choice.specs.Flat.{lent_to_others};
 
-use policy_trait::{Args, Mask, Plan, PlanEnd, Policy, Refused, Rest, Why};
+use policy_product::lend_all;
+use policy_trait::{Args, Mask, Plan, PlanEnd, Policy, Refused};
 use pump_words::{Line, write_text};
-
-/// Whether the tag is lent by the policy, where it is used.
-fn lend_if<P: Policy>(policy: &P, used: bool, tag: P::Tag) -> Result<(), PlanEnd>
-    ensures { result ≡ lent_if (P.model.lend policy.now) used tag }
-{
-    if !used {
-        return Ok(());
-    }
-    match policy.lend(tag) {
-        Ok(()) => Ok(()),
-        Err(part) => Err(PlanEnd::Refused(Refused {
-            part,
-            why: Why::Lend,
-        })),
-    }
-}
-
-/// Whether the arguments that are used are lent by the policy, one by one.
-fn lend_all<P: Policy>(policy: &P, uses: u8, arguments: &Args<P::Tag>) -> Result<(), PlanEnd>
-    ensures { result ≡ lending_of (P.model.lend policy.now) uses arguments.now }
-{
-    lend_if(policy, 1 <= uses, arguments.t0)?;
-    lend_if(policy, 2 <= uses, arguments.t1)?;
-    lend_if(policy, 3 <= uses, arguments.t2)
-}
 
 /// Whether the policy lends the used arguments of a service, where that is another's.
 pub(crate) fn lend_to_others<P: Policy>(
@@ -96,15 +72,5 @@ pub(crate) fn ignored_by_both(first: Mask, second: Mask) -> Mask
         t1: first.t1 && second.t1,
         t2: first.t2 && second.t2,
         tm: first.tm && second.tm,
-    }
-}
-
-/// The tag that the others' components of an answer are taken from.
-pub(crate) fn rest_of<U: Copy>(rest: Rest, plain: U, a0: U) -> U
-    ensures { result ≡ rest_tag rest plain a0 }
-{
-    match rest {
-        Rest::Plain => plain,
-        Rest::AsA0 => a0,
     }
 }

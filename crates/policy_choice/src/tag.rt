@@ -1,14 +1,14 @@
 //! The tags of all policies together.
 
 ghost use Rattle.std.specs.Prelude.{◌≡◌};
-ghost use Rattle.policy_trait.specs.Maps.{ins_by, plan_by};
+ghost use Rattle.policy_trait.specs.Maps.{plan_by};
 ghost use Rattle.policy_choice.specs.Flat.{parts_of, plan_among};
 
-use crate::parts::rest_of;
 use compartment_policy::CompartmentTag;
 use flow_policy::FlowTag;
 use heap_policy::HeapTag;
-use policy_trait::{Answer, Ins, Plan, TagMap};
+use policy_product::rest_of;
+use policy_trait::{Answer, Plan, TagMap};
 use pump_words::Same;
 use sealing_policy::SealTag;
 use std::marker::Model;
@@ -80,20 +80,6 @@ impl TagMap for Seals {
     }
 }
 
-/// The inputs with the components of sealing.
-#[inline(always)]
-pub(crate) fn seal_inputs(inputs: &Ins<AllTag>) -> Ins<Option<SealTag>>
-    ensures { result ≡ ins_by (λ tag. tag.0) inputs.now }
-{
-    Ins {
-        pc: inputs.pc.seal,
-        ci: inputs.ci.seal,
-        t1: inputs.t1.seal,
-        t2: inputs.t2.seal,
-        tm: inputs.tm.seal,
-    }
-}
-
 /// The plan with the components of sealing.
 pub(crate) fn seal_plan(plan: &Plan<AllTag>) -> Plan<Option<SealTag>>
     ensures { result ≡ plan_by (λ tag. tag.0) plan.now }
@@ -146,20 +132,6 @@ impl TagMap for Comps {
 
     fn image(&self, tag: AllTag) -> Option<CompartmentTag> {
         tag.comp
-    }
-}
-
-/// The inputs with the components of compartments.
-#[inline(always)]
-pub(crate) fn comp_inputs(inputs: &Ins<AllTag>) -> Ins<Option<CompartmentTag>>
-    ensures { result ≡ ins_by (λ tag. tag.1.0) inputs.now }
-{
-    Ins {
-        pc: inputs.pc.comp,
-        ci: inputs.ci.comp,
-        t1: inputs.t1.comp,
-        t2: inputs.t2.comp,
-        tm: inputs.tm.comp,
     }
 }
 
@@ -218,20 +190,6 @@ impl TagMap for Flows {
     }
 }
 
-/// The inputs with the components of control flow.
-#[inline(always)]
-pub(crate) fn flow_inputs(inputs: &Ins<AllTag>) -> Ins<Option<FlowTag>>
-    ensures { result ≡ ins_by (λ tag. tag.1.1.0) inputs.now }
-{
-    Ins {
-        pc: inputs.pc.flow,
-        ci: inputs.ci.flow,
-        t1: inputs.t1.flow,
-        t2: inputs.t2.flow,
-        tm: inputs.tm.flow,
-    }
-}
-
 /// The plan with the components of control flow.
 pub(crate) fn flow_plan(plan: &Plan<AllTag>) -> Plan<Option<FlowTag>>
     ensures { result ≡ plan_by (λ tag. tag.1.1.0) plan.now }
@@ -284,20 +242,6 @@ impl TagMap for Heaps {
 
     fn image(&self, tag: AllTag) -> Option<HeapTag> {
         tag.heap
-    }
-}
-
-/// The inputs with the components of heap safety.
-#[inline(always)]
-pub(crate) fn heap_inputs(inputs: &Ins<AllTag>) -> Ins<Option<HeapTag>>
-    ensures { result ≡ ins_by (λ tag. tag.1.1.1) inputs.now }
-{
-    Ins {
-        pc: inputs.pc.heap,
-        ci: inputs.ci.heap,
-        t1: inputs.t1.heap,
-        t2: inputs.t2.heap,
-        tm: inputs.tm.heap,
     }
 }
 

@@ -1,4 +1,4 @@
-mod MapLemmas
+pub mod MapLemmas
 pub mod OnLemmas
 pub mod PairLemmas
 mod WithinLemmas

@@ -11,7 +11,7 @@ use Rattle.policy_trait.specs.declared.services.Rest.TheVariants.{AsA0, Plain}
 use Rattle.policy_product.specs.Both.{rest_tag, tag_beside}
 use Rattle.policy_parts.specs.Part.{IsOthers, IsPart, Planned, value_after, others, own, word_tag}
 use Rattle.policy_parts.specs.View.{View}
-use Rattle.policy_parts.proofs.MapLemmas.{for_some_mapped, mapped_twice}
+use Rattle.policy_parts.proofs.MapLemmas.{for_some_mapped, plan_twice}
 
 -- a view through another one
 abbrev pub view_within : {T S U V X Y : Type 0} → View T S U V → View U V X Y → View T S X Y
@@ -100,11 +100,6 @@ module _ {T S U V X Y : Type 0} (w : PolicyModel T S) (m : PolicyModel U V) (q :
   k_on : (s : S) → is_on s ≡ true → k.is_on (l.value s) ≡ true
   k_on s on = inner_on (l.is_on s) (k.is_on (l.value s)) on
 
-  -- a plan read twice
-  plan_twice : (p : Plan T) → plan_by k.tag (plan_by l.tag p) ≡ plan_by (λ tag. k.tag (l.tag tag)) p
-  plan_twice p = ap (λ x. record { service = p.service; pc = k.tag (l.tag p.pc); note = p.note; range = p.range; zero = p.zero; answer = x })
-      (mapped_twice (answer_by k.tag) (answer_by l.tag) p.answer)
-
   pub part_of_part : IsPart w q (view_within l k)
   part_of_part = record {
     plain = λ s on. ap k.tag (whole.plain s (l_on s on)) ∙ part.plain (l.value s) (k_on s on);
@@ -113,17 +108,17 @@ module _ {T S U V X Y : Type 0} (w : PolicyModel T S) (m : PolicyModel U V) (q :
     rule = λ s g x outs on e. part.rule (l.value s) g _ _ (k_on s on) (whole.rule s g x outs (l_on s on) e);
     wipe = λ s pc old new on e. part.wipe (l.value s) _ _ _ (k_on s on) (whole.wipe s pc old new (l_on s on) e);
     plan = λ s number a pc p on known e.
-        subst (Planned q (k.value (l.value s)) number (args_by (λ tag. k.tag (l.tag tag)) a) (k.tag (l.tag pc))) (plan_twice p)
+        subst (Planned q (k.value (l.value s)) number (args_by (λ tag. k.tag (l.tag tag)) a) (k.tag (l.tag pc))) (plan_twice k.tag l.tag p)
         (planned_within m q k part (l.value s) number (args_by l.tag a) (l.tag pc) (plan_by l.tag p) (k_on s on)
         (whole.plan s number a pc p (l_on s on) known e));
     retag = λ s p old new on known e.
-        subst (λ (r : Plan X). word_tag q (k.value (l.value s)) r (k.tag (l.tag old)) ≡ Ok (k.tag (l.tag new))) (plan_twice p)
+        subst (λ (r : Plan X). word_tag q (k.value (l.value s)) r (k.tag (l.tag old)) ≡ Ok (k.tag (l.tag new))) (plan_twice k.tag l.tag p)
         (word_within m q k part (m.knows (l.value s) p.service) (l.value s) (plan_by l.tag p) (l.tag old) (l.tag new) refl (k_on s on)
         (whole.retag s p old new (l_on s on) known e));
     commit = λ s p on known.
         ap k.value (whole.commit s p (l_on s on) known)
         ∙ commit_within m q k part (m.knows (l.value s) p.service) (l.value s) (plan_by l.tag p) refl (k_on s on)
-        ∙ ap (λ (r : Plan X). value_after q (k.value (l.value s)) r) (plan_twice p);
+        ∙ ap (λ (r : Plan X). value_after q (k.value (l.value s)) r) (plan_twice k.tag l.tag p);
     stays = λ s p on known.
         both_on (whole.stays s p (l_on s on) known)
         (ap k.is_on (whole.commit s p (l_on s on) known)

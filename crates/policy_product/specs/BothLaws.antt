@@ -1,23 +1,27 @@
 -- Two policies that keep the laws keep them as one.
-use Rattle.std.proofs.Common.{◌≡◌, ℕ, ◌≤◌, Bool, true, false, ◌&&◌, ◌||◌, List, Option, Some, None, Result, Ok, Err, IsTrue, OnErr, OnOk, max, option_map, refl, sym, ap, ◌∙◌, subst, if◌then◌else◌, arith}
+use Rattle.std.proofs.Common.{◌≡◌, ℕ, ◌^◌, ◌<◌, ◌≤◌, nat_le, Bool, true, false, ◌&&◌, ◌||◌, List, Option, Some, None, Result, Ok, Err, IsTrue, OnErr, OnOk, max, option_map, refl, sym, ap, ◌∙◌, subst, if◌then◌else◌, arith}
+use Rattle.std.proofs.lemmas.Bool.{leb-true}
 use Rattle.std.proofs.lemmas.Option.{same_Some}
 use Rattle.std.specs.Option.{ForSome}
 use Rattle.std.proofs.Math.Nat.{le-max_left, le-max_right}
 use Rattle.rv_decode.specs.declared.groups.Group.{Group}
-use Rattle.policy_trait.specs.PolicyLaws.{IsRange, KeepsLaws, KeepsValue, SameRules}
-use Rattle.policy_trait.specs.UseLaws.{rule_by_key}
-use Rattle.policy_trait.specs.Maps.{args_by, ins_by, ok_by, plan_by}
+use Rattle.policy_trait.specs.PolicyLaws.{AgreesOnUsed, AreWords, HasWord, IsRange, KeepsLaws, KeepsValue, SameRules}
+use Rattle.policy_trait.specs.UseLaws.{agrees_by, rule_by_key, uses_a0, words_by}
+use Rattle.policy_trait.specs.Maps.{answer_by, args_by, ins_by, ok_by, plan_by}
 use Rattle.policy_trait.specs.Model.{CanPlan, IsGiven, PolicyModel, masked_inputs}
 use Rattle.shared_terms.specs.Steps.{◌>>=◌}
 use Rattle.policy_trait.specs.declared.rules.Ins.{Ins}
 use Rattle.policy_trait.specs.declared.rules.Outs.{Outs}
+use Rattle.policy_trait.specs.declared.rules.Part.{Part}
 use Rattle.policy_trait.specs.declared.rules.Refused.{Refused}
 use Rattle.policy_trait.specs.declared.services.Answer.{Answer}
 use Rattle.policy_trait.specs.declared.services.Args.{Args}
 use Rattle.policy_trait.specs.declared.services.Plan.{Plan}
 use Rattle.policy_trait.specs.declared.services.PlanEnd.{PlanEnd}
+use Rattle.policy_trait.specs.declared.services.Rest.{Rest}
+use Rattle.policy_trait.specs.declared.services.Rest.TheVariants.{AsA0, Plain}
 use Rattle.policy_trait.specs.declared.services.Words.{Words}
-use Rattle.policy_product.specs.Both.{BothHold, answer_before, answer_beside, beside_left, beside_right, both, both_ignore, both_outs, joint_text, left, lending_of, plan_of_left, plan_of_right, right}
+use Rattle.policy_product.specs.Both.{BothHold, answer_before, answer_beside, beside_left, beside_right, both, both_ignore, both_outs, joint_text, left, lending_of, lent_if, plan_of_left, plan_of_right, rest_tag, retag_of_left, retag_of_right, right, tag_beside}
 
 -- ---- a plan of one part
 
@@ -60,6 +64,61 @@ value_beside {T} {W} put a b (Some y) same values rests all = λ x e as_a0.
     let is : put y ≡ x = same_Some (put y) x e in
     sym (ap (λ (z : Answer W). z.value) is) ∙ values y
     ∙ all y refl (sym (rests y) ∙ ap (λ (z : Answer W). z.rest) is ∙ as_a0) ∙ same
+
+-- and the word that it was
+word_beside : {T W : Type 0} (put : Answer T → Answer W) (answer : Option (Answer T)) → ((x : Answer T) → (put x).value ≡ x.value)
+    → ForSome answer HasWord → ForSome (option_map put answer) HasWord
+word_beside put None values all = λ x e. absurd (let h : None ≡ Some x = e in cc)
+word_beside {T} {W} put (Some y) values all = λ x e.
+    let is : put y ≡ x = same_Some (put y) x e in
+    subst (λ (value : ℕ). value < 2 ^ 32) (sym (values y) ∙ ap (λ (z : Answer W). z.value) is) (all y refl)
+
+-- ---- arguments that a service does not use
+
+-- a tag that is not used is not asked for
+lent_as : {T : Type 0} (lend : T → Result (Unit {0}) Part) (used : Bool) (t u : T) → (used ≡ true → t ≡ u) → lent_if lend used t ≡ lent_if lend used u
+lent_as lend false t u same = refl
+lent_as lend true t u same = ap (lent_if lend true) (same refl)
+
+-- so the used ones decide what is lent
+lending_as : {T : Type 0} (lend : T → Result (Unit {0}) Part) (uses : ℕ) (a b : Args T) → AgreesOnUsed uses a b → lending_of lend uses a ≡ lending_of lend uses b
+lending_as lend uses a b same =
+    let first = lent_as lend (nat_le 1 uses) a.t0 b.t0 (λ used. same.t0 (leb-true 1 uses used)) in
+    let second = lent_as lend (nat_le 2 uses) a.t1 b.t1 (λ used. same.t1 (leb-true 2 uses used)) in
+    let third = lent_as lend (nat_le 3 uses) a.t2 b.t2 (λ used. same.t2 (leb-true 3 uses used)) in
+    λ j. first j >>= λ x. second j >>= λ y. third j
+
+-- an answer that leaves the others a0's tags has the same ones where a0 has
+abbrev SameRest : {T U : Type 0} → U → U → Answer T → Type 0
+SameRest t u x = x.rest ≡ AsA0 → t ≡ u
+
+rest_as : {U : Type 0} (rest : Rest) (plain t u : U) → (rest ≡ AsA0 → t ≡ u) → rest_tag rest plain t ≡ rest_tag rest plain u
+rest_as Plain plain t u same = refl
+rest_as AsA0 plain t u same = same refl
+
+answer_right_as : {T U : Type 0} (plain t u : U) (answer : Option (Answer T)) → ForSome answer (SameRest t u)
+    → option_map (answer_beside plain t) answer ≡ option_map (answer_beside plain u) answer
+answer_right_as plain t u None same = refl
+answer_right_as {T} {U} plain t u (Some x) same = ap tagged (rest_as x.rest plain t u (same x refl))
+  where
+    tagged : U → Option (Answer (T × U))
+    tagged other = Some (record { value = x.value; tag = (x.tag, other); rest = x.rest })
+
+answer_left_as : {T U : Type 0} (plain t u : T) (answer : Option (Answer U)) → ForSome answer (SameRest t u)
+    → option_map (answer_before plain t) answer ≡ option_map (answer_before plain u) answer
+answer_left_as plain t u None same = refl
+answer_left_as {T} {U} plain t u (Some x) same = ap tagged (rest_as x.rest plain t u (same x refl))
+  where
+    tagged : T → Option (Answer (T × U))
+    tagged other = Some (record { value = x.value; tag = (other, x.tag); rest = x.rest })
+
+-- what is put on a plan that comes
+put_as : {T W : Type 0} (put also : Plan T → Plan W) (r : Result (Plan T) PlanEnd) → ((p : Plan T) → r ≡ Ok p → put p ≡ also p) → ok_by put r ≡ ok_by also r
+put_as {T} {W} put also (Ok p) same = ap given_as (same p refl)
+  where
+    given_as : Plan W → Result (Plan W) PlanEnd
+    given_as q = Ok q
+put_as put also (Err end) same = refl
 
 either_known : (a b : Bool) → IsTrue (a || b) → a ≡ false → IsTrue b
 either_known true b known off = absurd (cc off)
@@ -244,17 +303,24 @@ module _ {T U S R : Type 0} (m : PolicyModel T S) (n : PolicyModel U R) (holds :
   below : {a b c : ℕ} → a ≤ b → b ≤ c → a ≤ c
   below first second = omega (arith, first, second)
 
+  -- what the owner needs to plan
+  left_can : (s : S × R) (k : ℕ) (a : Args (T × U)) → m.knows s.0 k ≡ true → CanPlan (both m n) s k a → CanPlan m s.0 k (args_by left a)
+  left_can s k a owned can = record { known = owned; room = below (le-max_left (m.room s.0) (n.room s.1)) can.room }
+
+  right_can : (s : S × R) (k : ℕ) (a : Args (T × U)) → m.knows s.0 k ≡ false → CanPlan (both m n) s k a → CanPlan n s.1 k (args_by right a)
+  right_can s k a owned can =
+      record { known = either_known (m.knows s.0 k) (n.knows s.1 k) can.known owned; room = below (le-max_right (m.room s.0) (n.room s.1)) can.room }
+
   ranges : (owns : Bool) (s : S × R) (k : ℕ) (a : Args (T × U)) (pc : T × U) (p : Plan (T × U)) → m.knows s.0 k ≡ owns → CanPlan (both m n) s k a → BothHold holds also s
       → planned owns s k a pc ≡ Ok p → ForSome p.range (IsRange a.ram)
   ranges true s k a pc p owned can held e =
       let from = of_left true s k a pc p refl e in
       subst (λ (range : Option Words). ForSome range (IsRange a.ram)) (ap (λ (q : Plan (T × U)). q.range) from.put_on)
-      (laws.ranges s.0 k (args_by left a) pc.0 from.plan (record { known = owned; room = below (le-max_left (m.room s.0) (n.room s.1)) can.room }) held.0 from.given)
+      (laws.ranges s.0 k (args_by left a) pc.0 from.plan (left_can s k a owned can) held.0 from.given)
   ranges false s k a pc p owned can held e =
       let from = of_right false s k a pc p refl e in
       subst (λ (range : Option Words). ForSome range (IsRange a.ram)) (ap (λ (q : Plan (T × U)). q.range) from.put_on)
-      (also_laws.ranges s.1 k (args_by right a) pc.1 from.plan
-      (record { known = either_known (m.knows s.0 k) (n.knows s.1 k) can.known owned; room = below (le-max_right (m.room s.0) (n.room s.1)) can.room }) held.1 from.given)
+      (also_laws.ranges s.1 k (args_by right a) pc.1 from.plan (right_can s k a owned can) held.1 from.given)
 
   few : (owns : Bool) (s : S × R) (k : ℕ) → m.knows s.0 k ≡ owns → IsTrue (m.knows s.0 k || n.knows s.1 k) → (if owns then m.uses s.0 k else n.uses s.1 k) ≤ 3
   few true s k owned known = laws.few s.0 k owned
@@ -282,6 +348,76 @@ module _ {T U S R : Type 0} (m : PolicyModel T S) (n : PolicyModel U R) (holds :
       (value_beside (answer_before (m.plain s.0) a.t0.0) (args_by right a) a from.plan.answer refl (λ x. refl) (λ x. refl)
       (also_laws.value s.1 k (args_by right a) pc.1 from.plan (either_known (m.knows s.0 k) (n.knows s.1 k) known owned) from.given))
 
+  words : (owns : Bool) (s : S × R) (k : ℕ) (a : Args (T × U)) (pc : T × U) (p : Plan (T × U)) → m.knows s.0 k ≡ owns → CanPlan (both m n) s k a
+      → BothHold holds also s → AreWords a → planned owns s k a pc ≡ Ok p → ForSome p.answer HasWord
+  words true s k a pc p owned can held are e =
+      let from = of_left true s k a pc p refl e in
+      subst (λ (answer : Option (Answer (T × U))). ForSome answer HasWord) (ap (λ (q : Plan (T × U)). q.answer) from.put_on)
+      (word_beside (answer_beside (n.plain s.1) a.t0.1) from.plan.answer (λ x. refl)
+      (laws.words s.0 k (args_by left a) pc.0 from.plan (left_can s k a owned can) held.0 (words_by left a are) from.given))
+  words false s k a pc p owned can held are e =
+      let from = of_right false s k a pc p refl e in
+      subst (λ (answer : Option (Answer (T × U))). ForSome answer HasWord) (ap (λ (q : Plan (T × U)). q.answer) from.put_on)
+      (word_beside (answer_before (m.plain s.0) a.t0.0) from.plan.answer (λ x. refl)
+      (also_laws.words s.1 k (args_by right a) pc.1 from.plan (right_can s k a owned can) held.1 (words_by right a are) from.given))
+
+  -- ---- what a plan does not look at
+
+  -- beside the left part's plan, the right part's tag of a0 is looked at where the service uses a0
+  left_put : (s : S × R) (k : ℕ) (a b : Args (T × U)) (pc : T × U) → m.knows s.0 k ≡ true → AgreesOnUsed (m.uses s.0 k) a b
+      → (p : Plan T) → m.plan s.0 k (args_by left a) pc.0 ≡ Ok p
+      → beside_right pc.1 (n.plain s.1) a.t0.1 p ≡ beside_right pc.1 (n.plain s.1) b.t0.1 p
+  left_put s k a b pc owned same p given =
+      ap (λ x. record (beside_right pc.1 (n.plain s.1) a.t0.1 p) { answer = x })
+      (answer_right_as (n.plain s.1) a.t0.1 b.t0.1 p.answer
+      (λ x x_is as_a0. ap right (same.t0 (uses_a0 m holds laws s.0 k (args_by left a) pc.0 p owned given x x_is as_a0))))
+
+  -- the same for the right part's plan
+  right_put : (s : S × R) (k : ℕ) (a b : Args (T × U)) (pc : T × U) → IsTrue (n.knows s.1 k) → AgreesOnUsed (n.uses s.1 k) a b
+      → (p : Plan U) → n.plan s.1 k (args_by right a) pc.1 ≡ Ok p
+      → beside_left pc.0 (m.plain s.0) a.t0.0 p ≡ beside_left pc.0 (m.plain s.0) b.t0.0 p
+  right_put s k a b pc owned same p given =
+      ap (λ x. record (beside_left pc.0 (m.plain s.0) a.t0.0 p) { answer = x })
+      (answer_left_as (m.plain s.0) a.t0.0 b.t0.0 p.answer
+      (λ x x_is as_a0. ap left (same.t0 (uses_a0 n also also_laws s.1 k (args_by right a) pc.1 p owned given x x_is as_a0))))
+
+  unused : (owns : Bool) (s : S × R) (k : ℕ) (a b : Args (T × U)) (pc : T × U) → m.knows s.0 k ≡ owns → IsTrue (m.knows s.0 k || n.knows s.1 k)
+      → AgreesOnUsed (if owns then m.uses s.0 k else n.uses s.1 k) a b → planned owns s k a pc ≡ planned owns s k b pc
+  unused true s k a b pc owned known same =
+      let lending = lending_as (n.lend s.1) (m.uses s.0 k) (args_by right a) (args_by right b) (agrees_by right (m.uses s.0 k) a b same) in
+      let plan = laws.unused s.0 k (args_by left a) (args_by left b) pc.0 owned (agrees_by left (m.uses s.0 k) a b same) in
+      let put_on = beside_right pc.1 (n.plain s.1) b.t0.1 in
+      let put = put_as (beside_right pc.1 (n.plain s.1) a.t0.1) put_on (m.plan s.0 k (args_by left a) pc.0) (left_put s k a b pc owned same) in
+      (λ j. lending j >>= λ all. put j)
+      ∙ (λ j. lending_of (n.lend s.1) (m.uses s.0 k) (args_by right b) >>= λ all. ok_by put_on (plan j))
+  unused false s k a b pc owned known same =
+      let owns : IsTrue (n.knows s.1 k) = either_known (m.knows s.0 k) (n.knows s.1 k) known owned in
+      let lending = lending_as (m.lend s.0) (n.uses s.1 k) (args_by left a) (args_by left b) (agrees_by left (n.uses s.1 k) a b same) in
+      let plan = also_laws.unused s.1 k (args_by right a) (args_by right b) pc.1 owns (agrees_by right (n.uses s.1 k) a b same) in
+      let put_on = beside_left pc.0 (m.plain s.0) b.t0.0 in
+      let put = put_as (beside_left pc.0 (m.plain s.0) a.t0.0) put_on (n.plan s.1 k (args_by right a) pc.1) (right_put s k a b pc owns same) in
+      (λ j. lending j >>= λ all. put j)
+      ∙ (λ j. lending_of (m.lend s.0) (n.uses s.1 k) (args_by left b) >>= λ all. ok_by put_on (plan j))
+
+  -- ---- what is not looked at in a plan
+
+  -- the new tag of a word, by whether the left part owns the service
+  abbrev retagged : Bool → S × R → Plan (T × U) → T × U → Result (T × U) Refused
+  retagged owns s p old = if owns then retag_of_left m n s p old else retag_of_right m n s p old
+
+  blind_retag : (owns : Bool) (s : S × R) (p : Plan (T × U)) (x : Option (Answer (T × U))) (old : T × U)
+      → retagged owns s (record p { answer = x }) old ≡ retagged owns s p old
+  blind_retag true s p x old =
+      ap (λ first. first >>= λ y. tag_beside n s.1 p.zero p.pc.1 old.1 >>= λ z. Ok (y, z))
+      (laws.blind_retag s.0 (plan_by left p) (option_map (answer_by left) x) old.0)
+  blind_retag false s p x old =
+      ap (λ second. tag_beside m s.0 p.zero p.pc.0 old.0 >>= λ y. second >>= λ z. Ok (y, z))
+      (also_laws.blind_retag s.1 (plan_by right p) (option_map (answer_by right) x) old.1)
+
+  blind_commit : (owns : Bool) (s : S × R) (p : Plan (T × U)) (x : Option (Answer (T × U))) → committed owns s (record p { answer = x }) ≡ committed owns s p
+  blind_commit true s p x = ap (λ (value : S). (value, s.1)) (laws.blind_commit s.0 (plan_by left p) (option_map (answer_by left) x))
+  blind_commit false s p x = ap (λ (value : R). (s.0, value)) (also_laws.blind_commit s.1 (plan_by right p) (option_map (answer_by right) x))
+
   -- the laws of the two as one
   pub both_laws : KeepsLaws (both m n) (BothHold holds also)
   both_laws = record {
@@ -292,4 +428,8 @@ module _ {T U S R : Type 0} (m : PolicyModel T S) (n : PolicyModel U R) (holds :
     few = λ s k known. few (m.knows s.0 k) s k refl known;
     service = λ s k a pc p known e. service (m.knows s.0 k) s k a pc p refl known e;
     value = λ s k a pc p known e. value (m.knows s.0 k) s k a pc p refl known e;
+    unused = λ s k a b pc known same. unused (m.knows s.0 k) s k a b pc refl known same;
+    blind_retag = λ s p x old. blind_retag (m.knows s.0 p.service) s p x old;
+    blind_commit = λ s p x. blind_commit (m.knows s.0 p.service) s p x;
+    words = λ s k a pc p can held are e. words (m.knows s.0 k) s k a pc p refl can held are e;
   }

@@ -3,7 +3,8 @@ use Rattle.std.proofs.Common.{◌≡◌, ℕ, ◌≤◌, Bool, true, false, Opti
 use Rattle.std.proofs.lemmas.Option.{same_Some}
 use Rattle.std.specs.Option.{ForSome}
 use Rattle.rv_decode.specs.declared.groups.Group.{Group}
-use Rattle.policy_trait.specs.PolicyLaws.{IsRange, KeepsLaws, KeepsValue, SameRules}
+use Rattle.policy_trait.specs.PolicyLaws.{AgreesOnUsed, AreWords, HasWord, IsRange, KeepsLaws, KeepsValue, SameRules}
+use Rattle.policy_trait.specs.UseLaws.{agrees_by, words_by}
 use Rattle.policy_trait.specs.Model.{CanPlan, IsGiven, PolicyModel, masked_inputs}
 use Rattle.policy_trait.specs.declared.rules.Ins.{Ins}
 use Rattle.policy_trait.specs.declared.rules.Mask.{Mask}
@@ -13,7 +14,7 @@ use Rattle.policy_trait.specs.declared.services.Plan.{Plan}
 use Rattle.policy_trait.specs.declared.services.PlanEnd.{PlanEnd}
 use Rattle.policy_trait.specs.declared.services.Words.{Words}
 use Rattle.policy_trait.specs.Maps.{answer_by, args_by, ins_by, ok_by, outs_by, plan_by}
-use Rattle.policy_product.specs.Maybe.{HoldsIn, MaybeHolds, commit_in, ignores_in, knows_in, maybe, plain_in, plan_in, read_by, rule_in, some_tag, tag_or, uses_in}
+use Rattle.policy_product.specs.Maybe.{HoldsIn, MaybeHolds, commit_in, ignores_in, knows_in, maybe, plain_in, plan_in, read_by, retag_in, rule_in, some_tag, tag_or, uses_in}
 use Rattle.policy_product.specs.declared.maybe.Maybe.{Maybe}
 
 -- an answer put on and read again is the answer
@@ -162,6 +163,44 @@ module _ {T S : Type 0} (m : PolicyModel T S) (holds : S → Type 0) (laws : Kee
       subst (λ (answer : Option (Answer (Option T))). ForSome answer (KeepsValue a)) (ap (λ (q : Plan (Option T)). q.answer) from.put_on)
       (value_by (args_by (read_by m s) a) a from.plan.answer refl (laws.value s k (args_by (read_by m s) a) (read_by m s pc) from.plan known from.given))
 
+  -- and the word that it was
+  word_by : (answer : Option (Answer T)) → ForSome answer HasWord → ForSome (option_map (answer_by some_tag) answer) HasWord
+  word_by None all = λ x e. absurd (let h : None ≡ Some x = e in cc)
+  word_by (Some y) all = λ x e. subst HasWord (same_Some (record { value = y.value; tag = Some y.tag; rest = y.rest }) x e) (all y refl)
+
+  words : (part : Option S) (k : ℕ) (a : Args (Option T)) (pc : Option T) (p : Plan (Option T)) → CanPlan (maybe m) (record { part = part }) k a → HoldsIn holds part
+      → AreWords a → plan_in m part k a pc ≡ Ok p → ForSome p.answer HasWord
+  words None k a pc p can held are e = off_knows can.known
+  words (Some s) k a pc p can held are e =
+      let from : FromPart (planned s k a pc) p = from_part (planned s k a pc) p e in
+      subst (λ (answer : Option (Answer (Option T))). ForSome answer HasWord) (ap (λ (q : Plan (Option T)). q.answer) from.put_on)
+      (word_by from.plan.answer
+      (laws.words s k (args_by (read_by m s) a) (read_by m s pc) from.plan (record { known = can.known; room = can.room }) held
+      (words_by (read_by m s) a are) from.given))
+
+  unused : (part : Option S) (k : ℕ) (a b : Args (Option T)) (pc : Option T) → IsTrue (knows_in m part k) → AgreesOnUsed (uses_in m part k) a b
+      → plan_in m part k a pc ≡ plan_in m part k b pc
+  unused None k a b pc known same = refl
+  unused (Some s) k a b pc known same =
+      ap (ok_by (plan_by some_tag))
+      (laws.unused s k (args_by (read_by m s) a) (args_by (read_by m s) b) (read_by m s pc) known (agrees_by (read_by m s) (m.uses s k) a b same))
+
+  blind_retag : (part : Option S) (p : Plan (Option T)) (x : Option (Answer (Option T))) (old : Option T)
+      → retag_in m part (record p { answer = x }) old ≡ retag_in m part p old
+  blind_retag None p x old = refl
+  blind_retag (Some s) p x old = ap (ok_by some_tag) (laws.blind_retag s (plan_by (read_by m s) p) (option_map (answer_by (read_by m s)) x) (read_by m s old))
+
+  blind_commit : (part : Option S) (p : Plan (Option T)) (x : Option (Answer (Option T))) → commit_in m part (record p { answer = x }) ≡ commit_in m part p
+  blind_commit None p x = refl
+  blind_commit (Some s) p x = ap on (laws.blind_commit s (plan_by (read_by m s) p) (option_map (answer_by (read_by m s)) x))
+    where
+      on : S → Option S
+      on value = Some value
+
+  -- a policy that is off or on
+  abbrev off_or_on : Option S → Maybe S
+  off_or_on part = record { part = part }
+
   -- the laws of a policy that may be off
   pub maybe_laws : KeepsLaws (maybe m) (MaybeHolds holds)
   maybe_laws = record {
@@ -172,4 +211,8 @@ module _ {T S : Type 0} (m : PolicyModel T S) (holds : S → Type 0) (laws : Kee
     few = λ s k known. few s.part k known;
     service = λ s k a pc p known e. service s.part k a pc p known e;
     value = λ s k a pc p known e. value s.part k a pc p known e;
+    unused = λ s k a b pc known same. unused s.part k a b pc known same;
+    blind_retag = λ s p x old. blind_retag s.part p x old;
+    blind_commit = λ s p x. ap off_or_on (blind_commit s.part p x);
+    words = λ s k a pc p can held are e. words s.part k a pc p can held are e;
   }

@@ -25,4 +25,8 @@ nothing_laws = record {
   few = λ s k known. let e : 0 ≤ 3 = omega arith in e;
   service = λ s k a pc p known given. absurd (cc given);
   value = λ s k a pc p known given. absurd (cc given);
+  unused = λ s k a b pc known same. refl;
+  blind_retag = λ s p x old. refl;
+  blind_commit = λ s p x. refl;
+  words = λ s k a pc p can holds are given. absurd (cc given);
 }

@@ -1,10 +1,11 @@
 //! Two policies as one.
 
 ghost use Rattle.std.specs.Prelude.{◌≡◌, ◌+◌, ◌≤◌, ◌++◌, Ok, Err, IsTrue, OnErr, OnOk};
-ghost use Rattle.policy_product.specs.Both.{IsApart, answer_before, answer_beside, beside_left, beside_right, both, both_ignore, left, lending_of, lent_if, rest_tag, right, tag_beside};
+ghost use Rattle.policy_product.specs.Both.{IsApart, answer_before, answer_beside, beside_left, beside_right, both, both_ignore, left, right, tag_beside};
 
+use crate::others::{lend_all, rest_of};
 use policy_trait::{
-    Answer, Args, Birth, Ins, Mask, Outs, Part, Plan, PlanEnd, Policy, Refused, Rest, TagMap, Why,
+    Answer, Args, Birth, Ins, Mask, Outs, Part, Plan, PlanEnd, Policy, Refused, TagMap,
 };
 use pump_words::{Line, write_text};
 use rv_decode::Group;
@@ -85,41 +86,6 @@ impl<P: Policy, Q: Policy> Both<P, Q> {
         ensures { result.now ≡ self.now.1 }
     {
         &self.right
-    }
-}
-
-/// Whether the tag is lent by the policy, where it is used.
-fn lend_if<P: Policy>(policy: &P, used: bool, tag: P::Tag) -> Result<(), PlanEnd>
-    ensures { result ≡ lent_if (P.model.lend policy.now) used tag }
-{
-    if !used {
-        return Ok(());
-    }
-    match policy.lend(tag) {
-        Ok(()) => Ok(()),
-        Err(part) => Err(PlanEnd::Refused(Refused {
-            part,
-            why: Why::Lend,
-        })),
-    }
-}
-
-/// Whether the arguments that are used are lent by the policy, one by one.
-fn lend_all<P: Policy>(policy: &P, uses: u8, arguments: &Args<P::Tag>) -> Result<(), PlanEnd>
-    ensures { result ≡ lending_of (P.model.lend policy.now) uses arguments.now }
-{
-    lend_if(policy, 1 <= uses, arguments.t0)?;
-    lend_if(policy, 2 <= uses, arguments.t1)?;
-    lend_if(policy, 3 <= uses, arguments.t2)
-}
-
-/// The tag of the other part's component of an answer.
-fn rest_of<U: Copy>(rest: Rest, plain: U, a0: U) -> U
-    ensures { result ≡ rest_tag rest plain a0 }
-{
-    match rest {
-        Rest::Plain => plain,
-        Rest::AsA0 => a0,
     }
 }
 

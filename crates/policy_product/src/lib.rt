@@ -4,7 +4,9 @@
 mod both;
 mod maybe;
 mod nothing;
+mod others;
 
 pub use both::Both;
 pub use maybe::Maybe;
 pub use nothing::Nothing;
+pub use others::{lend_all, rest_of};

@@ -1,14 +1,17 @@
 -- What users of a policy take from its laws.
-use Rattle.std.proofs.Common.{◌≡◌, ℕ, Bool, true, false, IsTrue, if◌then◌else◌, Ok, ap, refl, sym, ◌∙◌, subst}
+use Rattle.std.proofs.Common.{◌≡◌, ℕ, zero, suc, ◌+◌, ◌≤◌, Bool, true, false, IsTrue, if◌then◌else◌, Ok, ap, refl, sym, ◌∙◌, subst, arith}
 use Rattle.std.proofs.lemmas.Bool.{false≢true}
+use Rattle.std.specs.Option.{ForSome}
 use Rattle.rv_decode.specs.declared.groups.Group.{Group}
+use Rattle.policy_trait.specs.Maps.{args_by}
 use Rattle.policy_trait.specs.Model.{CanPlan, IsGiven, PolicyModel, masked_inputs}
-use Rattle.policy_trait.specs.PolicyLaws.{KeepsLaws}
+use Rattle.policy_trait.specs.PolicyLaws.{AgreesOnUsed, AreWords, KeepsLaws}
 use Rattle.policy_trait.specs.Uses.{ChangesNothing, Input, Pc, Instruction, First, Second, Word, is_ignored, with_input}
 use Rattle.policy_trait.specs.declared.rules.Ins.{Ins}
 use Rattle.policy_trait.specs.declared.rules.Mask.{Mask}
 use Rattle.policy_trait.specs.declared.services.Args.{Args}
 use Rattle.policy_trait.specs.declared.services.Plan.{Plan}
+use Rattle.policy_trait.specs.declared.services.Rest.TheVariants.{AsA0}
 
 -- a plan that the policy gives is a given one
 pub given_plan : {T S : Type 0} (m : PolicyModel T S) (holds : S → Type 0) (laws : KeepsLaws m holds) (s : S) (k : ℕ) (a : Args T) (pc : T) (p : Plan T)
@@ -45,3 +48,49 @@ pub ignored_input : {T S : Type 0} (m : PolicyModel T S) (holds : S → Type 0) 
     → IsTrue (is_ignored (m.ignores s g) i) → ChangesNothing m s g i
 ignored_input m holds laws s g i is t x =
     rule_by_key m holds laws s g (with_input i t x) x (masked_input (m.ignores s g) (m.plain s) i t x is)
+
+-- ---- arguments with their tags changed
+
+-- agree where they agreed
+pub agrees_by : {T U : Type 0} (f : T → U) (uses : ℕ) (a b : Args T) → AgreesOnUsed uses a b → AgreesOnUsed uses (args_by f a) (args_by f b)
+agrees_by f uses a b same = record {
+  a0 = same.a0;
+  t0 = λ used. ap f (same.t0 used);
+  a1 = same.a1;
+  t1 = λ used. ap f (same.t1 used);
+  a2 = same.a2;
+  t2 = λ used. ap f (same.t2 used);
+  ram = same.ram;
+}
+
+-- are words where they were
+pub words_by : {T U : Type 0} (f : T → U) (a : Args T) → AreWords a → AreWords (args_by f a)
+words_by f a are = record { a0 = are.a0; a1 = are.a1; a2 = are.a2; ram = are.ram }
+
+-- ---- a service that leaves the others a0's tags uses a0
+
+-- where no argument is used, a0 may have any value
+any_a0 : {T : Type 0} (value : ℕ) (a : Args T) → AgreesOnUsed 0 a (record a { a0 = value })
+any_a0 value a = record {
+  a0 = λ used. absurd (omega (arith, used));
+  t0 = λ used. refl;
+  a1 = λ used. refl;
+  t1 = λ used. refl;
+  a2 = λ used. refl;
+  t2 = λ used. refl;
+  ram = refl;
+}
+
+-- since its answer would be a0's value, whatever that is
+pub uses_a0 : {T S : Type 0} (m : PolicyModel T S) (holds : S → Type 0) (laws : KeepsLaws m holds) (s : S) (k : ℕ) (a : Args T) (pc : T) (p : Plan T)
+    → IsTrue (m.knows s k) → m.plan s k a pc ≡ Ok p → ForSome p.answer (λ x. x.rest ≡ AsA0 → 1 ≤ m.uses s k)
+uses_a0 {T} m holds laws s k a pc p known given x x_is as_a0 = by_uses (m.uses s k) refl
+  where
+    by_uses : (uses : ℕ) → m.uses s k ≡ uses → 1 ≤ m.uses s k
+    by_uses (suc uses) is = omega (arith, is)
+    by_uses zero is =
+        let other : Args T = record a { a0 = a.a0 + 1 } in
+        let same = laws.unused s k a other pc known (subst (λ n. AgreesOnUsed n a other) (sym is) (any_a0 (a.a0 + 1) a)) in
+        let is_a0 = laws.value s k a pc p known given x x_is as_a0 in
+        let is_other = laws.value s k other pc p known (sym same ∙ given) x x_is as_a0 in
+        absurd (omega (arith, is_a0, is_other))

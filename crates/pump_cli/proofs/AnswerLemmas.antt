@@ -1,5 +1,5 @@
 -- What a result on the way says of the answer.
-use Rattle.std.proofs.Common.{◌≡◌, ◌≢◌, ℕ, List, Option, Some, None, Result, Ok, Err, IfOk, IfSome, refl, sym, subst, arith}
+use Rattle.std.proofs.Common.{◌≡◌, ◌≢◌, ℕ, Option, Some, None, Result, Ok, Err, IfOk, IfSome, refl, sym, subst, ◌∙◌, arith}
 use Rattle.host_io.specs.Causes.{Rose}
 use Rattle.host_io.specs.Outside.{Faults, NoFault, Outside}
 use Rattle.host_io.specs.Pieces.{PutsFront, Taken}
@@ -7,9 +7,10 @@ use Rattle.host_io.specs.TwoSinks.{OneRose, PutFaults, on_err, on_out}
 use Rattle.host_io.proofs.FrontLemmas.{if_some_each}
 use Rattle.host_io.proofs.PieceLemmas.{all_puts_are_front, puts_none}
 use Rattle.pump_line.specs.Task.{Task}
+use Rattle.pump_cli.specs.Calls.{FaultBy, FileCall, Load, LoadFault, Save, SaveFault}
 use Rattle.pump_cli.specs.Codes.{IsFinal, IsOfRefusal, IsOfRun, IsSilent, status_of_refusal}
 use Rattle.pump_cli.specs.Endings.{Outcome}
-use Rattle.pump_cli.specs.Facts.{AllStayed, Does, FaultBy, Finishes, HeldBy, LoadFault, PutsFaultBy, SaveFault, Stayed, TaskFacts, loaded_by, saved_by, status_in}
+use Rattle.pump_cli.specs.Facts.{AllStayed, Does, Finishes, PutsFaultBy, Stayed, TaskFacts, status_in}
 use Rattle.pump_cli.specs.Theorem.{Answers}
 use Rattle.pump_cli.specs.declared.refusal.Refusal.{Refusal}
 use Rattle.pump_cli.specs.declared.refusal.Refusal.TheVariants as refusals
@@ -17,6 +18,7 @@ use Rattle.pump_cli.specs.declared.cut.Cut.{Cut}
 use Rattle.pump_cli.specs.declared.cut.Cut.TheVariants as cut
 use Rattle.pump_cli.specs.declared.status.Status.{Status}
 use Rattle.pump_cli.specs.declared.status.Status.TheVariants as statuses
+use Rattle.pump_cli.proofs.CallLemmas.{Called}
 
 module _ (outcome : Outcome) (before after : Taken) where
   pub does_exact : (result : Result Status Cut) → Does outcome before after result → IsFinal (status_in result)
@@ -37,35 +39,37 @@ not_both : {P : Type 0} (before now : ℕ) → Stayed before now → Rose before
 not_both before now stayed rose = absurd (omega (arith, stayed.below, stayed.same, rose.raised))
 
 -- where every count stayed, the status is a final one or want of memory
-pub none_rose : (task : Option Task) (status : Status) (before now : Faults) → FaultBy task status before now → AllStayed before now
+pub none_rose : (broken : Option FileCall) (status : Status) (before now : Faults) → FaultBy broken status before now → AllStayed before now
     → status ≢ statuses.Memory → IsFinal status
-none_rose task statuses.Done before now fault stayed memory = tt
-none_rose task statuses.ExitedNonzero before now fault stayed memory = tt
-none_rose task statuses.BadWords before now fault stayed memory = tt
-none_rose task statuses.BadImage before now fault stayed memory = tt
-none_rose task statuses.BadSource before now fault stayed memory = tt
-none_rose task statuses.Violated before now fault stayed memory = tt
-none_rose task statuses.Faulted before now fault stayed memory = tt
-none_rose task statuses.TurnsSpent before now fault stayed memory = tt
-none_rose task statuses.TagsOut before now fault stayed memory = tt
-none_rose task statuses.ReadFailed before now fault stayed memory = no_load (loaded_by task) fault
+none_rose broken statuses.Done before now fault stayed memory = tt
+none_rose broken statuses.ExitedNonzero before now fault stayed memory = tt
+none_rose broken statuses.BadWords before now fault stayed memory = tt
+none_rose broken statuses.BadImage before now fault stayed memory = tt
+none_rose broken statuses.BadSource before now fault stayed memory = tt
+none_rose broken statuses.Violated before now fault stayed memory = tt
+none_rose broken statuses.Faulted before now fault stayed memory = tt
+none_rose broken statuses.TurnsSpent before now fault stayed memory = tt
+none_rose broken statuses.TagsOut before now fault stayed memory = tt
+none_rose broken statuses.ReadFailed before now fault stayed memory = no_load broken fault
   where
-    no_load : (file : Option (List ℕ)) → LoadFault file before now → IsFinal statuses.ReadFailed
+    no_load : (call : Option FileCall) → LoadFault call before now → IsFinal statuses.ReadFailed
     no_load None failed = absurd failed
-    no_load (Some name) failed = not_both (before.read name) (now.read name) (stayed.read name) failed.read.own
-none_rose task statuses.WriteFailed before now fault stayed memory = no_save (saved_by task) fault
+    no_load (Some (Save name bytes)) failed = absurd failed
+    no_load (Some (Load name)) failed = not_both (before.read name) (now.read name) (stayed.read name) failed.read.own
+none_rose broken statuses.WriteFailed before now fault stayed memory = no_save broken fault
   where
-    no_save : (file : Option (List ℕ)) → SaveFault file before now → IsFinal statuses.WriteFailed
+    no_save : (call : Option FileCall) → SaveFault call before now → IsFinal statuses.WriteFailed
     no_save None failed = absurd failed
-    no_save (Some name) failed = not_both (before.write name) (now.write name) (stayed.write name) failed.write.own
-none_rose task statuses.InputFailed before now fault stayed memory = not_both before.input now.input stayed.input fault.input
-none_rose task statuses.PutFailed before now fault stayed memory = no_put fault.puts
+    no_save (Some (Load name)) failed = absurd failed
+    no_save (Some (Save name bytes)) failed = not_both (before.write name) (now.write name) (stayed.write name) failed.write.own
+none_rose broken statuses.InputFailed before now fault stayed memory = not_both before.input now.input stayed.input fault.input
+none_rose broken statuses.PutFailed before now fault stayed memory = no_put fault.puts
   where
     no_put : OneRose before.puts now.puts → IsFinal statuses.PutFailed
     no_put (on_out rose same) = not_both before.puts.out now.puts.out stayed.out rose
     no_put (on_err same rose) = not_both before.puts.err now.puts.err stayed.err rose
-none_rose task statuses.Memory before now fault stayed memory = absurd (memory refl)
-none_rose task statuses.TooLong before now fault stayed memory = tt
+none_rose broken statuses.Memory before now fault stayed memory = absurd (memory refl)
+none_rose broken statuses.TooLong before now fault stayed memory = tt
 
 -- nothing was put, and the call was cut short
 pub does_nothing : (outcome : Outcome) (taken : Taken) (cut : Cut) → Does outcome taken taken (Err cut)
@@ -74,22 +78,23 @@ does_nothing outcome taken cut = record { puts = puts_none taken outcome.pieces;
 -- an answer, from what was put on the way
 pub answers : {I : Type 0} (due : Option Outcome) (task : Option Task) (result : Result Status Cut) (before after : Outside I)
     → IfSome due (λ outcome. Does outcome before.taken after.taken result)
-    → FaultBy task (status_in result) before.faults after.faults
+    → Called task (status_in result) before after
     → (status_in result ≡ statuses.BadWords → task ≡ None)
     → (IsSilent task (status_in result) → after.taken ≡ before.taken)
     → (IsOfRefusal task (status_in result) → after.taken.out ≡ before.taken.out)
-    → HeldBy task (status_in result) before after
     → TaskFacts task (status_in result) before after
     → Answers due task (status_in result) before after
-answers due task result before after does faults words silent no_out held asked = record {
+answers due task result before after does called words silent no_out asked = record {
   exact = λ final. if_some_each due _ _ (λ outcome done. does_exact outcome before.taken after.taken result done final) does;
   front = if_some_each due _ _ (λ outcome done. does_front outcome before.taken after.taken result done) does;
-  complete = λ stayed memory. none_rose task (status_in result) before.faults after.faults faults stayed memory;
-  faults = faults;
+  complete = λ stayed memory. none_rose called.calls.broken (status_in result) before.faults after.faults called.faults stayed memory;
+  calls = called.calls;
+  faults = called.faults;
   bad_words = words;
   silent = silent;
   no_out = no_out;
-  held = held;
+  held = called.held;
+  unsaved = called.unsaved;
   asked = asked;
 }
 
@@ -116,12 +121,12 @@ run_ends P before now (Err cut.Memory) fault of_run ran failed memory = memory
 
 -- ---- the counts of a call that only put
 
-module _ (task : Option Task) (before now : Faults) where
+module _ (broken : Option FileCall) (before now : Faults) where
   none_rose_is : now.read ≡ before.read → now.write ≡ before.write → now.input ≡ before.input → now.puts ≡ before.puts → NoFault before now
   none_rose_is read write input puts = λ i. record { read = read i; write = write i; input = input i; puts = puts i }
 
   pub puts_fault : (result : Result Status Cut) → PutsFaultBy before.puts now.puts result → now.read ≡ before.read → now.write ≡ before.write → now.input ≡ before.input
-      → IfOk result (λ status. NoFault before now → FaultBy task status before now) → FaultBy task (status_in result) before now
+      → IfOk result (λ status. NoFault before now → FaultBy broken status before now) → FaultBy broken (status_in result) before now
   puts_fault (Ok status) fault read write input quiet = quiet (none_rose_is read write input fault)
   puts_fault (Err cut.ReadFailed) fault read write input quiet = absurd fault
   puts_fault (Err cut.WriteFailed) fault read write input quiet = absurd fault
@@ -129,19 +134,19 @@ module _ (task : Option Task) (before now : Faults) where
   puts_fault (Err cut.PutFailed) fault read write input quiet = record { read = read; write = write; input = input; puts = fault }
   puts_fault (Err cut.Memory) fault read write input quiet = none_rose_is read write input fault
 
-  refusal_is_quiet : (refusal : Refusal) → NoFault before now → FaultBy task (status_of_refusal refusal) before now
+  refusal_is_quiet : (refusal : Refusal) → NoFault before now → FaultBy broken (status_of_refusal refusal) before now
   refusal_is_quiet refusals.BadWords none = none
   refusal_is_quiet (refusals.BadImage error) none = none
   refusal_is_quiet (refusals.BadSource error) none = none
   refusal_is_quiet refusals.TooLong none = none
 
   pub refusal_quiet : (refusal : Refusal) (result : Result Status Cut) → IfOk result (λ status. status ≡ status_of_refusal refusal)
-      → IfOk result (λ status. NoFault before now → FaultBy task status before now)
+      → IfOk result (λ status. NoFault before now → FaultBy broken status before now)
   refusal_quiet refusal (Ok status) is =
-      subst (λ (ended : Status). NoFault before now → FaultBy task ended before now) (sym is) (refusal_is_quiet refusal)
+      subst (λ (ended : Status). NoFault before now → FaultBy broken ended before now) (sym is) (refusal_is_quiet refusal)
   refusal_quiet refusal (Err cut) is = tt
 
-  run_is_quiet : (status : Status) → IsOfRun status → NoFault before now → FaultBy task status before now
+  run_is_quiet : (status : Status) → IsOfRun status → NoFault before now → FaultBy broken status before now
   run_is_quiet statuses.Done of_run none = none
   run_is_quiet statuses.ExitedNonzero of_run none = none
   run_is_quiet statuses.BadWords of_run none = none
@@ -158,6 +163,12 @@ module _ (task : Option Task) (before now : Faults) where
   run_is_quiet statuses.Memory of_run none = none
   run_is_quiet statuses.TooLong of_run none = none
 
-  pub run_quiet : (result : Result Status Cut) → IfOk result IsOfRun → IfOk result (λ status. NoFault before now → FaultBy task status before now)
+  pub run_quiet : (result : Result Status Cut) → IfOk result IsOfRun → IfOk result (λ status. NoFault before now → FaultBy broken status before now)
   run_quiet (Ok status) of_run = run_is_quiet status of_run
   run_quiet (Err cut) of_run = tt
+
+-- the status of a call that nothing cut short is the one that is due
+pub due_status : {I : Type 0} (due : Option Outcome) (task : Option Task) (status other : Status) (before after : Outside I) → status ≡ other
+    → Answers due task status before after → IsFinal other → IfSome due (λ outcome. other ≡ outcome.status)
+due_status due task status other before after is answered final =
+    if_some_each due _ _ (λ outcome done. sym is ∙ done.ends) (answered.exact (subst IsFinal (sym is) final))

@@ -1,7 +1,10 @@
 pub mod AnswerLemmas
 pub mod BareLemmas
+pub mod CallLemmas
+pub mod CauseLemmas
 pub mod EndLemmas
 pub mod GatheringLemmas
+pub mod ListLemmas
 pub mod LoadLemmas
 pub mod NoneRunLemmas
 mod OneTagLemmas

@@ -14,9 +14,8 @@ use Rattle.workload_laws.proofs.WorkloadLemmas.{workload_assembled}
 use Rattle.pump_line.specs.Request.{Request, assemble_asked, disassemble_asked, load_asked, request_of, run_asked, shell_asked}
 use Rattle.pump_line.specs.Task.{LoadTask, RunTask, ShellTask, Task, count_of, load, load_task_in, load_with, number_of, run, shell, task_in, task_of}
 use Rattle.pump_line.proofs.ValueLemmas.{within as number_in}
-use Rattle.pump_cli.specs.Endings.{Outcome}
 use Rattle.pump_cli.specs.Program.{outcome_of_image, outcome_of_load, outcome_of_words, program}
-use Rattle.pump_cli.specs.Reading.{file_as, file_limit, source_or_refusal, source_read, within_limit}
+use Rattle.pump_cli.specs.Reading.{file_as, source_or_refusal, source_read}
 use Rattle.pump_cli.specs.declared.refusal.Refusal.{Refusal}
 use Rattle.pump_cli.proofs.GatheringLemmas.{within}
 

@@ -4,6 +4,7 @@ use Rattle.std.proofs.Common.{◌≡◌, ℕ, ◌/◌, ◌≤◌, Bool, true, fa
 use Rattle.std.specs.List.{range_with_len}
 use Rattle.std.proofs.lemmas.List.Elements.{All-append, All-map}
 use Rattle.image_format.specs.Picture.{Picture}
+use Rattle.compartment_policy.specs.Compartments.{CompartmentState}
 use Rattle.heap_policy.specs.Heap.{HeapState}
 use Rattle.policy_trait.specs.Model.{PolicyModel}
 use Rattle.policy_choice.specs.All.{AllState, AllTag, all, all_eq, choice_state, part_if}
@@ -23,19 +24,20 @@ use Rattle.pump_cli.proofs.OneTagRunLemmas.{beside_same}
 
 -- ---- the choice of none
 
-one_tag_if : (seal comp flow on_heap : Bool) (count : ℕ) (edges : List (ℕ × ℕ)) (region : HeapState) → (not seal && not comp && not flow && not on_heap) ≡ true
-    → HasOneTag all_eq all (part_if seal 0, (part_if comp count, (part_if flow edges, part_if on_heap region)))
-one_tag_if false false false false count edges region none = record {
+one_tag_if : (seal comp flow on_heap : Bool) (counts : CompartmentState) (edges : List (ℕ × ℕ)) (region : HeapState)
+    → (not seal && not comp && not flow && not on_heap) ≡ true
+    → HasOneTag all_eq all (part_if seal 0, (part_if comp counts, (part_if flow edges, part_if on_heap region)))
+one_tag_if false false false false counts edges region none = record {
   same = refl;
   rule = λ g x. refl;
   offers_none = λ k. refl;
   start_pc = λ b. refl;
   start_word = λ b. refl;
 }
-one_tag_if true comp flow on_heap count edges region none = absurd (cc none)
-one_tag_if false true flow on_heap count edges region none = absurd (cc none)
-one_tag_if false false true on_heap count edges region none = absurd (cc none)
-one_tag_if false false false true count edges region none = absurd (cc none)
+one_tag_if true comp flow on_heap counts edges region none = absurd (cc none)
+one_tag_if false true flow on_heap counts edges region none = absurd (cc none)
+one_tag_if false false true on_heap counts edges region none = absurd (cc none)
+one_tag_if false false false true counts edges region none = absurd (cc none)
 
 -- its policy has one tag
 none_has_one : (choice : Choice) (g : Picture) → is_none choice ≡ true → HasOneTag all_eq all (choice_state choice g)
@@ -78,7 +80,7 @@ none_shows choice g s a turns from feed none policy seen some_tags runs =
       policy_is = policy;
       halt = sym runs;
       one_word = record { seen = seen; some_tags = some_tags };
-      uncached = record { capacity = refl; seen = refl; kept = refl };
+      uncached = record { ways = refl; seen = refl; sets = refl };
     })
 
 -- an engine that keeps rules, from the image's start, shows the same as one that keeps none

@@ -48,7 +48,7 @@ module _ {T : Type 0} (eq : T → T → Bool) (plain : T) (same : eq plain plain
       ∙ with_plain tags (λ k d below. all (suc k) d (omega (arith, below)))
 
   seeing_plain : (a : Account T) (tags : List T) → All (λ tag. tag ≡ plain) tags → HasOneWord plain a → HasOneWord plain (seeing eq tags a)
-  seeing_plain a tags all one = either (a.capacity == 0)
+  seeing_plain a tags all one = either (a.ways == 0)
     where
       either : (test : Bool) → HasOneWord plain (if test then a else record a { seen = with_tags eq a.seen tags })
       either true = one

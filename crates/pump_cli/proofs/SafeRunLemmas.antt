@@ -1,7 +1,10 @@
 -- The runs of the program's definition are safe.
-use Rattle.std.proofs.Common.{◌≡◌, ℕ, ◌<◌, ◌^◌, Bool, true, false, List, [], length, map, Option, Some, None, Result, Ok, Err, refl, sym, ap, subst, if◌then◌else◌, arith}
+use Rattle.std.proofs.Common.{◌≡◌, ℕ, ◌<◌, ◌^◌, Bool, true, false, List, [], length, map, Option, Some, None, Result, Ok, Err, refl, sym, ap, subst, inl, inr, if◌then◌else◌, arith}
+use Rattle.std.proofs.lemmas.Bool.{cases_lt}
 use Rattle.std.proofs.lemmas.Bool.Decides.{nat_tests}
 use Rattle.std.specs.Prelude.{nat_le, slice_index}
+use Rattle.std.proofs.lemmas.List.{get_or_past}
+use Rattle.host_io.specs.Bytes.{AreBytes, TellBytes}
 use Rattle.image_format.proofs.FileLemmas.{file_is_of}
 use Rattle.image_format.specs.Conditions.{IsImage}
 use Rattle.image_format.specs.Picture.{Picture}
@@ -19,11 +22,21 @@ use Rattle.run_props.specs.Safe.{IsSafe}
 use Rattle.pump_line.specs.Task.{RunTask, ShellTask, Task, assemble, disassemble, load, run, shell, task_of}
 use Rattle.pump_cli.specs.Program.{course_of_run, run_of_load, start_of_run}
 use Rattle.pump_cli.specs.Reading.{content_of, content_read, file_as, file_limit, image_or_refusal, image_read, input_read, source_or_refusal, source_read}
-use Rattle.pump_cli.specs.Runs.{AfterContent, AfterFed, AfterImage, AfterInput, AfterLines, AfterPicture, AfterWords, EachRun, IsSafeRun, TellBytes, items_after_lines}
+use Rattle.pump_cli.specs.Runs.{AfterContent, AfterFed, AfterImage, AfterInput, AfterLines, AfterPicture, AfterWords, EachRun, HoldsOfLines, HoldsOfRun, IsSafeRun, items_after_lines}
 use Rattle.pump_cli.specs.declared.refusal.Refusal.{Refusal}
 
-abbrev AreBytes : List ℕ → Type 0
-AreBytes bytes = (i : ℕ) → slice_index bytes i < 256
+abbrev SafeRan : RunTask → Picture → List ℕ → Type 0
+SafeRan = HoldsOfRun IsSafeRun
+
+abbrev SafeObeyed : ShellTask → Picture → List ℕ → Type 0
+SafeObeyed = HoldsOfLines IsSafeRun
+
+-- past the end of a list of bytes its items are told as 0
+each_small : (bytes : List ℕ) → AreBytes bytes → (i : ℕ) → slice_index bytes i < 256
+each_small bytes are i = elim (cases_lt i (length bytes)) [
+  | inl within ↦ are i 0 within
+  | inr past ↦ subst (λ (item : ℕ). item < 256) (sym (get_or_past bytes i 0 (omega (arith, past)))) (omega arith)
+]
 
 -- ---- an image that was read
 
@@ -39,9 +52,9 @@ read_within true bytes refusal g e = ok_image (image_of bytes) g e
 read_within false bytes refusal g e = absurd cc
 
 -- bytes that are taken as an image are the file of one
-file_is_image : (bytes : List ℕ) (g : Picture) → AreBytes bytes → image_read bytes ≡ Ok g → IsImage g
+pub file_is_image : (bytes : List ℕ) (g : Picture) → AreBytes bytes → image_read bytes ≡ Ok g → IsImage g
 unfolding image_read
-file_is_image bytes g are_bytes e = (file_is_of bytes g are_bytes (read_within (nat_le (length bytes) file_limit) bytes _ g e)).is_image
+file_is_image bytes g are_bytes e = (file_is_of bytes g (each_small bytes are_bytes) (read_within (nat_le (length bytes) file_limit) bytes _ g e)).is_image
 
 -- ---- an image that was assembled
 
@@ -71,20 +84,20 @@ safe_course task g fed is =
     (sym (rounds_are_run all_eq all task.turns 0 (start_of_run task g) fed))
     (run_is_safe task.choice g fed (map turn (course_of_run task g fed).order) is)
 
-safe_fed : (task : RunTask) (g : Picture) (fed : Result (List ℕ) Refusal) → IsImage g → AfterFed IsSafeRun task g fed
+safe_fed : (task : RunTask) (g : Picture) (fed : Result (List ℕ) Refusal) → IsImage g → AfterFed SafeRan SafeObeyed task g fed
 safe_fed task g (Ok fed) is = safe_course task g fed is
 safe_fed task g (Err refusal) is = tt
 
-safe_input : (task : RunTask) (g : Picture) (input : Option (List ℕ)) → IsImage g → AfterInput IsSafeRun task g input
+safe_input : (task : RunTask) (g : Picture) (input : Option (List ℕ)) → IsImage g → AfterInput SafeRan SafeObeyed task g input
 safe_input task g None is = tt
 safe_input task g (Some input) is = safe_fed task g (input_read input) is
 
 -- a session has made a run along some list of turns and fed bytes
-safe_lines : (task : ShellTask) (g : Picture) (input : Option (List ℕ)) → IsImage g → AfterLines IsSafeRun task g input
+safe_lines : (task : ShellTask) (g : Picture) (input : Option (List ℕ)) → IsImage g → AfterLines SafeRan SafeObeyed task g input
 safe_lines task g None is = tt
 safe_lines task g (Some input) is = λ front rest due. run_is_safe task.choice g [] (items_after_lines task g front) is
 
-safe_picture : (task : Task) (g : Picture) (input : Option (List ℕ)) → IsImage g → AfterPicture IsSafeRun task g input
+safe_picture : (task : Task) (g : Picture) (input : Option (List ℕ)) → IsImage g → AfterPicture SafeRan SafeObeyed task g input
 safe_picture (run task) g input is = safe_input task g input is
 safe_picture (shell task) g input is = safe_lines task g input is
 safe_picture (assemble task) g input is = tt
@@ -92,23 +105,23 @@ safe_picture (disassemble task) g input is = tt
 safe_picture (load task) g input is = safe_course (run_of_load task) g [] is
 
 safe_image : (task : Task) (read : Result Picture Refusal) (input : Option (List ℕ)) → ((g : Picture) → read ≡ Ok g → IsImage g)
-    → AfterImage IsSafeRun task read input
+    → AfterImage SafeRan SafeObeyed task read input
 safe_image task (Ok g) input is = safe_picture task g input (is g refl)
 safe_image task (Err refusal) input is = tt
 
 -- a task that makes no run
-none_made : (task : Task) → ((g : Picture) (input : Option (List ℕ)) → AfterPicture IsSafeRun task g input) → (read : Result Picture Refusal) (input : Option (List ℕ))
-    → AfterImage IsSafeRun task read input
+none_made : (task : Task) → ((g : Picture) (input : Option (List ℕ)) → AfterPicture SafeRan SafeObeyed task g input) → (read : Result Picture Refusal) (input : Option (List ℕ))
+    → AfterImage SafeRan SafeObeyed task read input
 none_made task none (Ok g) input = none g input
 none_made task none (Err refusal) input = tt
 
 -- a file's bytes
 safe_file : (task : Task) (file input : Option (List ℕ)) → ((bytes : List ℕ) → file ≡ Some bytes → AreBytes bytes)
-    → ((bytes : List ℕ) → AreBytes bytes → AfterImage IsSafeRun task (content_read task bytes) input) → AfterContent IsSafeRun task file input
+    → ((bytes : List ℕ) → AreBytes bytes → AfterImage SafeRan SafeObeyed task (content_read task bytes) input) → AfterContent SafeRan SafeObeyed task file input
 safe_file task None input tells safe = tt
 safe_file task (Some bytes) input tells safe = safe bytes (tells bytes refl)
 
-safe_content : (task : Task) (held : List ℕ → Option (List ℕ)) (input : Option (List ℕ)) → TellBytes held → AfterContent IsSafeRun task (content_of task held) input
+safe_content : (task : Task) (held : List ℕ → Option (List ℕ)) (input : Option (List ℕ)) → TellBytes held → AfterContent SafeRan SafeObeyed task (content_of task held) input
 safe_content (run task) held input tells =
     safe_file (run task) (held task.image) input (tells task.image) (λ bytes are_bytes. safe_image (run task) (image_read bytes) input (λ g read. file_is_image bytes g are_bytes read))
 safe_content (shell task) held input tells =
@@ -120,7 +133,7 @@ safe_content (disassemble task) held input tells =
 safe_content (load task) held input tells =
     safe_image (load task) (source_read (source_of_workload task.count)) input (λ g made. source_is_image (source_of_workload task.count) g made)
 
-safe_words : (task : Option Task) (held : List ℕ → Option (List ℕ)) (input : Option (List ℕ)) → TellBytes held → AfterWords IsSafeRun task held input
+safe_words : (task : Option Task) (held : List ℕ → Option (List ℕ)) (input : Option (List ℕ)) → TellBytes held → AfterWords SafeRan SafeObeyed task held input
 safe_words None held input tells = tt
 safe_words (Some task) held input tells = safe_content task held input tells
 

@@ -1,5 +1,5 @@
 -- A session that ended or was cut short, and what was told after its replies.
-use Rattle.std.proofs.Common.{◌≡◌, ℕ, ◌<◌, List, length, Option, Some, None, Result, Ok, Err, IfOk, IfSome, refl, sym, subst, ap}
+use Rattle.std.proofs.Common.{◌≡◌, ◌⊎◌, inl, inr, ℕ, ◌<◌, List, length, Option, Some, None, Result, Ok, Err, IfOk, OnOk, IfSome, refl, sym, subst, ap, ◌∙◌}
 use Rattle.image_format.specs.Picture.{Picture}
 use Rattle.host_io.specs.Pieces.{PutsAll, Taken}
 use Rattle.host_io.specs.TwoSinks.{OneRose, PutFaults, on_out}
@@ -11,17 +11,19 @@ use Rattle.pump_shell.specs.Told.{Told, told_of}
 use Rattle.pump_shell.specs.declared.ends.SessionCut.{SessionCut}
 use Rattle.pump_shell.specs.declared.ends.SessionCut.TheVariants as session_cut
 use Rattle.pump_shell.specs.declared.ends.SessionEnd.{SessionEnd}
+use Rattle.pump_shell.specs.declared.ends.SessionEnd.TheVariants as session_end
 use Rattle.pump_line.specs.Task.{ShellTask}
 use Rattle.pump_cli.specs.Codes.{IsOfSession}
 use Rattle.pump_cli.specs.Cuts.{cut_of_session}
 use Rattle.pump_cli.specs.Early.{SessionFaultBy}
 use Rattle.pump_cli.specs.Facts.{Does, IsLongInput, PutsFaultBy}
-use Rattle.pump_cli.specs.Program.{outcome_of_end, outcome_of_lines, outcome_of_told, setup_of}
+use Rattle.pump_cli.specs.Program.{outcome_of_end, outcome_of_lines, outcome_of_no_start, outcome_of_told, setup_of}
 use Rattle.pump_cli.specs.Reading.{input_limit}
 use Rattle.pump_cli.specs.declared.cut.Cut.{Cut}
 use Rattle.pump_cli.specs.declared.cut.Cut.TheVariants as cut
 use Rattle.pump_cli.specs.declared.status.Status.{Status}
 use Rattle.pump_cli.specs.declared.status.Status.TheVariants.{TagsOut}
+use Rattle.pump_cli.proofs.AnswerLemmas.{does_nothing}
 
 abbrev pub sinks : Option (List ℕ) → Option (List ℕ) → Taken
 sinks taken_out taken_err = record { out = taken_out; err = taken_err }
@@ -83,6 +85,38 @@ module _ (task : ShellTask) (picture : Picture) (left old new : Option (List ℕ
         ends = tt;
       }
 
+  -- one that ended with its input has read it to its end
+  pub session_closed : (closed : Type 0) (end : SessionEnd) → IfSome left (λ bytes. end ≡ (told_with bytes).end) → (end ≡ session_end.InputEnd → closed)
+      → IfSome left (λ bytes. (told_of (setup_of task) picture input_limit bytes).end ≡ session_end.InputEnd → closed)
+  unfolding input_limit
+  session_closed closed end is closes = by left is
+    where
+      by : (known : Option (List ℕ)) → IfSome known (λ bytes. end ≡ (told_with bytes).end)
+          → IfSome known (λ bytes. (told_with bytes).end ≡ session_end.InputEnd → closed)
+      by None is = tt
+      by (Some bytes) is = λ ended. closes (is ∙ ended)
+
+-- a start that is out of tag words ends the session, whatever its input
+module _ (old new err_old err_new : Option (List ℕ)) (silent : new ≡ old) where
+  pub no_start_ended : (end : SessionEnd) (result : Result Status Cut) → (session_ok end ≡ Ok session_end.TagsOut) ⊎ (session_ok end ≡ Err session_cut.Memory)
+      → ((out : Option (List ℕ)) → Does (outcome_of_end end) (sinks out err_old) (sinks out err_new) result)
+      → Does outcome_of_no_start (sinks old err_old) (sinks new err_new) result
+  no_start_ended end result (inl out) last =
+      let is : end ≡ session_end.TagsOut = cc in
+      subst (λ (told : Option (List ℕ)). Does outcome_of_no_start (sinks old err_old) (sinks told err_new) result) (sym silent)
+      (as_told result (subst (λ (ended : SessionEnd). Does (outcome_of_end ended) (sinks old err_old) (sinks old err_new) result) is (last old)))
+    where
+      as_told : (done : Result Status Cut) → Does (outcome_of_end session_end.TagsOut) (sinks old err_old) (sinks old err_new) done
+          → Does outcome_of_no_start (sinks old err_old) (sinks old err_new) done
+      as_told (Ok status) does = record { puts = does.puts; ends = does.ends }
+      as_told (Err cut) does = record { puts = does.puts; ends = tt }
+  no_start_ended end result (inr memory) last = absurd (let h : session_ok end ≡ session_err session_cut.Memory = memory in cc)
+
+  pub no_start_broken : (cut : Cut) → err_new ≡ err_old → Does outcome_of_no_start (sinks old err_old) (sinks new err_new) (Err cut)
+  no_start_broken cut same =
+      subst (λ (told : Taken). Does outcome_of_no_start (sinks old err_old) told (Err cut)) (λ i. sinks (sym silent i) (sym same i))
+      (does_nothing outcome_of_no_start (sinks old err_old) cut)
+
 -- the limit of the input
 pub past_limit : (left : Option (List ℕ)) → IfSome left (λ bytes. 16777216 < length bytes) → IfSome left IsLongInput
 unfolding input_limit
@@ -127,3 +161,8 @@ module _ (input input_now out out_now : ℕ) where
 pub out_ends : (result : Result Status Cut) → IfOk result (λ status. status ≡ TagsOut) → IfOk result IsOfSession
 out_ends (Ok status) is = subst IsOfSession (sym is) tt
 out_ends (Err cut) is = tt
+
+-- what holds in any case holds of a call that was not cut short
+pub whatever : (result : Result Status Cut) (P : Type 0) → P → OnOk result P
+whatever (Ok status) P holds = holds
+whatever (Err cut) P holds = tt

@@ -1,5 +1,5 @@
 -- What is due at the end of a task, why something is refused, and what is done to file and input.
-use Rattle.std.proofs.Common.{◌≡◌, ◌≢◌, ℕ, ◌+◌, ◌<◌, ◌⊎◌, nat_le, if◌then◌else◌, Bool, true, false, List, [], length, Option, Some, None, Result, Ok, Err, IfSome, IsErr, IsTrue, refl, sym, subst, arith, inl, inr, ◌∙◌}
+use Rattle.std.proofs.Common.{◌≡◌, ℕ, ◌+◌, ◌<◌, ◌⊎◌, nat_le, if◌then◌else◌, Bool, true, false, List, [], length, Option, Some, None, Result, Ok, Err, IfSome, IsErr, IsTrue, refl, sym, subst, arith, inl, inr, ◌∙◌}
 use Rattle.std.proofs.lemmas.Bool.Decides.{nat_tests}
 use Rattle.std.specs.Io.KnownBytes.{prepend_known}
 use Rattle.host_io.specs.Fronts.{LosesFront}
@@ -14,10 +14,9 @@ use Rattle.pump_line.specs.Request.{AssembleTask, DisassembleTask}
 use Rattle.pump_line.specs.Task.{LoadTask, RunTask, ShellTask, Task, assemble, disassemble, load, run, shell}
 use Rattle.pump_cli.specs.Codes.{IsBeforeInput, ReadsAll}
 use Rattle.pump_cli.specs.Endings.{Outcome}
-use Rattle.shared_terms.specs.Counts.{next_count}
 use Rattle.host_io.proofs.FrontLemmas.{if_some_each}
-use Rattle.pump_cli.specs.Facts.{AtMost, FileFacts, IsLongFile, IsLongInput, IsSaving, IsTooLong, Saves, count_after_load, most_calls}
-use Rattle.pump_cli.specs.Program.{outcome_of_content, outcome_of_fed, outcome_of_image, outcome_of_lines, outcome_of_listing, outcome_of_load, outcome_of_run, outcome_of_saving, refusal_outcome}
+use Rattle.pump_cli.specs.Facts.{FileFacts, IsLongFile, IsLongInput, IsTooLong, Obeyed, ObeyedIn, SessionFacts}
+use Rattle.pump_cli.specs.Program.{is_over_at_start, outcome_of_content, outcome_of_fed, outcome_of_image, outcome_of_lines, outcome_of_listing, outcome_of_load, outcome_of_no_start, outcome_of_run, outcome_of_saving, refusal_outcome}
 use Rattle.pump_cli.specs.Reading.{content_of, content_read, file_as, file_limit, image_or_refusal, image_read, input_limit, input_read, source_or_refusal, source_read}
 use Rattle.pump_cli.specs.declared.refusal.Refusal.{Refusal}
 use Rattle.pump_cli.specs.declared.refusal.Refusal.TheVariants as refusals
@@ -51,12 +50,17 @@ module _ (P : Outcome → Type 0) where
       subst (λ (read : Result Picture Refusal). IfSome (outcome_of_image (run task) read (Some all)) P) (sym is)
       (subst (λ (read : Result (List ℕ) Refusal). P (outcome_of_fed task picture read)) (sym taken) ran)
 
+  by_start : (over : Bool) → (over ≡ true → P outcome_of_no_start) → IfSome (if over then Some outcome_of_no_start else None) P
+  by_start true ended = ended refl
+  by_start false ended = tt
+
   pub due_by_lines : (task : ShellTask) (held input : Option (List ℕ)) (picture : Picture) → IfSome held (λ bytes. image_read bytes ≡ Ok picture)
-      → IfSome input (λ bytes. P (outcome_of_lines task picture bytes)) → IfSome (outcome_of_content (shell task) held input) P
-  due_by_lines task None input picture is obeyed = tt
-  due_by_lines task (Some bytes) None picture is obeyed =
-      subst (λ (read : Result Picture Refusal). IfSome (outcome_of_image (shell task) read None) P) (sym is) tt
-  due_by_lines task (Some bytes) (Some lines) picture is obeyed =
+      → IfSome input (λ bytes. P (outcome_of_lines task picture bytes)) → (is_over_at_start task picture ≡ true → P outcome_of_no_start)
+      → IfSome (outcome_of_content (shell task) held input) P
+  due_by_lines task None input picture is obeyed ended = tt
+  due_by_lines task (Some bytes) None picture is obeyed ended =
+      subst (λ (read : Result Picture Refusal). IfSome (outcome_of_image (shell task) read None) P) (sym is) (by_start (is_over_at_start task picture) ended)
+  due_by_lines task (Some bytes) (Some lines) picture is obeyed ended =
       subst (λ (read : Result Picture Refusal). IfSome (outcome_of_image (shell task) read (Some lines)) P) (sym is) obeyed
 
   pub due_by_saving : (task : AssembleTask) (held input : Option (List ℕ)) (picture : Picture) → IfSome held (λ bytes. source_read bytes ≡ Ok picture)
@@ -213,41 +217,55 @@ pub record Side (task : Task) (status : Status) (BadImage BadSource TooLong : Ty
   pub source : status ≡ statuses.BadSource → BadSource
   pub long : status ≡ statuses.TooLong → TooLong
   pub not_run : ReadsAll task status → ⊥
-  pub not_saving : Saves task status → ⊥
+  pub not_out : status ≡ statuses.TagsOut → ⊥
+  pub not_done : status ≡ statuses.Done → ⊥
 
--- ---- calls of files
+-- ---- sessions
 
-load_call : (task : Task) (before now : ℕ) → now ≡ count_after_load task before → AtMost (most_calls task) before now
-load_call (run task) before now is = inr is
-load_call (shell task) before now is = inr is
-load_call (assemble task) before now is = inr (inl is)
-load_call (disassemble task) before now is = inr is
-load_call (load task) before now is = is
+-- a session that did not come to its end did not read the input either
+unobeyed : {I : Type 0} (task : ShellTask) (read : Result Picture Refusal) (status : Status) (before after : Outside I)
+    → (status ≡ statuses.TagsOut → ⊥) → (status ≡ statuses.Done → ⊥) → after.input ≡ before.input → ObeyedIn task read status before after
+unobeyed task (Ok picture) status before after not_out not_done input = record {
+  tags_out = λ out. absurd (not_out out);
+  unread = λ over. input;
+  whole = λ done. absurd (not_done done);
+}
+unobeyed task (Err refusal) status before after not_out not_done input = tt
 
-pub no_call : (task : Task) (before : ℕ) → AtMost (most_calls task) before before
-no_call (run task) before = inl refl
-no_call (shell task) before = inl refl
-no_call (assemble task) before = inl refl
-no_call (disassemble task) before = inl refl
-no_call (load task) before = refl
+pub no_session : {I : Type 0} (task : Task) (status : Status) (before after : Outside I)
+    → (status ≡ statuses.TagsOut → ⊥) → (status ≡ statuses.Done → ⊥) → after.input ≡ before.input → SessionFacts task status before after
+no_session (run task) status before after not_out not_done input = tt
+no_session (shell task) status before after not_out not_done input =
+    each (before.held task.image) _ (λ bytes. unobeyed task (image_read bytes) status before after not_out not_done input)
+no_session (assemble task) status before after not_out not_done input = tt
+no_session (disassemble task) status before after not_out not_done input = tt
+no_session (load task) status before after not_out not_done input = tt
 
-module _ {I : Type 0} (task : Task) (status : Status) (before after : Outside I) (calls : after.calls ≡ count_after_load task before.calls)
-    (not_saving : Saves task status → ⊥)
+-- one whose image was taken
+pub some_session : {I : Type 0} (task : ShellTask) (picture : Picture) (status : Status) (before after : Outside I)
+    → IfSome (before.held task.image) (λ bytes. image_read bytes ≡ Ok picture) → Obeyed task picture status before after
+    → SessionFacts (shell task) status before after
+some_session task picture status before after taken obeyed =
+    if_some_each (before.held task.image) _ _
+    (λ bytes is. subst (λ (read : Result Picture Refusal). ObeyedIn task read status before after) (sym is) obeyed) taken
+
+-- ---- what is done to the input
+
+module _ {I : Type 0} (task : Task) (status : Status) (before after : Outside I)
     (bad : status ≡ statuses.BadImage → IfSome (content_of task before.held) (λ bytes. IsErr (image_of bytes)))
     (source : status ≡ statuses.BadSource → IfSome (content_of task before.held) (λ bytes. IsErr (image_of_source bytes)))
-    (long : status ≡ statuses.TooLong → IfSome (content_of task before.held) (λ bytes. IsTooLong task bytes before.left)) where
+    (long : status ≡ statuses.TooLong → IfSome (content_of task before.held) (λ bytes. IsTooLong task bytes before.left))
+    (session : SessionFacts task status before after) where
   -- the input was not asked for
   pub facts_unasked : after.input ≡ before.input → after.left ≡ before.left → (ReadsAll task status → ⊥) → FileFacts task status before after
   facts_unasked input left not_all = record {
-    calls = λ memory saving. calls;
-    saving_calls = λ saving. absurd (not_saving saving);
-    at_most = load_call task before.calls after.calls calls;
     bad_image = bad;
     bad_source = source;
     too_long = long;
     unread = λ early. input;
     unasked = each (content_of task before.held) _ (λ bytes refused. input);
     whole = λ all. absurd (not_all all);
+    session = session;
     moved = subst (λ (now : Option (List ℕ)). LosesFront before.left now (input_limit + 4096)) (sym left) (loses_nothing before.left (input_limit + 4096));
   }
 
@@ -256,19 +274,23 @@ module _ {I : Type 0} (task : Task) (status : Status) (before after : Outside I)
       → LosesFront before.left after.left (input_limit + 4096) → (IsBeforeInput task status → after.input ≡ before.input)
       → (ReadsAll task status → IsTrue after.closed) → FileFacts task status before after
   facts_asked picture taken moved unread whole = record {
-    calls = λ memory saving. calls;
-    saving_calls = λ saving. absurd (not_saving saving);
-    at_most = load_call task before.calls after.calls calls;
     bad_image = bad;
     bad_source = source;
     too_long = long;
     unread = unread;
     unasked = if_some_each (content_of task before.held) _ _ (λ bytes is refused. taken_is_fine task bytes picture is refused) taken;
     whole = whole;
+    session = session;
     moved = moved;
   }
 
--- the status of a call that saved, or was to save, is none of a refusal
+-- the status of a call that was to save a file: it was saved, or that failed
+abbrev pub IsSaving : Status → Type 0
+IsSaving statuses.Done = Unit {0}
+IsSaving statuses.WriteFailed = Unit {0}
+IsSaving _ = ⊥
+
+-- it is none of a refusal
 record OfSaving (status : Status) : Type 0 where
   bad : status ≡ statuses.BadImage → ⊥
   source : status ≡ statuses.BadSource → ⊥
@@ -286,32 +308,22 @@ of_saving status (inr memory) = record {
   long = λ e. let h : statuses.Memory ≡ statuses.TooLong = sym memory ∙ e in cc;
 }
 
-saving_is_no_memory : (status : Status) → IsSaving status → status ≢ statuses.Memory
-saving_is_no_memory status saving e = subst IsSaving e saving
-
 -- a source was taken, and its image was to be saved
 pub facts_saving : {I : Type 0} (task : AssembleTask) (status : Status) (before after : Outside I) (picture : Picture)
     → IfSome (before.held task.source) (λ bytes. source_read bytes ≡ Ok picture) → IsSaving status ⊎ (status ≡ statuses.Memory)
-    → (status ≢ statuses.Memory → after.calls ≡ next_count (next_count before.calls)) → AtMost 1 (next_count before.calls) after.calls
     → after.input ≡ before.input → after.left ≡ before.left → FileFacts (assemble task) status before after
-facts_saving task status before after picture taken ends calls at_most input left =
+facts_saving task status before after picture taken ends input left =
     let side = of_saving status ends in
     record {
-      calls = λ memory not_saving. absurd (by ends memory not_saving);
-      saving_calls = λ saving. calls (saving_is_no_memory status saving);
-      at_most = inr at_most;
       bad_image = λ e. absurd (side.bad e);
       bad_source = λ e. absurd (side.source e);
       too_long = λ e. absurd (side.long e);
       unread = λ early. input;
       unasked = if_some_each (before.held task.source) _ _ (λ bytes is refused. taken_is_fine (assemble task) bytes picture is refused) taken;
       whole = λ all. absurd all;
+      session = tt;
       moved = subst (λ (now : Option (List ℕ)). LosesFront before.left now (input_limit + 4096)) (sym left) (loses_nothing before.left (input_limit + 4096));
     }
-  where
-    by : IsSaving status ⊎ (status ≡ statuses.Memory) → status ≢ statuses.Memory → (IsSaving status → ⊥) → ⊥
-    by (inl saving) memory not_saving = not_saving saving
-    by (inr is) memory not_saving = memory is
 
 -- a call that wants memory did not read the input to its end, as far as is told
 not_all_read : (task : Task) → ReadsAll task statuses.Memory → ⊥
@@ -321,24 +333,17 @@ not_all_read (assemble task) all = all
 not_all_read (disassemble task) all = all
 not_all_read (load task) all = all
 
-nothing_saved : (task : Task) → Saves task statuses.Memory → ⊥
-nothing_saved (run task) saves = saves
-nothing_saved (shell task) saves = saves
-nothing_saved (assemble task) saves = saves
-nothing_saved (disassemble task) saves = saves
-nothing_saved (load task) saves = saves
-
 -- want of memory before anything was asked for
 pub facts_none : {I : Type 0} (task : Task) (before : Outside I) → FileFacts task statuses.Memory before before
 facts_none task before = record {
-  calls = λ memory saving. absurd (memory refl);
-  saving_calls = λ saving. absurd (nothing_saved task saving);
-  at_most = no_call task before.calls;
   bad_image = λ e. absurd (let h : statuses.Memory ≡ statuses.BadImage = e in cc);
   bad_source = λ e. absurd (let h : statuses.Memory ≡ statuses.BadSource = e in cc);
   too_long = λ e. absurd (let h : statuses.Memory ≡ statuses.TooLong = e in cc);
   unread = λ early. refl;
   unasked = each (content_of task before.held) _ (λ bytes refused. refl);
   whole = λ all. absurd (not_all_read task all);
+  session =
+      no_session task statuses.Memory before before (λ e. let h : statuses.Memory ≡ statuses.TagsOut = e in cc)
+      (λ e. let h : statuses.Memory ≡ statuses.Done = e in cc) refl;
   moved = loses_nothing before.left (input_limit + 4096);
 }

@@ -1,6 +1,6 @@
 -- The answer of a task at each of its ends.
 use Rattle.std.specs.Bool.{then_some}
-use Rattle.std.proofs.Common.{◌≡◌, ◌≢◌, ℕ, ◌+◌, ◌⊎◌, List, Option, Some, None, Result, Ok, Err, IfOk, OnOk, IfSome, IsErr, IsTrue, refl, sym, ap, subst, ◌∙◌, inl, inr}
+use Rattle.std.proofs.Common.{◌≡◌, ◌≢◌, ℕ, ◌+◌, ◌⊎◌, true, List, Option, Some, None, Result, Ok, Err, IfOk, OnOk, IfSome, IsErr, IsTrue, refl, sym, ap, subst, ◌∙◌, inl, inr}
 use Rattle.shared_terms.specs.Counts.{next_count}
 use Rattle.host_io.specs.Fronts.{LosesFront}
 use Rattle.host_io.specs.Outside.{NoFault, Outside}
@@ -12,14 +12,17 @@ use Rattle.image_format.specs.Reading.{image_of}
 use Rattle.image_format.specs.Spelling.{spelling}
 use Rattle.asm_emit.specs.Assembled.{image_of_source}
 use Rattle.workload.specs.Source.{source_of_workload}
+use Rattle.pump_shell.specs.Told.{told_of}
+use Rattle.pump_shell.specs.declared.ends.SessionEnd.TheVariants as session_end
 use Rattle.pump_line.specs.Request.{AssembleTask, DisassembleTask}
 use Rattle.pump_line.specs.Task.{LoadTask, RunTask, ShellTask, Task, assemble, disassemble, load, run, shell, task_of}
-use Rattle.pump_cli.specs.Codes.{IsBeforeInput, IsOfRefusal, IsOfRun, IsOfSession, IsSilent, ReadsAll, status_of_cut, status_of_refusal}
+use Rattle.pump_cli.specs.Calls.{FaultBy, Load, MakesAll}
+use Rattle.pump_cli.specs.Codes.{IsBeforeInput, IsFinal, IsOfRefusal, IsOfRun, IsOfSession, IsSilent, ReadsAll, status_of_cut, status_of_refusal}
 use Rattle.pump_cli.specs.Early.{EndsEarly, InputRoseBy, IsOfFile, ReadRoseBy, SessionFaultBy, Tells, WriteRoseBy}
 use Rattle.pump_cli.specs.Endings.{Outcome}
-use Rattle.pump_cli.specs.Facts.{AtMost, Does, FaultBy, HeldBy, HeldByAssembly, HoldsFile, IsLongInput, IsSaving, IsTooLong, OthersKept, PutsFaultBy, LoadFault, Saves, TaskFacts, count_after_load, status_in}
-use Rattle.pump_cli.specs.Program.{outcome_of_content, outcome_of_lines, outcome_of_listing, outcome_of_load, outcome_of_run, outcome_of_saving, outcome_of_words, program, refusal_outcome}
-use Rattle.pump_cli.specs.Reading.{content_of, content_read, file_in, image_read, input_limit, input_read, source_read}
+use Rattle.pump_cli.specs.Facts.{AtMost, Does, IsLongInput, IsTooLong, Obeyed, PutsFaultBy, SessionFacts, TaskFacts, status_in}
+use Rattle.pump_cli.specs.Program.{is_over_at_start, outcome_of_content, outcome_of_lines, outcome_of_listing, outcome_of_load, outcome_of_no_start, outcome_of_run, outcome_of_saving, outcome_of_words, program, refusal_outcome, setup_of}
+use Rattle.pump_cli.specs.Reading.{content_of, content_read, image_read, input_limit, input_read, source_read}
 use Rattle.pump_cli.specs.Theorem.{Answers}
 use Rattle.pump_cli.specs.declared.cut.Cut.{Cut}
 use Rattle.pump_cli.specs.declared.cut.Cut.TheVariants as cut
@@ -30,7 +33,8 @@ use Rattle.pump_cli.specs.declared.refusal.Refusal.TheVariants as refusals
 use Rattle.pump_cli.specs.declared.status.Status.{Status}
 use Rattle.pump_cli.specs.declared.status.Status.TheVariants as statuses
 use Rattle.pump_cli.proofs.AnswerLemmas.{answers, does_nothing, puts_fault, refusal_ends, refusal_quiet, run_ends, run_quiet}
-use Rattle.pump_cli.proofs.TaskLemmas.{Side, due_by_file, due_by_input, due_by_lines, due_by_listing, due_by_run, due_by_saving, due_by_work, facts_asked, facts_none, facts_saving, facts_unasked, long_input, no_image, no_source, too_long}
+use Rattle.pump_cli.proofs.CallLemmas.{Called, count_after_load, first_file, load_broken, load_called, none_called, refused_called, save_called, save_failed, save_unmade, unread_called}
+use Rattle.pump_cli.proofs.TaskLemmas.{IsSaving, Side, due_by_file, due_by_input, due_by_lines, due_by_listing, due_by_run, due_by_saving, due_by_work, facts_asked, facts_none, facts_saving, facts_unasked, long_input, no_image, no_session, no_source, some_session, too_long}
 
 -- a cut that comes before anything is put or saved, or while it is put
 abbrev IsBeforeSaving : Cut → Type 0
@@ -45,14 +49,6 @@ all_read_is (assemble task) status all = absurd all
 all_read_is (disassemble task) status all = absurd all
 all_read_is (load task) status all = absurd all
 
--- only `asm` saves
-saving_is : (task : Task) (status : Status) → Saves task status → IsSaving status
-saving_is (run task) status saves = absurd saves
-saving_is (shell task) status saves = absurd saves
-saving_is (assemble task) status saves = saves
-saving_is (disassemble task) status saves = absurd saves
-saving_is (load task) status saves = absurd saves
-
 of_cut : (task : Task) (B S L : Type 0) (cut : Cut) → IsBeforeSaving cut → Side task (status_of_cut cut) B S L
 of_cut task B S L cut.ReadFailed reads = record {
   words = λ e. let h : statuses.ReadFailed ≡ statuses.BadWords = e in cc;
@@ -60,7 +56,8 @@ of_cut task B S L cut.ReadFailed reads = record {
   source = λ e. absurd (let h : statuses.ReadFailed ≡ statuses.BadSource = e in cc);
   long = λ e. absurd (let h : statuses.ReadFailed ≡ statuses.TooLong = e in cc);
   not_run = λ all. all_read_is task statuses.ReadFailed all;
-  not_saving = λ saves. saving_is task statuses.ReadFailed saves;
+  not_out = λ e. let h : statuses.ReadFailed ≡ statuses.TagsOut = e in cc;
+  not_done = λ e. let h : statuses.ReadFailed ≡ statuses.Done = e in cc;
 }
 of_cut task B S L cut.WriteFailed reads = absurd reads
 of_cut task B S L cut.InputFailed reads = record {
@@ -69,7 +66,8 @@ of_cut task B S L cut.InputFailed reads = record {
   source = λ e. absurd (let h : statuses.InputFailed ≡ statuses.BadSource = e in cc);
   long = λ e. absurd (let h : statuses.InputFailed ≡ statuses.TooLong = e in cc);
   not_run = λ all. all_read_is task statuses.InputFailed all;
-  not_saving = λ saves. saving_is task statuses.InputFailed saves;
+  not_out = λ e. let h : statuses.InputFailed ≡ statuses.TagsOut = e in cc;
+  not_done = λ e. let h : statuses.InputFailed ≡ statuses.Done = e in cc;
 }
 of_cut task B S L cut.PutFailed reads = record {
   words = λ e. let h : statuses.PutFailed ≡ statuses.BadWords = e in cc;
@@ -77,7 +75,8 @@ of_cut task B S L cut.PutFailed reads = record {
   source = λ e. absurd (let h : statuses.PutFailed ≡ statuses.BadSource = e in cc);
   long = λ e. absurd (let h : statuses.PutFailed ≡ statuses.TooLong = e in cc);
   not_run = λ all. all_read_is task statuses.PutFailed all;
-  not_saving = λ saves. saving_is task statuses.PutFailed saves;
+  not_out = λ e. let h : statuses.PutFailed ≡ statuses.TagsOut = e in cc;
+  not_done = λ e. let h : statuses.PutFailed ≡ statuses.Done = e in cc;
 }
 of_cut task B S L cut.Memory reads = record {
   words = λ e. let h : statuses.Memory ≡ statuses.BadWords = e in cc;
@@ -85,7 +84,8 @@ of_cut task B S L cut.Memory reads = record {
   source = λ e. absurd (let h : statuses.Memory ≡ statuses.BadSource = e in cc);
   long = λ e. absurd (let h : statuses.Memory ≡ statuses.TooLong = e in cc);
   not_run = λ all. all_read_is task statuses.Memory all;
-  not_saving = λ saves. saving_is task statuses.Memory saves;
+  not_out = λ e. let h : statuses.Memory ≡ statuses.TagsOut = e in cc;
+  not_done = λ e. let h : statuses.Memory ≡ statuses.Done = e in cc;
 }
 
 of_bad_image : (task : Task) (B S L : Type 0) → B → Side task statuses.BadImage B S L
@@ -95,7 +95,8 @@ of_bad_image task B S L why = record {
   source = λ e. absurd (let h : statuses.BadImage ≡ statuses.BadSource = e in cc);
   long = λ e. absurd (let h : statuses.BadImage ≡ statuses.TooLong = e in cc);
   not_run = λ all. all_read_is task statuses.BadImage all;
-  not_saving = λ saves. saving_is task statuses.BadImage saves;
+  not_out = λ e. let h : statuses.BadImage ≡ statuses.TagsOut = e in cc;
+  not_done = λ e. let h : statuses.BadImage ≡ statuses.Done = e in cc;
 }
 
 of_bad_source : (task : Task) (B S L : Type 0) → S → Side task statuses.BadSource B S L
@@ -105,7 +106,8 @@ of_bad_source task B S L why = record {
   source = λ e. why;
   long = λ e. absurd (let h : statuses.BadSource ≡ statuses.TooLong = e in cc);
   not_run = λ all. all_read_is task statuses.BadSource all;
-  not_saving = λ saves. saving_is task statuses.BadSource saves;
+  not_out = λ e. let h : statuses.BadSource ≡ statuses.TagsOut = e in cc;
+  not_done = λ e. let h : statuses.BadSource ≡ statuses.Done = e in cc;
 }
 
 of_too_long : (task : Task) (B S L : Type 0) → L → Side task statuses.TooLong B S L
@@ -115,31 +117,9 @@ of_too_long task B S L why = record {
   source = λ e. absurd (let h : statuses.TooLong ≡ statuses.BadSource = e in cc);
   long = λ e. why;
   not_run = λ all. all_read_is task statuses.TooLong all;
-  not_saving = λ saves. saving_is task statuses.TooLong saves;
+  not_out = λ e. let h : statuses.TooLong ≡ statuses.TagsOut = e in cc;
+  not_done = λ e. let h : statuses.TooLong ≡ statuses.Done = e in cc;
 }
-
--- what a file holds stays where nothing was to be saved
-kept : {I : Type 0} (task : Task) (status : Status) (before after : Outside I) → (Saves task status → ⊥) → after.held ≡ before.held
-    → HeldBy (Some task) status before after
-kept (run task) status before after saves held = held
-kept (shell task) status before after saves held = held
-kept (assemble task) statuses.Done before after saves held = absurd (saves tt)
-kept (assemble task) statuses.WriteFailed before after saves held = absurd (saves tt)
-kept (assemble task) statuses.ExitedNonzero before after saves held = held
-kept (assemble task) statuses.BadWords before after saves held = held
-kept (assemble task) statuses.BadImage before after saves held = held
-kept (assemble task) statuses.BadSource before after saves held = held
-kept (assemble task) statuses.Violated before after saves held = held
-kept (assemble task) statuses.Faulted before after saves held = held
-kept (assemble task) statuses.TurnsSpent before after saves held = held
-kept (assemble task) statuses.TagsOut before after saves held = held
-kept (assemble task) statuses.ReadFailed before after saves held = held
-kept (assemble task) statuses.InputFailed before after saves held = held
-kept (assemble task) statuses.PutFailed before after saves held = held
-kept (assemble task) statuses.Memory before after saves held = held
-kept (assemble task) statuses.TooLong before after saves held = held
-kept (disassemble task) status before after saves held = held
-kept (load task) status before after saves held = held
 
 -- a refusal, a failed put and want of memory are not silent
 refusal_is_told : (task : Option Task) (refusal : Refusal) → IsSilent task (status_of_refusal refusal) → ⊥
@@ -147,6 +127,13 @@ refusal_is_told task refusals.BadWords silent = silent
 refusal_is_told task (refusals.BadImage error) silent = silent
 refusal_is_told task (refusals.BadSource error) silent = silent
 refusal_is_told task refusals.TooLong silent = silent
+
+-- a refusal that was told, or could not be
+told_as : (refusal : Refusal) (before now : PutFaults) (result : Result Status Cut) → PutsFaultBy before now result → IfOk result (λ ended. ended ≡ status_of_refusal refusal)
+    → MakesAll (status_in result) → (status_in result ≡ status_of_refusal refusal) ⊎ (status_in result ≡ statuses.PutFailed)
+told_as refusal before now result faults ends =
+    refusal_ends (λ (ended : Status). MakesAll ended → (ended ≡ status_of_refusal refusal) ⊎ (ended ≡ statuses.PutFailed)) refusal before now result faults ends
+    (λ all. inl refl) (λ all. inr refl) (λ all. absurd all)
 
 -- a refusal of the input comes after the input was asked for
 late : (task : RunTask) (r : Refusal) → r ≡ refusals.TooLong → IsBeforeInput (run task) (status_of_refusal r) → ⊥
@@ -269,30 +256,31 @@ module _ {I : Type 0} (task : Task) (before after : Outside I) where
       (file_refusal refusal of_file is) (of_cut task (BadFile task before) (BadText task before) (LongFile task before) cut.PutFailed tt) (of_cut task (BadFile task before) (BadText task before) (LongFile task before) cut.Memory tt) in
       answers _ (Some task) result before after
       (due_by_file (λ outcome. Does outcome before.taken after.taken result) task (content_of task before.held) before.left refusal is does)
-      (puts_fault (Some task) before.faults after.faults result faults read write input_faults (refusal_quiet (Some task) before.faults after.faults refusal result ends))
+      (refused_called (status_in result) before after held task refusal is (told_as refusal before.faults.puts after.faults.puts result faults ends) calls
+      (puts_fault None before.faults after.faults result faults read write input_faults (refusal_quiet None before.faults after.faults refusal result ends)))
       (λ words. absurd (side.words words))
       (λ silent. absurd (refusal_ends (λ (ended : Status). IsSilent (Some task) ended → ⊥) refusal before.faults.puts after.faults.puts result faults ends (refusal_is_told (Some task) refusal) (λ no. no) (λ no. no) silent))
-      (λ refused. out) (kept task (status_in result) before after side.not_saving held)
-      (facts_unasked task (status_in result) before after calls side.not_saving side.bad side.source side.long input left side.not_run)
+      (λ refused. out)
+      (facts_unasked task (status_in result) before after side.bad side.source side.long
+      (no_session task (status_in result) before after side.not_out side.not_done input) input left side.not_run)
 
   -- it can't be had
-  pub file_cut : (cut : Cut) → IsBeforeSaving cut → FaultBy (Some task) (status_of_cut cut) before.faults after.faults → after.taken ≡ before.taken
-      → after.held ≡ before.held → after.calls ≡ count_after_load task before.calls → after.input ≡ before.input → after.left ≡ before.left → AnsweredBy (status_of_cut cut)
-  file_cut cut reads fault taken held calls input left =
+  pub file_cut : (cut : Cut) → IsBeforeSaving cut → Called (Some task) (status_of_cut cut) before after → after.taken ≡ before.taken
+      → after.input ≡ before.input → after.left ≡ before.left → AnsweredBy (status_of_cut cut)
+  file_cut cut reads called taken input left =
       let side : SideOf (status_of_cut cut) = of_cut task (BadFile task before) (BadText task before) (LongFile task before) cut reads in
       answers _ (Some task) (Err cut) before after
       (if_some_all _ _ (λ outcome. subst (λ (now : Taken). Does outcome before.taken now (Err cut)) (sym taken) (does_nothing outcome before.taken cut)))
-      fault (λ words. absurd (side.words words)) (λ silent. taken) (λ refused. ap (λ (now : Taken). now.out) taken)
-      (kept task (status_of_cut cut) before after side.not_saving held)
-      (facts_unasked task (status_of_cut cut) before after calls side.not_saving side.bad side.source side.long input left side.not_run)
+      called (λ words. absurd (side.words words)) (λ silent. taken) (λ refused. ap (λ (now : Taken). now.out) taken)
+      (facts_unasked task (status_of_cut cut) before after side.bad side.source side.long
+      (no_session task (status_of_cut cut) before after side.not_out side.not_done input) input left side.not_run)
 
   -- the load of its file is cut short
-  module _ (name : List ℕ) (loads : file_in task ≡ Some name) where
+  module _ (name : List ℕ) (loads : first_file task ≡ Some name) where
     file_fault : (cut : Cut) (A : Type 0) → ReadRoseBy {A = A} before.faults.read after.faults.read name (Err (early_end.Cut cut))
         → after.faults.write ≡ before.faults.write → after.faults.puts ≡ before.faults.puts → after.faults.input ≡ before.faults.input
-        → FaultBy (Some task) (status_of_cut cut) before.faults after.faults
-    file_fault cut.ReadFailed A rose write puts input =
-        subst (λ (file : Option (List ℕ)). LoadFault file before.faults after.faults) (sym loads) (record { read = rose; write = write; input = input; puts = puts })
+        → FaultBy (Some (Load name)) (status_of_cut cut) before.faults after.faults
+    file_fault cut.ReadFailed A rose write puts input = record { read = rose; write = write; input = input; puts = puts }
     file_fault cut.WriteFailed A rose write puts input = absurd rose
     file_fault cut.InputFailed A rose write puts input = absurd rose
     file_fault cut.PutFailed A rose write puts input = absurd rose
@@ -304,6 +292,13 @@ module _ {I : Type 0} (task : Task) (before after : Outside I) where
     file_reads cut.InputFailed A rose = tt
     file_reads cut.PutFailed A rose = tt
     file_reads cut.Memory A rose = tt
+
+    file_not_all : (cut : Cut) (A : Type 0) → ReadRoseBy {A = A} before.faults.read after.faults.read name (Err (early_end.Cut cut)) → MakesAll (status_of_cut cut) → ⊥
+    file_not_all cut.ReadFailed A rose all = all
+    file_not_all cut.WriteFailed A rose all = all
+    file_not_all cut.InputFailed A rose all = rose
+    file_not_all cut.PutFailed A rose all = rose
+    file_not_all cut.Memory A rose all = all
 
     -- the file is refused, or that; standard output is left alone
     pub file_ends : (end : EarlyEnd) (A : Type 0) (result : Result Status Cut)
@@ -319,8 +314,10 @@ module _ {I : Type 0} (task : Task) (before after : Outside I) where
         ends.status rose write input_faults out held calls input left
     file_ends (early_end.Cut cut) A result refused of_file rose write ends out out_faults input_faults held calls input left =
         subst (λ (done : Result Status Cut). AnsweredBy (status_in done)) (sym ends.ends)
-        (file_cut cut (file_reads cut A rose) (file_fault cut A rose write (λ i. record { out = out_faults i; err = ends.faults i }) input_faults)
-        (λ i. record { out = out i; err = ends.err i }) held calls input left)
+        (file_cut cut (file_reads cut A rose)
+        (load_broken (status_of_cut cut) before after held task name loads (file_not_all cut A rose) calls
+        (file_fault cut A rose write (λ i. record { out = out_faults i; err = ends.faults i }) input_faults))
+        (λ i. record { out = out i; err = ends.err i }) input left)
 
 -- ---- `run`
 
@@ -342,6 +339,10 @@ module _ {I : Type 0} (task : RunTask) (before after : Outside I) where
     abbrev SideOfRun : Status → Type 0
     SideOfRun status = Side (run task) status Refused NoSource Exceeds
 
+    -- the image was loaded
+    run_called : (status : Status) → FaultBy None status before.faults after.faults → Called (Some (run task)) status before after
+    run_called status faults = load_called status before after held (run task) (Ok picture) task.image refl is (λ all. tt) calls faults
+
     input_refusal : (refusal : Refusal) → refusal ≡ refusals.TooLong → IfSome before.left (λ all. input_read all ≡ Err refusal) → SideOfRun (status_of_refusal refusal)
     input_refusal refusal long_is long =
         subst (λ (other : Refusal). SideOfRun (status_of_refusal other)) (sym long_is)
@@ -357,17 +358,17 @@ module _ {I : Type 0} (task : RunTask) (before after : Outside I) where
         (input_refusal refusal long_is long) (of_cut (run task) Refused NoSource Exceeds cut.PutFailed tt) (of_cut (run task) Refused NoSource Exceeds cut.Memory tt) in
         answers _ (Some (run task)) result before after
         (due_by_input (λ outcome. Does outcome before.taken after.taken result) task (before.held task.image) before.left picture refusal is long does)
-        (puts_fault (Some (run task)) before.faults after.faults result faults read write input_faults (refusal_quiet (Some (run task)) before.faults after.faults refusal result ends))
+        (run_called (status_in result) (puts_fault None before.faults after.faults result faults read write input_faults (refusal_quiet None before.faults after.faults refusal result ends)))
         (λ words. absurd (side.words words))
         (λ silent. absurd (refusal_ends (λ (ended : Status). IsSilent (Some (run task)) ended → ⊥) refusal before.faults.puts after.faults.puts result faults ends (refusal_is_told (Some (run task)) refusal) (λ no. no) (λ no. no) silent))
-        (λ refused. out) held
-        (facts_asked (run task) (status_in result) before after calls (λ saves. saves) side.bad side.source side.long picture is moved
+        (λ refused. out)
+        (facts_asked (run task) (status_in result) before after side.bad side.source side.long tt picture is moved
         (λ early. absurd (refusal_ends (λ (ended : Status). IsBeforeInput (run task) ended → ⊥) refusal before.faults.puts after.faults.puts result faults ends (late task refusal long_is) (λ no. no) (λ no. no) early))
         (λ all. absurd (side.not_run all)))
 
     -- the reading of the input is cut short
     input_fault : (cut : Cut) (A : Type 0) → InputRoseBy {A = A} before.faults.input after.faults.input (Err (early_end.Cut cut))
-        → after.faults.puts ≡ before.faults.puts → FaultBy (Some (run task)) (status_of_cut cut) before.faults after.faults
+        → after.faults.puts ≡ before.faults.puts → FaultBy None (status_of_cut cut) before.faults after.faults
     input_fault cut.ReadFailed A rose puts = absurd rose
     input_fault cut.WriteFailed A rose puts = absurd rose
     input_fault cut.InputFailed A rose puts = record { read = read; write = write; input = rose; puts = puts }
@@ -394,8 +395,8 @@ module _ {I : Type 0} (task : RunTask) (before after : Outside I) where
         let side : SideOfRun (status_of_cut cut) = of_cut (run task) Refused NoSource Exceeds cut (input_reads cut A rose) in
         answers _ (Some (run task)) (Err cut) before after
         (if_some_all _ _ (λ outcome. subst (λ (now : Taken). Does outcome before.taken now (Err cut)) (sym taken) (does_nothing outcome before.taken cut)))
-        (input_fault cut A rose puts) (λ words. absurd (side.words words)) (λ silent. taken) (λ refused. ap (λ (now : Taken). now.out) taken) held
-        (facts_asked (run task) (status_of_cut cut) before after calls (λ saves. saves) side.bad side.source side.long picture is moved (λ early. absurd (not_early cut A rose early)) (λ all. absurd (side.not_run all)))
+        (run_called (status_of_cut cut) (input_fault cut A rose puts)) (λ words. absurd (side.words words)) (λ silent. taken) (λ refused. ap (λ (now : Taken). now.out) taken)
+        (facts_asked (run task) (status_of_cut cut) before after side.bad side.source side.long tt picture is moved (λ early. absurd (not_early cut A rose early)) (λ all. absurd (side.not_run all)))
 
     -- either of them
     pub input_ends : (end : EarlyEnd) (A : Type 0) (result : Result Status Cut)
@@ -421,9 +422,9 @@ module _ {I : Type 0} (task : RunTask) (before after : Outside I) where
         run_ends (OfRun (run task)) before.faults.puts after.faults.puts result faults kind (of_run_is (run task)) (put_failed_is (run task)) (memory_is (run task)) in
         answers _ (Some (run task)) result before after
         (due_by_run (λ outcome. Does outcome before.taken after.taken result) task (before.held task.image) before.left picture fed is taken does)
-        (puts_fault (Some (run task)) before.faults after.faults result faults read write input_faults (run_quiet (Some (run task)) before.faults after.faults result kind))
-        (λ words. absurd (side.words words)) (λ silent. absurd (side.silent silent)) (λ refused. absurd (side.refusal refused)) held
-        (facts_asked (run task) (status_in result) before after calls (λ saves. saves) (λ e. absurd (side.bad e)) (λ e. absurd (side.source e)) (λ e. absurd (side.long e)) picture is moved
+        (run_called (status_in result) (puts_fault None before.faults after.faults result faults read write input_faults (run_quiet None before.faults after.faults result kind)))
+        (λ words. absurd (side.words words)) (λ silent. absurd (side.silent silent)) (λ refused. absurd (side.refusal refused))
+        (facts_asked (run task) (status_in result) before after (λ e. absurd (side.bad e)) (λ e. absurd (side.source e)) (λ e. absurd (side.long e)) tt picture is moved
         (λ early. absurd (run_ends (λ (ended : Status). IsBeforeInput (run task) ended → ⊥) before.faults.puts after.faults.puts result faults kind (ran_late task) (λ no. no) (λ no. no) early))
         (λ of_run. closed))
 
@@ -514,10 +515,10 @@ module _ {I : Type 0} (task : ShellTask) (before after : Outside I) where
   -- the counts of faults
   session_fault : (result : Result Status Cut) → after.faults.read ≡ before.faults.read → after.faults.write ≡ before.faults.write
       → SessionFaultBy before.faults.input after.faults.input before.faults.puts after.faults.puts result → IfOk result IsOfSession
-      → FaultBy (Some (shell task)) (status_in result) before.faults after.faults
+      → FaultBy None (status_in result) before.faults after.faults
   session_fault (Ok status) read write fault kind = by_status status kind (λ i. record { read = read i; write = write i; input = fault.0 i; puts = fault.1 i })
     where
-      by_status : (s : Status) → IsOfSession s → NoFault before.faults after.faults → FaultBy (Some (shell task)) s before.faults after.faults
+      by_status : (s : Status) → IsOfSession s → NoFault before.faults after.faults → FaultBy None s before.faults after.faults
       by_status statuses.Done of_session none = none
       by_status statuses.TagsOut of_session none = none
       by_status statuses.TooLong of_session none = none
@@ -528,22 +529,49 @@ module _ {I : Type 0} (task : ShellTask) (before after : Outside I) where
   session_fault (Err cut.PutFailed) read write fault kind = record { read = read; write = write; input = fault.0; puts = fault.1 }
   session_fault (Err cut.Memory) read write fault kind = λ i. record { read = read i; write = write i; input = fault.0 i; puts = fault.1 i }
 
+  -- what the definition says of its start and of its end
+  obeyed_facts : (picture : Picture) (result : Result Status Cut) → (result ≡ Ok statuses.TagsOut → is_over_at_start task picture ≡ true)
+      → (is_over_at_start task picture ≡ true → after.input ≡ before.input)
+      → OnOk result (IfSome before.left (λ input. (told_of (setup_of task) picture input_limit input).end ≡ session_end.InputEnd → IsTrue after.closed))
+      → Obeyed task picture (status_in result) before after
+  obeyed_facts picture (Ok status) out unread closed = record { tags_out = λ e. out (ap ended e); unread = unread; whole = λ done. closed }
+    where
+      ended : Status → Result Status Cut
+      ended s = Ok s
+  obeyed_facts picture (Err broken) out unread closed = record {
+    tags_out = λ e. absurd (cut_not broken statuses.TagsOut e tt);
+    unread = unread;
+    whole = λ e. absurd (cut_not broken statuses.Done e tt);
+  }
+    where
+      cut_not : (why : Cut) (status : Status) → status_of_cut why ≡ status → IsFinal status → ⊥
+      cut_not cut.ReadFailed status e final = subst IsFinal (sym e) final
+      cut_not cut.WriteFailed status e final = subst IsFinal (sym e) final
+      cut_not cut.InputFailed status e final = subst IsFinal (sym e) final
+      cut_not cut.PutFailed status e final = subst IsFinal (sym e) final
+      cut_not cut.Memory status e final = subst IsFinal (sym e) final
+
   -- the lines are obeyed
   pub obeyed : (picture : Picture) (result : Result Status Cut) → IfSome (before.held task.image) (λ bytes. image_read bytes ≡ Ok picture)
       → IfSome before.left (λ lines. Does (outcome_of_lines task picture lines) before.taken after.taken result)
       → after.faults.read ≡ before.faults.read → after.faults.write ≡ before.faults.write
       → SessionFaultBy before.faults.input after.faults.input before.faults.puts after.faults.puts result
       → IfOk result IsOfSession → (result ≡ Ok statuses.TooLong → IfSome before.left IsLongInput)
-      → (result ≡ Ok statuses.TagsOut → after.input ≡ before.input) → LosesFront before.left after.left (input_limit + 4096)
+      → (result ≡ Ok statuses.TagsOut → is_over_at_start task picture ≡ true)
+      → (is_over_at_start task picture ≡ true → Does outcome_of_no_start before.taken after.taken result)
+      → (is_over_at_start task picture ≡ true → after.input ≡ before.input)
+      → OnOk result (IfSome before.left (λ input. (told_of (setup_of task) picture input_limit input).end ≡ session_end.InputEnd → IsTrue after.closed))
+      → LosesFront before.left after.left (input_limit + 4096)
       → after.held ≡ before.held → after.calls ≡ next_count before.calls → AnsweredBy (shell task) before after (status_in result)
-  obeyed picture result is does read write fault kind long unread moved held calls =
-      let side : OfSession task before after (status_in result) = session_side result fault kind long unread in
+  obeyed picture result is does read write fault kind long out no_start unread closed moved held calls =
+      let side : OfSession task before after (status_in result) = session_side result fault kind long (λ e. unread (out e)) in
       answers _ (Some (shell task)) result before after
-      (due_by_lines (λ outcome. Does outcome before.taken after.taken result) task (before.held task.image) before.left picture is does)
-      (session_fault result read write fault kind)
-      (λ words. absurd (side.words words)) (λ silent. absurd (side.silent silent)) (λ refused. absurd (side.refusal refused)) held
-      (facts_asked (shell task) (status_in result) before after calls (λ saves. saves) (λ e. absurd (side.bad e)) (λ e. absurd (side.source e))
+      (due_by_lines (λ outcome. Does outcome before.taken after.taken result) task (before.held task.image) before.left picture is does no_start)
+      (load_called (status_in result) before after held (shell task) (Ok picture) task.image refl is (λ all. tt) calls (session_fault result read write fault kind))
+      (λ words. absurd (side.words words)) (λ silent. absurd (side.silent silent)) (λ refused. absurd (side.refusal refused))
+      (facts_asked (shell task) (status_in result) before after (λ e. absurd (side.bad e)) (λ e. absurd (side.source e))
       (λ e. if_some_all (before.held task.image) _ (λ bytes. if_some_each before.left _ _ (λ lines past. inr past) (side.long e)))
+      (some_session task picture (status_in result) before after is (obeyed_facts picture result out unread closed))
       picture is moved side.unread (λ all. absurd all))
 
 -- ---- `asm`
@@ -558,17 +586,9 @@ module _ {I : Type 0} (task : AssembleTask) (before after : Outside I) where
   saving_ends (Err cut.PutFailed) done rose = absurd rose
   saving_ends (Err cut.Memory) done rose = inr refl
 
-  saving_fault : (result : Result Status Cut) → IfOk result (λ status. status ≡ statuses.Done)
-      → WriteRoseBy before.faults.write after.faults.write task.image result → after.faults.read ≡ before.faults.read
-      → after.faults.input ≡ before.faults.input → after.faults.puts ≡ before.faults.puts → FaultBy (Some (assemble task)) (status_in result) before.faults after.faults
-  saving_fault (Ok status) done rose read input puts =
-      subst (λ (ended : Status). FaultBy (Some (assemble task)) ended before.faults after.faults) (sym done)
-      (λ i. record { read = read i; write = rose i; input = input i; puts = puts i })
-  saving_fault (Err cut.ReadFailed) done rose read input puts = absurd rose
-  saving_fault (Err cut.WriteFailed) done rose read input puts = record { read = read; write = rose; input = input; puts = puts }
-  saving_fault (Err cut.InputFailed) done rose read input puts = absurd rose
-  saving_fault (Err cut.PutFailed) done rose read input puts = absurd rose
-  saving_fault (Err cut.Memory) done rose read input puts = λ i. record { read = read i; write = rose i; input = input i; puts = puts i }
+  -- no name but that of the image changes what it holds
+  abbrev OthersKept : Type 0
+  OthersKept = (other : List ℕ) → other ≢ task.image → after.held other ≡ before.held other
 
   abbrev SavesAll : Result Status Cut → Type 0
   SavesAll result = Does outcome_of_saving before.taken after.taken result
@@ -577,20 +597,24 @@ module _ {I : Type 0} (task : AssembleTask) (before after : Outside I) where
   saving_does (Ok status) done taken = record { puts = taken; ends = done }
   saving_does (Err cut) done taken = subst (λ (now : Taken). Does outcome_of_saving before.taken now (Err cut)) (sym taken) (does_nothing outcome_of_saving before.taken cut)
 
-  saving_held : (picture : Picture) (result : Result Status Cut) → IfSome (before.held task.source) (λ bytes. source_read bytes ≡ Ok picture)
+  saving_called : (picture : Picture) (result : Result Status Cut) → IfSome (before.held task.source) (λ bytes. source_read bytes ≡ Ok picture)
       → IfOk result (λ status. status ≡ statuses.Done) → OnOk result (after.held task.image ≡ then_some before.tells (spelling picture))
-      → OthersKept task.image before after → (result ≡ Err cut.Memory → after.held ≡ before.held)
-      → WriteRoseBy before.faults.write after.faults.write task.image result → HeldByAssembly task (status_in result) before after
-  saving_held picture (Ok status) taken done file others memory rose =
-      subst (λ (ended : Status). HeldByAssembly task ended before after) (sym done) (record {
-        file = if_some_each (before.held task.source) _ _ (λ bytes is. subst (λ (read : Result Picture Refusal). HoldsFile read before.tells (after.held task.image)) (sym is) file) taken;
-        others = others;
-      })
-  saving_held picture (Err cut.ReadFailed) taken done file others memory rose = absurd rose
-  saving_held picture (Err cut.WriteFailed) taken done file others memory rose = others
-  saving_held picture (Err cut.InputFailed) taken done file others memory rose = absurd rose
-  saving_held picture (Err cut.PutFailed) taken done file others memory rose = absurd rose
-  saving_held picture (Err cut.Memory) taken done file others memory rose = memory refl
+      → OthersKept → (result ≡ Err cut.Memory → after.held ≡ before.held)
+      → (status_in result ≢ statuses.Memory → after.calls ≡ next_count (next_count before.calls)) → AtMost 1 (next_count before.calls) after.calls
+      → WriteRoseBy before.faults.write after.faults.write task.image result → after.faults.read ≡ before.faults.read
+      → after.faults.input ≡ before.faults.input → after.faults.puts ≡ before.faults.puts → Called (Some (assemble task)) (status_in result) before after
+  saving_called picture (Ok status) is done file others memory calls at_most rose read input puts =
+      subst (λ (ended : Status). Called (Some (assemble task)) ended before after) (sym done)
+      (save_called task picture before after is file others (calls (λ e. let h : statuses.Done ≡ statuses.Memory = sym done ∙ e in cc))
+      (λ i. record { read = read i; write = rose i; input = input i; puts = puts i }))
+  saving_called picture (Err cut.ReadFailed) is done file others memory calls at_most rose read input puts = absurd rose
+  saving_called picture (Err cut.WriteFailed) is done file others memory calls at_most rose read input puts =
+      save_failed task picture before after is others (calls (λ e. let h : statuses.WriteFailed ≡ statuses.Memory = e in cc))
+      (record { read = read; write = rose; input = input; puts = puts })
+  saving_called picture (Err cut.InputFailed) is done file others memory calls at_most rose read input puts = absurd rose
+  saving_called picture (Err cut.PutFailed) is done file others memory calls at_most rose read input puts = absurd rose
+  saving_called picture (Err cut.Memory) is done file others memory calls at_most rose read input puts =
+      save_unmade task picture before after is (memory refl) at_most (λ i. record { read = read i; write = rose i; input = input i; puts = puts i })
 
   saving_words : (status : Status) → IsSaving status ⊎ (status ≡ statuses.Memory) → status ≡ statuses.BadWords → ⊥
   saving_words status (inl saving) e = subst IsSaving e saving
@@ -601,7 +625,7 @@ module _ {I : Type 0} (task : AssembleTask) (before after : Outside I) where
 
   -- the source was taken, and the file of its image is saved
   pub saved : (picture : Picture) (result : Result Status Cut) → IfSome (before.held task.source) (λ bytes. source_read bytes ≡ Ok picture)
-      → OnOk result (after.held task.image ≡ then_some before.tells (spelling picture)) → OthersKept task.image before after
+      → OnOk result (after.held task.image ≡ then_some before.tells (spelling picture)) → OthersKept
       → (result ≡ Err cut.Memory → after.held ≡ before.held) → IfOk result (λ status. status ≡ statuses.Done)
       → WriteRoseBy before.faults.write after.faults.write task.image result → after.faults.read ≡ before.faults.read
       → (result ≢ Err cut.Memory → after.calls ≡ next_count (next_count before.calls)) → AtMost 1 (next_count before.calls) after.calls
@@ -611,10 +635,9 @@ module _ {I : Type 0} (task : AssembleTask) (before after : Outside I) where
       let ends = saving_ends result done rose in
       answers _ (Some (assemble task)) result before after
       (due_by_saving (λ outcome. Does outcome before.taken after.taken result) task (before.held task.source) before.left picture is (saving_does result done taken))
-      (saving_fault result done rose read input_faults puts)
+      (saving_called picture result is done file others memory (λ not_memory. calls (saving_no_memory result not_memory)) at_most rose read input_faults puts)
       (λ words. absurd (saving_words (status_in result) ends words)) (λ silent. taken) (λ refused. ap (λ (now : Taken). now.out) taken)
-      (saving_held picture result is done file others memory rose)
-      (facts_saving task (status_in result) before after picture is ends (λ not_memory. calls (saving_no_memory result not_memory)) at_most input left)
+      (facts_saving task (status_in result) before after picture is ends input left)
 
 -- ---- `dis` and `load`
 
@@ -627,12 +650,12 @@ module _ {I : Type 0} (task : Task) (before after : Outside I) where
       → (PutsAs outcome result → IfSome (outcome_of_content task (content_of task before.held) before.left) (λ due. PutsAs due result))
       → ((err : Option (List ℕ)) → Does outcome (record { out = before.taken.out; err = err }) (record { out = after.taken.out; err = err }) result)
       → ((err : ℕ) → PutsFaultBy (record { out = before.faults.puts.out; err = err }) (record { out = after.faults.puts.out; err = err }) result)
-      → IfOk result IsOfRun → (Saves task (status_in result) → ⊥) → (ReadsAll task (status_in result) → ⊥)
+      → IfOk result IsOfRun → (FaultBy None (status_in result) before.faults after.faults → Called (Some task) (status_in result) before after) → (ReadsAll task (status_in result) → ⊥) → SessionFacts task (status_in result) before after
       → after.taken.err ≡ before.taken.err → after.faults.puts.err ≡ before.faults.puts.err
       → after.faults.read ≡ before.faults.read → after.faults.write ≡ before.faults.write → after.faults.input ≡ before.faults.input
-      → after.held ≡ before.held → after.calls ≡ count_after_load task before.calls → after.input ≡ before.input → after.left ≡ before.left
+      → after.input ≡ before.input → after.left ≡ before.left
       → AnsweredBy task before after (status_in result)
-  put_out outcome result due does faults kind not_saving not_all err err_faults read write input_faults held calls input left =
+  put_out outcome result due does faults kind called not_all session err err_faults read write input_faults input left =
       let told : PutsAs outcome result
       = subst (λ (now : Option (List ℕ)). Does outcome before.taken (record { out = after.taken.out; err = now }) result) (sym err) (does before.taken.err) in
       let counted : PutsFaultBy before.faults.puts after.faults.puts result
@@ -640,11 +663,10 @@ module _ {I : Type 0} (task : Task) (before after : Outside I) where
       let side : OfRun task (status_in result)
       = run_ends (OfRun task) before.faults.puts after.faults.puts result counted kind (of_run_is task) (put_failed_is task) (memory_is task) in
       answers _ (Some task) result before after (due told)
-      (puts_fault (Some task) before.faults after.faults result counted read write input_faults (run_quiet (Some task) before.faults after.faults result kind))
+      (called (puts_fault None before.faults after.faults result counted read write input_faults (run_quiet None before.faults after.faults result kind)))
       (λ words. absurd (side.words words)) (λ silent. absurd (side.silent silent)) (λ refused. absurd (side.refusal refused))
-      (kept task (status_in result) before after not_saving held)
-      (facts_unasked task (status_in result) before after calls not_saving (λ e. absurd (side.bad e)) (λ e. absurd (side.source e)) (λ e. absurd (side.long e))
-      input left not_all)
+      (facts_unasked task (status_in result) before after (λ e. absurd (side.bad e)) (λ e. absurd (side.source e)) (λ e. absurd (side.long e))
+      session input left not_all)
 
 -- a call that is done ends as a run may
 done_is : (result : Result Status Cut) → IfOk result (λ status. status ≡ statuses.Done) → IfOk result IsOfRun
@@ -660,10 +682,11 @@ module _ {I : Type 0} (task : DisassembleTask) (before after : Outside I) where
       → after.faults.read ≡ before.faults.read → after.faults.write ≡ before.faults.write → after.faults.input ≡ before.faults.input
       → after.held ≡ before.held → after.calls ≡ next_count before.calls → after.input ≡ before.input → after.left ≡ before.left
       → AnsweredBy (disassemble task) before after (status_in result)
-  listed picture result is does faults done =
+  listed picture result is does faults done err err_faults read write input_faults held calls =
       put_out (disassemble task) before after (outcome_of_listing picture) result
       (λ told. due_by_listing (λ outcome. Does outcome before.taken after.taken result) task (before.held task.image) before.left picture is told)
-      does faults (done_is result done) (λ saves. saves) (λ all. all)
+      does faults (done_is result done) (load_called (status_in result) before after held (disassemble task) (Ok picture) task.image refl is (λ all. tt) calls)
+      (λ all. all) tt err err_faults read write input_faults
 
 module _ {I : Type 0} (task : LoadTask) (before after : Outside I) where
   -- the workload ran
@@ -674,10 +697,11 @@ module _ {I : Type 0} (task : LoadTask) (before after : Outside I) where
       → after.faults.read ≡ before.faults.read → after.faults.write ≡ before.faults.write → after.faults.input ≡ before.faults.input
       → after.held ≡ before.held → after.calls ≡ before.calls → after.input ≡ before.input → after.left ≡ before.left
       → AnsweredBy (load task) before after (status_in result)
-  worked picture result is does faults kind =
+  worked picture result is does faults kind err err_faults read write input_faults held calls =
       put_out (load task) before after (outcome_of_load task picture) result
       (λ told. due_by_work (λ outcome. Does outcome before.taken after.taken result) task before.left picture is told)
-      does faults kind (λ saves. saves) (λ all. all)
+      does faults kind (none_called (status_in result) before after held (Some (load task)) (Ok picture) refl (sym is) (λ all. tt) calls)
+      (λ all. all) tt err err_faults read write input_faults
 
   -- its source is refused, or memory ran out
   pub work_ends : (end : EarlyEnd) (A : Type 0) (result : Result Status Cut)
@@ -697,8 +721,9 @@ module _ {I : Type 0} (task : LoadTask) (before after : Outside I) where
       subst (λ (done : Result Status Cut). AnsweredBy (load task) before after (status_in done)) (sym ends.ends)
       (subst (λ (cause : Cut). AnsweredBy (load task) before after (status_of_cut cause)) (sym (memory why refl))
       (file_cut (load task) before after cut.Memory tt
-      (λ i. record { read = read i; write = write i; input = input_faults i; puts = record { out = out_faults i; err = ends.faults i } })
-      (λ i. record { out = out i; err = ends.err i }) held calls input left))
+      (none_called statuses.Memory before after held (Some (load task)) (source_read (source_of_workload task.count)) refl refl (λ all. absurd all) calls
+      (λ i. record { read = read i; write = write i; input = input_faults i; puts = record { out = out_faults i; err = ends.faults i } }))
+      (λ i. record { out = out i; err = ends.err i }) input left))
 
 -- ---- words
 
@@ -722,23 +747,19 @@ module _ {I : Type 0} (words : List (List ℕ)) (before after : Outside I) where
       asked_as None (status_in result) is
       (answers _ None result before after
       (beside (Does (refused_outcome refusals.BadWords)) before.taken after.taken out result tells.does)
-      (puts_fault None before.faults after.faults result faults read write input_faults (refusal_quiet None before.faults after.faults refusals.BadWords result tells.status))
+      (none_called (status_in result) before after held None (Err refusals.BadWords) refl refl (told_as refusals.BadWords before.faults.puts after.faults.puts result faults tells.status) calls
+      (puts_fault None before.faults after.faults result faults read write input_faults (refusal_quiet None before.faults after.faults refusals.BadWords result tells.status)))
       (λ words. refl)
       (λ silent. absurd (refusal_ends (λ (ended : Status). IsSilent None ended → ⊥) refusals.BadWords before.faults.puts after.faults.puts result faults tells.status (refusal_is_told None refusals.BadWords) (λ no. no) (λ no. no) silent))
-      (λ refused. out) held (record { calls = calls; input = input }))
+      (λ refused. out) input)
 
 -- memory ran out before they were read
 none_asked : {I : Type 0} (asked : Option Task) (before : Outside I) → TaskFacts asked statuses.Memory before before
-none_asked None before = record { calls = refl; input = refl }
+none_asked None before = refl
 none_asked (Some task) before = facts_none task before
-
-none_held : {I : Type 0} (asked : Option Task) (before : Outside I) → HeldBy asked statuses.Memory before before
-none_held None before = refl
-none_held (Some task) before = kept task statuses.Memory before before (λ saves. saving_is task statuses.Memory saves) refl
 
 pub words_unread : {I : Type 0} (due : Option Outcome) (asked : Option Task) (before : Outside I) → Answers due asked statuses.Memory before before
 words_unread due asked before =
     answers due asked (Err cut.Memory) before before
-    (if_some_all due _ (λ outcome. does_nothing outcome before.taken cut.Memory)) refl
-    (λ words. absurd (let h : statuses.Memory ≡ statuses.BadWords = words in cc)) (λ silent. absurd silent) (λ refused. absurd refused) (none_held asked before)
-    (none_asked asked before)
+    (if_some_all due _ (λ outcome. does_nothing outcome before.taken cut.Memory)) (unread_called asked before)
+    (λ words. absurd (let h : statuses.Memory ≡ statuses.BadWords = words in cc)) (λ silent. absurd silent) (λ refused. absurd refused) (none_asked asked before)

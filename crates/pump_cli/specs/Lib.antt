@@ -1,8 +1,10 @@
+pub mod Calls
 pub mod Codes
 pub mod Cuts
 pub mod Early
 pub mod Endings
 pub mod Facts
+pub mod ListedBack
 pub mod Outsides
 pub mod Program
 pub mod Reading

@@ -1,5 +1,5 @@
 -- The program: what it writes and its status, from the words, what the files hold and what the input gives.
-use Rattle.std.specs.Prelude.{ℕ, ◌+◌, ◌*◌, ◌==◌, true, List, [], ◌∷◌, ◌++◌, Option, Some, None, Result, Ok, Err, if◌then◌else◌}
+use Rattle.std.specs.Prelude.{ℕ, ◌+◌, ◌*◌, ◌==◌, Bool, true, List, [], ◌∷◌, ◌++◌, Option, Some, None, Result, Ok, Err, if◌then◌else◌}
 use Rattle.image_format.specs.Picture.{Picture}
 use Rattle.host_io.specs.Pieces.{err, out}
 use Rattle.tag_text.specs.Texts.{line}
@@ -12,7 +12,7 @@ use Rattle.policy_choice.specs.declared.choice.Choice.{Choice}
 use Rattle.rounds.specs.Course.{Course, hart_stops, rounds}
 use Rattle.pump_loader.specs.PlainLoads.{start_of}
 use Rattle.pump_loader.specs.Loads.{cached_start_of}
-use Rattle.pump_shell.specs.Told.{Told, told_of}
+use Rattle.pump_shell.specs.Told.{Told, out_at_start as none_obeyed, start_of_setup, told_of}
 use Rattle.pump_shell.specs.declared.ends.SessionEnd.{SessionEnd}
 use Rattle.pump_shell.specs.declared.ends.SessionEnd.TheVariants as session_end
 use Rattle.pump_shell.specs.declared.setup.Setup.{Setup}
@@ -89,9 +89,17 @@ outcome_of_told told = record { pieces = told.pieces ++ (outcome_of_end told.end
 unfoldable pub outcome_of_lines : ShellTask → Picture → List ℕ → Outcome
 outcome_of_lines task picture input = outcome_of_told (told_of (setup_of task) picture input_limit input)
 
--- a session on an input whose bytes are not told has its outcome unsaid too
+-- the start of a session needs more tag words than there may be
+abbrev pub is_over_at_start : ShellTask → Picture → Bool
+is_over_at_start task picture = is_over (start_of_setup (setup_of task) picture).account
+
+-- such a start ends the session whatever the input is
+abbrev pub outcome_of_no_start : Outcome
+outcome_of_no_start = outcome_of_told none_obeyed
+
+-- else an input whose bytes are not told leaves the outcome unsaid too
 abbrev pub outcome_of_session : ShellTask → Picture → Option (List ℕ) → Option Outcome
-outcome_of_session task picture None = None
+outcome_of_session task picture None = if is_over_at_start task picture then Some outcome_of_no_start else None
 outcome_of_session task picture (Some input) = Some (outcome_of_lines task picture input)
 
 -- ---- `asm` and `dis`

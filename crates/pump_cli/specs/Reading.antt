@@ -1,5 +1,5 @@
 -- What is read: the file of an image or of a source, and the whole input, each within its limit.
-use Rattle.std.specs.Prelude.{ℕ, nat_le, List, length, Option, Some, None, Result, Ok, Err, if◌then◌else◌}
+use Rattle.std.specs.Prelude.{ℕ, nat_le, List, length, Option, Some, Result, Ok, Err, if◌then◌else◌}
 use Rattle.image_format.specs.Picture.{Picture}
 use Rattle.image_format.specs.Reading.{image_of}
 use Rattle.image_format.specs.declared.errors.ImageError.{ImageError}
@@ -44,14 +44,6 @@ image_read bytes = file_as (λ file. image_or_refusal (image_of file)) (within_l
 -- the image that a source of these bytes is assembled to, or why there is none
 unfoldable pub source_read : List ℕ → Result Picture Refusal
 source_read bytes = file_as (λ file. source_or_refusal (image_of_source file)) (within_limit file_limit bytes)
-
--- the file that a task loads, if it loads one
-abbrev pub file_in : Task → Option (List ℕ)
-file_in (run task) = Some task.image
-file_in (shell task) = Some task.image
-file_in (assemble task) = Some task.source
-file_in (disassemble task) = Some task.image
-file_in (load task) = None
 
 -- the bytes that a task's image is made from, where they are told: those of its file, or the source of a workload
 abbrev pub content_of : Task → (List ℕ → Option (List ℕ)) → Option (List ℕ)

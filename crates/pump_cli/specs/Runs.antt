@@ -1,10 +1,11 @@
--- The runs of the machine that the program's definition makes, and that they are safe.
-use Rattle.std.specs.Prelude.{◌≡◌, ℕ, ◌<◌, nat_lt, List, [], ◌++◌, length, take, Option, Some, None, Result, Ok, Err, if◌then◌else◌, slice_index}
+-- The runs of the machine that the program's definition makes: that they are safe, and how they end.
+use Rattle.std.specs.Prelude.{◌≡◌, ℕ, nat_lt, true, List, [], ◌++◌, length, take, Option, Some, None, Result, Ok, Err, if◌then◌else◌}
 use Rattle.image_format.specs.Picture.{Picture}
 use Rattle.engine_trait.specs.Events.{Event}
 use Rattle.engine_trait.specs.Runs.{Item}
 use Rattle.policy_choice.specs.All.{AllTag, all, all_eq}
 use Rattle.policy_choice.specs.declared.choice.Choice.{Choice}
+use Rattle.rounds.specs.Course.{hart_stops}
 use Rattle.run_props.specs.Safe.{IsSafe, run_of}
 use Rattle.shell_lang.specs.Grammar.{Answer}
 use Rattle.shell_run.specs.Session.{fresh}
@@ -12,8 +13,10 @@ use Rattle.shell_script.specs.Scripts.{items_along}
 use Rattle.shell_script.specs.Shell.{last_in, lines_in}
 use Rattle.pump_shell.specs.Told.{start_of_setup}
 use Rattle.pump_line.specs.Task.{RunTask, ShellTask, Task, assemble, disassemble, load, run, shell, task_of}
+use Rattle.pump_cli.specs.Endings.{has_any, is_out}
 use Rattle.pump_cli.specs.Program.{course_of_run, run_of_load, setup_of}
 use Rattle.pump_cli.specs.Reading.{content_of, content_read, input_limit, input_read}
+use Rattle.pump_cli.specs.declared.ending.Kind.TheVariants.{Ready}
 use Rattle.pump_cli.specs.declared.refusal.Refusal.{Refusal}
 
 -- the chosen policies, the image, and the events of the turns that were made
@@ -47,10 +50,11 @@ run_after_lines task picture lines =
 
 -- ---- what holds of each of them, where what they rest on is told
 
-module _ (Holds : Run → Type 0) where
+-- what is to hold of a run on the bytes that it is fed, and of a session that obeys an input
+module _ (Ran : RunTask → Picture → List ℕ → Type 0) (Obeyed : ShellTask → Picture → List ℕ → Type 0) where
   -- of the run on these bytes; where the input is refused there is none
   abbrev pub AfterFed : RunTask → Picture → Result (List ℕ) Refusal → Type 0
-  AfterFed task picture (Ok fed) = Holds (run_of_fed task picture fed)
+  AfterFed task picture (Ok fed) = Ran task picture fed
   AfterFed task picture (Err refusal) = Unit {0}
 
   -- of the run on this input; nothing is said where it is not told
@@ -58,11 +62,10 @@ module _ (Holds : Run → Type 0) where
   AfterInput task picture None = Unit {0}
   AfterInput task picture (Some input) = AfterFed task picture (input_read input)
 
-  -- after each front of the lines
+  -- of the session over this input, with the same
   abbrev pub AfterLines : ShellTask → Picture → Option (List ℕ) → Type 0
   AfterLines task picture None = Unit {0}
-  AfterLines task picture (Some input) =
-      (front rest : List Answer) → front ++ rest ≡ lines_of input → Holds (run_after_lines task picture front)
+  AfterLines task picture (Some input) = Obeyed task picture input
 
   -- a case for each subcommand; `asm` and `dis` make no run
   abbrev pub AfterPicture : Task → Picture → Option (List ℕ) → Type 0
@@ -70,7 +73,7 @@ module _ (Holds : Run → Type 0) where
   AfterPicture (shell task) picture input = AfterLines task picture input
   AfterPicture (assemble task) picture input = Unit {0}
   AfterPicture (disassemble task) picture input = Unit {0}
-  AfterPicture (load task) picture input = Holds (run_of_fed (run_of_load task) picture [])
+  AfterPicture (load task) picture input = Ran (run_of_load task) picture []
 
   -- where the content is refused no run is made
   abbrev pub AfterImage : Task → Result Picture Refusal → Option (List ℕ) → Type 0
@@ -87,12 +90,35 @@ module _ (Holds : Run → Type 0) where
   AfterWords None held input = Unit {0}
   AfterWords (Some task) held input = AfterContent task (content_of task held) input
 
+module _ (Holds : Run → Type 0) where
+  abbrev pub HoldsOfRun : RunTask → Picture → List ℕ → Type 0
+  HoldsOfRun task picture fed = Holds (run_of_fed task picture fed)
+
+  -- after each front of the lines
+  abbrev pub HoldsOfLines : ShellTask → Picture → List ℕ → Type 0
+  HoldsOfLines task picture input = (front rest : List Answer) → front ++ rest ≡ lines_of input → Holds (run_after_lines task picture front)
+
 -- Of each run that the words ask for: of `run` and `load` the one, of `shell` those that a session has made after each of its
 -- lines, each since the start or the last reset. The files' content by name, and the bytes of the input, are known where they are
 -- told.
 unfoldable pub EachRun : (Run → Type 0) → List (List ℕ) → (List ℕ → Option (List ℕ)) → Option (List ℕ) → Type 0
-EachRun Holds words held input = AfterWords Holds (task_of words) held input
+EachRun Holds words held input = AfterWords (HoldsOfRun Holds) (HoldsOfLines Holds) (task_of words) held input
 
--- what files tell are bytes
-abbrev pub TellBytes : (List ℕ → Option (List ℕ)) → Type 0
-TellBytes held = (name bytes : List ℕ) → held name ≡ Some bytes → (i : ℕ) → slice_index bytes i < 256
+-- ---- how a run ended
+
+-- as many turns were made and counted as the task's limit says, and some hart has no stop
+pub record IsSpent (task : RunTask) (picture : Picture) (fed : List ℕ) : Type 0 where
+  pub turns : length (course_of_run task picture fed).order ≡ task.turns
+  pub ready : has_any Ready (hart_stops (course_of_run task picture fed).standing.machine.core) ≡ true
+
+-- the engine ran out of tag words, in a turn or at the start
+abbrev pub IsOut : RunTask → Picture → List ℕ → Type 0
+IsOut task picture fed = is_out (course_of_run task picture fed).standing.account.halt ≡ true
+
+-- nothing is said of a session
+abbrev pub AnySession : ShellTask → Picture → List ℕ → Type 0
+AnySession task picture input = Unit {0}
+
+-- of the run that `run` or `load` asks for, where what it rests on is told
+unfoldable pub TheRun : (RunTask → Picture → List ℕ → Type 0) → List (List ℕ) → (List ℕ → Option (List ℕ)) → Option (List ℕ) → Type 0
+TheRun Ran words held input = AfterWords Ran AnySession (task_of words) held input

@@ -3,9 +3,10 @@ use Rattle.std.specs.Prelude.{◌≡◌, ◌≢◌, Option, None, IfSome}
 use Rattle.host_io.specs.Outside.{Outside}
 use Rattle.host_io.specs.Pieces.{PutsFront}
 use Rattle.pump_line.specs.Task.{Task}
+use Rattle.pump_cli.specs.Calls.{CallsMade, FaultBy, HeldAfter}
 use Rattle.pump_cli.specs.Codes.{IsFinal, IsOfRefusal, IsSilent}
 use Rattle.pump_cli.specs.Endings.{Outcome}
-use Rattle.pump_cli.specs.Facts.{AllStayed, FaultBy, Finishes, HeldBy, TaskFacts}
+use Rattle.pump_cli.specs.Facts.{AllStayed, Finishes, TaskFacts}
 use Rattle.pump_cli.specs.declared.status.Status.{Status}
 use Rattle.pump_cli.specs.declared.status.Status.TheVariants.{BadWords, Memory}
 
@@ -18,15 +19,18 @@ pub record Answers {I : Type 0} (due : Option Outcome) (task : Option Task) (sta
   pub front : IfSome due (λ outcome. PutsFront before.taken after.taken outcome.pieces)
   -- Where no count of faults rose, nothing but want of memory stands in the way of that.
   pub complete : AllStayed before.faults after.faults → status ≢ Memory → IsFinal status
+  -- Of the calls on files that the task makes a front was made, and no other call.
+  pub calls : CallsMade task status before after
   -- Where a count rose the status is that count's: no fault is passed over, and none is made up.
-  pub faults : FaultBy task status before.faults after.faults
+  pub faults : FaultBy calls.broken status before.faults after.faults
   -- Words are refused for themselves alone.
   pub bad_words : status ≡ BadWords → task ≡ None
   -- Nothing is put where the load or the save failed, or where a read of the input failed that comes before anything else, and
   -- nothing on standard output where something was refused then.
   pub silent : IsSilent task status → after.taken ≡ before.taken
   pub no_out : IsOfRefusal task status → after.taken.out ≡ before.taken.out
-  -- No name changes what it holds but the one that `asm` saves, which holds the file of its source's image.
-  pub held : HeldBy task status before after
-  -- What the subcommand does to files and to the input.
+  -- Each name holds what these calls left there, and nothing is saved where memory ran out.
+  pub held : HeldAfter calls.done calls.broken status before after
+  pub unsaved : status ≡ Memory → after.held ≡ before.held
+  -- Why the task is refused, and what is done to the input.
   pub asked : TaskFacts task status before after

@@ -1,13 +1,18 @@
 //! The program, from the words, the files, the input and the two sinks to its status.
 
-ghost use Rattle.std.specs.Prelude.{◌≡◌, ◌≤◌, Some};
+ghost use Rattle.std.specs.Prelude.{◌≡◌, ℕ, ◌≤◌, List, Option, Some, Ok};
+ghost use Rattle.host_io.specs.Bytes.{AreBytes, TellBytes};
+ghost use Rattle.image_format.specs.Picture.{Picture};
 ghost use Rattle.workload_laws.specs.Images.{image_of_workload};
-ghost use Rattle.pump_line.specs.Task.{AllowsTags, LoadTask, load, run, shell, task_of};
+ghost use Rattle.pump_line.specs.Request.{DisassembleTask};
+ghost use Rattle.pump_line.specs.Task.{AllowsTags, LoadTask, disassemble, load, run, shell, task_of};
 ghost use Rattle.pump_line.specs.Told.{run_value, shell_value, texts_of, task_value};
 ghost use Rattle.pump_cli.specs.Facts.{status_in};
+ghost use Rattle.pump_cli.specs.ListedBack.{ListsBack};
 ghost use Rattle.pump_cli.specs.Outsides.{outside};
 ghost use Rattle.pump_cli.specs.Program.{outcome_of_content, outcome_of_load, outcome_of_task, program};
-ghost use Rattle.pump_cli.specs.Runs.{EachRun, IsSafeRun, TellBytes};
+ghost use Rattle.pump_cli.specs.Reading.{image_read};
+ghost use Rattle.pump_cli.specs.Runs.{EachRun, IsOut, IsSafeRun, IsSpent, TheRun};
 ghost use Rattle.pump_cli.specs.Theorem.{Answers};
 
 use crate::cut::Cut;
@@ -148,13 +153,20 @@ fn run_words<F: Files, S: Source, K: Sink, L: Sink>(
 /// may be kept, a run ends at the turn that would give words to more tags than may have them. `Answers` (specs/Theorem.antt) has
 /// the whole promise, fact by fact.
 ///
+/// A run whose turns are spent made as many as its limit says, and left a hart that is ready (`spent`); one that ends out of tag
+/// words ran out of them (`tags_out`), as does the start of a session (`Obeyed`, specs/Facts.antt).
+///
 /// `load` makes the source of a workload itself, runs its image under every policy on no input, and tells in one line on standard
 /// output how many turns, hits and misses there were, and its status. What is due of it is that line alone, whatever files and
 /// input hold (`loads`): the source of each workload that words can ask for is assembled, so none is refused.
 ///
-/// In such a run, and in each run that a session makes, the sentence of each chosen policy holds (`safe`): every unsealing used its
-/// key, every indirect jump is a listed edge, every store lies in its compartment's permitted words, every heap access in its
-/// pointer's live block.
+/// What `dis` lists assembles back (`lists`): where the file holds an image, whatever bytes it has, a line is due for each of the
+/// image's words, with its address, the word, and a text that the assembler reads as a statement which emits just that word there.
+///
+/// In such a run, and in each run that a session makes, the sentence of each chosen policy holds, whatever bytes the files hold and
+/// the input gives (`safe`), and so at those that these files and this input tell of (`safe_here`): every unsealing used its key,
+/// every indirect jump is a listed edge, every store lies in its compartment's permitted words, every heap access in its pointer's
+/// live block.
 pub fn pump<F: Files, S: Source, K: Sink, L: Sink>(
     alloc: Global,
     words: &Vec<String>,
@@ -170,11 +182,22 @@ pub fn pump<F: Files, S: Source, K: Sink, L: Sink>(
         K.taken K.faults L.taken L.faults files.old input.old out.old err.old)
         (outside F.tells F.held F.read_faults F.write_faults F.calls S.left S.closed S.faults
         K.taken K.faults L.taken L.faults files.new input.new out.new err.new) }
-    ensures safe { TellBytes (F.held files.old)
-        → EachRun IsSafeRun (texts_of words.now.items) (F.held files.old) (S.left input.old) }
+    ensures safe { (held : List ℕ → Option (List ℕ)) (left : Option (List ℕ)) → TellBytes held
+        → EachRun IsSafeRun (texts_of words.now.items) held left }
+    ensures safe_here { EachRun IsSafeRun (texts_of words.now.items)
+        (F.held files.old) (S.left input.old) }
+    ensures spent { result ≡ Status.TurnsSpent → TheRun IsSpent (texts_of words.now.items)
+        (F.held files.old) (S.left input.old) }
+    ensures tags_out { result ≡ Status.TagsOut → TheRun IsOut (texts_of words.now.items)
+        (F.held files.old) (S.left input.old) }
     ensures loads { (task : LoadTask) → task_of (texts_of words.now.items) ≡ Some (load task)
         → program (texts_of words.now.items) (F.held files.old) (S.left input.old)
         ≡ Some (outcome_of_load task (image_of_workload task.count)) }
+    ensures lists { (task : DisassembleTask) (picture : Picture) (bytes : List ℕ)
+        (held : List ℕ → Option (List ℕ)) (left : Option (List ℕ)) → AreBytes bytes
+        → task_of (texts_of words.now.items) ≡ Some (disassemble task)
+        → held task.image ≡ Some bytes → image_read bytes ≡ Ok picture
+        → ListsBack picture (program (texts_of words.now.items) held left) }
 {
     match run_words(alloc, words, files, input, out, err) {
         Ok(status) => status,

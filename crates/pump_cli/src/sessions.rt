@@ -1,12 +1,13 @@
 //! A session of the monitor shell, from the image on.
 
-ghost use Rattle.std.specs.Prelude.{◌≡◌, ℕ, List, Option, ◌+◌, ◌≤◌, IfOk, IfSome, Ok};
+ghost use Rattle.std.specs.Prelude.{◌≡◌, ℕ, List, Option, ◌+◌, ◌≤◌, IfOk, IfSome, IsTrue, Ok, OnOk, true};
 ghost use Rattle.host_io.specs.Fronts.{LosesFront};
+ghost use Rattle.pump_shell.specs.Told.{told_of};
 ghost use Rattle.pump_line.specs.Told.{shell_value};
 ghost use Rattle.pump_cli.specs.Codes.{IsOfSession};
 ghost use Rattle.pump_cli.specs.Early.{SessionFaultBy};
 ghost use Rattle.pump_cli.specs.Facts.{Does, IsLongInput, PutsFaultBy};
-ghost use Rattle.pump_cli.specs.Program.{outcome_of_end, outcome_of_lines};
+ghost use Rattle.pump_cli.specs.Program.{is_over_at_start, outcome_of_end, outcome_of_lines, outcome_of_no_start, setup_of};
 ghost use Rattle.pump_cli.specs.Reading.{input_limit};
 
 use crate::cut::Cut;
@@ -59,7 +60,19 @@ pub(crate) fn obey_lines<S: Source, K: Sink, L: Sink>(
         (record { out = K.faults out.new; err = L.faults err.new }) result }
     ensures kind { IfOk result IsOfSession }
     ensures long { result ≡ Ok Status.TooLong → IfSome (S.left input.old) IsLongInput }
-    ensures unread { result ≡ Ok Status.TagsOut → input.new ≡ input.old }
+    // A start that is out of tag words, whatever the input is.
+    ensures tags_out { result ≡ Ok Status.TagsOut
+        → is_over_at_start (shell_value task.entry) image.now ≡ true }
+    ensures no_start { is_over_at_start (shell_value task.entry) image.now ≡ true
+        → Does outcome_of_no_start
+        (record { out = K.taken out.old; err = L.taken err.old })
+        (record { out = K.taken out.new; err = L.taken err.new }) result }
+    ensures unread { is_over_at_start (shell_value task.entry) image.now ≡ true
+        → input.new ≡ input.old }
+    // A session that ended with its input has read it to its end.
+    ensures closed { OnOk result (IfSome (S.left input.old) (λ bytes.
+        (told_of (setup_of (shell_value task.entry)) image.now input_limit bytes).end
+        ≡ SessionEnd.InputEnd → IsTrue (S.closed input.new))) }
     ensures moved { LosesFront (S.left input.old) (S.left input.new) (input_limit + 4096) }
 {
     let setup = Setup {

@@ -1,5 +1,5 @@
 -- What an answer of the rules leaves, in the words of the engine's state.
-use Rattle.std.proofs.Common.{◌≡◌, ℕ, ◌<◌, ◌≤◌, ◌==◌, Bool, true, false, List, [], ◌∷◌, Result, Ok, Err, IfErr, IfOk, IsOk, IsOkAnd, OnErr, OnOk, length, refl, sym, ap, ◌∙◌, is_some, subst, if◌then◌else◌}
+use Rattle.std.proofs.Common.{◌≡◌, ℕ, ◌<◌, ◌≤◌, ◌==◌, Bool, true, false, nat_lt, List, [], ◌∷◌, Result, Ok, Err, IfErr, IfOk, IsOk, IsOkAnd, OnErr, OnOk, length, refl, sym, ap, ◌∙◌, is_some, subst, if◌then◌else◌}
 use Rattle.std.proofs.lemmas.Bool.{le-ltb, lt-ltb}
 use Rattle.policy_trait.specs.Model.{PolicyModel}
 use Rattle.policy_trait.specs.declared.rules.Outs.{Outs}
@@ -20,6 +20,11 @@ use Rattle.pump_engine.specs.Steps.{Allows, Unanswered, answer_in, key_in, looke
 use Rattle.pump_engine.proofs.LowLemmas.{ins_same}
 use Rattle.pump_engine.proofs.StayLemmas.{decode_grown, machine_grown, pump_grown}
 
+-- an answer of which something holds is one
+ok_where : {A E : Type 0} (answer : Result A E) (P : A → Type 0) → IsOkAnd answer P → IsOk answer
+ok_where (Ok x) P is = refl
+ok_where (Err why) P is = absurd is
+
 -- ---- accounts
 
 -- what both cases of a test have
@@ -37,18 +42,26 @@ module _ {T : Type 0} (eq : T → T → Bool) (key : Key T) where
   ruled_leaves : {B : Type 0} (f : Account T → B) (answer : Result (Outs T) Refused) (a : Account T)
       → ((seen : List T) → f (record (keeping eq key a) { seen = seen }) ≡ f a) → f (keeping eq key a) ≡ f a → f (rule_kept eq key answer a) ≡ f a
   ruled_leaves f (Ok outs) a seen kept =
-      in_both f (a.capacity == 0) (keeping eq key a) (record (keeping eq key a) { seen = with_tags eq a.seen (outs.pc ∷ outs.result ∷ []) }) (f a) kept (seen _)
+      in_both f (a.ways == 0) (keeping eq key a) (record (keeping eq key a) { seen = with_tags eq a.seen (outs.pc ∷ outs.result ∷ []) }) (f a) kept (seen _)
   ruled_leaves f (Err why) a seen kept = refl
 
-  -- outputs that need too many words
-  over_by : (tags : List T) (limit : ℕ) (a : Account T) → a.seen ≡ tags → a.limit ≡ limit → 1 ≤ a.capacity → (answer : Result (Outs T) Refused)
-      → IsOkAnd answer (λ outs. limit < length (with_tags eq tags (outs.pc ∷ outs.result ∷ []))) → is_over (rule_kept eq key answer a) ≡ true
-  over_by tags limit a seen_is limit_is some (Ok outs) over =
-      ap (λ is_none. is_over (if is_none then keeping eq key a else record (keeping eq key a) { seen = with_tags eq a.seen (outs.pc ∷ outs.result ∷ []) })) (keeps_some a.capacity some)
-      ∙ ap (λ (n : ℕ). is_over (record a { limit = n; seen = with_tags eq a.seen (outs.pc ∷ outs.result ∷ []) })) limit_is
-      ∙ ap (λ (seen : List T). is_over (record a { limit = limit; seen = with_tags eq seen (outs.pc ∷ outs.result ∷ []) })) seen_is
-      ∙ lt-ltb limit (length (with_tags eq tags (outs.pc ∷ outs.result ∷ []))) over
-  over_by tags limit a seen_is limit_is some (Err why) over = absurd over
+  -- whether outputs need too many words
+  module _ (tags : List T) (limit : ℕ) (a : Account T) (seen_is : a.seen ≡ tags) (limit_is : a.limit ≡ limit) (some : 1 ≤ a.ways) where
+    ruled_over : (outs : Outs T) → is_over (rule_kept eq {E = Refused} key (Ok outs) a) ≡ nat_lt limit (length (with_tags eq tags (outs.pc ∷ outs.result ∷ [])))
+    ruled_over outs =
+        ap (λ is_none. is_over (if is_none then keeping eq key a else record (keeping eq key a) { seen = with_tags eq a.seen (outs.pc ∷ outs.result ∷ []) })) (keeps_some a.ways some)
+        ∙ ap (λ (n : ℕ). is_over (record a { limit = n; seen = with_tags eq a.seen (outs.pc ∷ outs.result ∷ []) })) limit_is
+        ∙ ap (λ (seen : List T). is_over (record a { limit = limit; seen = with_tags eq seen (outs.pc ∷ outs.result ∷ []) })) seen_is
+
+    over_by : (answer : Result (Outs T) Refused) → IsOkAnd answer (λ outs. limit < length (with_tags eq tags (outs.pc ∷ outs.result ∷ [])))
+        → is_over (rule_kept eq key answer a) ≡ true
+    over_by (Ok outs) over = ruled_over outs ∙ lt-ltb limit (length (with_tags eq tags (outs.pc ∷ outs.result ∷ []))) over
+    over_by (Err why) over = absurd over
+
+    fits_by : (answer : Result (Outs T) Refused) → IsOkAnd answer (λ outs. length (with_tags eq tags (outs.pc ∷ outs.result ∷ [])) ≤ limit)
+        → is_over (rule_kept eq key answer a) ≡ false
+    fits_by (Ok outs) fits = ruled_over outs ∙ le-ltb limit (length (with_tags eq tags (outs.pc ∷ outs.result ∷ []))) fits
+    fits_by (Err why) fits = absurd fits
 
 -- ---- the clauses of `ask`
 
@@ -70,24 +83,26 @@ module _ {S T : Type 0} (eq : T → T → Bool) (m : PolicyModel T S) (p : PumpS
         → Tells (m.plain s) table store (looked_up eq (tag_key (rulebook_of m s) p.table.tags look.group look.inputs) account))
     pub tags_out : answered ≡ Err ask_end.TagsOut → IsOkAnd (answer_on (rulebook_of m s) p.table.tags look.group look.inputs)
         (λ outs. p.table.limit < length (with_tags eq p.table.tags (outs.pc ∷ outs.result ∷ [])))
+    pub memory : answered ≡ Err ask_end.Memory → IsOkAnd (answer_on (rulebook_of m s) p.table.tags look.group look.inputs)
+        (λ outs. length (with_tags eq p.table.tags (outs.pc ∷ outs.result ∷ [])) ≤ p.table.limit)
     pub within : length table.tags ≤ table.limit
     pub extends : Extends p.table.tags table.tags
     pub hit : is_some (lookup_of (word_key (rulebook_of m s) look.group look.inputs) p.store) ≡ true → IsOk answered
     pub told : (account : Account T) → Tells (m.plain s) p.table p.store account
         → is_kept eq (tag_key (rulebook_of m s) p.table.tags look.group look.inputs) account ≡ is_some (lookup_of (word_key (rulebook_of m s) look.group look.inputs) p.store)
-    pub rules : AreRules (rulebook_of m s) table.tags store.kept
+    pub rules : AreRules (rulebook_of m s) table.tags store.sets
 
   module _ (is : IsPump m p) where
     tells_own : Tells (m.plain p.policy) p.table p.store (account_by_words m p)
-    tells_own = record { seen = refl; limit = refl; room = is.room; rules = record { kept = refl; capacity = refl; hits = refl; misses = refl } }
+    tells_own = record { seen = refl; limit = refl; room = is.room; rules = record { sets = refl; ways = refl; hits = refl; misses = refl } }
 
     -- the account that the table and the store tell, and the turns and the halt as they were
     account_told : (account : Account T) → Tells (m.plain p.policy) table store account → account.turns ≡ p.turns → account.halt ≡ p.halt → account_by_words m asked ≡ account
     account_told account tells turns_are halt_is = λ j. record {
       seen = sym tells.seen j;
       limit = sym tells.limit j;
-      kept = sym tells.rules.kept j;
-      capacity = sym tells.rules.capacity j;
+      sets = sym tells.rules.sets j;
+      ways = sym tells.rules.ways j;
       turns = sym turns_are j;
       hits = sym tells.rules.hits j;
       misses = sym tells.rules.misses j;
@@ -106,7 +121,7 @@ module _ {S T : Type 0} (eq : T → T → Bool) (m : PolicyModel T S) (p : PumpS
     ruled_halt : (ruled_in eq m p look).halt ≡ p.halt
     ruled_halt = ruled_leaves eq (key_in eq m p look) (λ account. account.halt) (answer_in eq m p look) (looked_in eq m p look) (λ seen. refl) refl ∙ looked_halt
 
-    room_by : (answered : Result (Outs ℕ) AskEnd) → IsAsked p.policy answered → 1 ≤ store.capacity
+    room_by : (answered : Result (Outs ℕ) AskEnd) → IsAsked p.policy answered → 1 ≤ store.ways
     room_by (Ok outs) asks = (asks.kept (account_by_words m p) tells_own).room
     room_by (Err end) asks = (asks.unkept (account_by_words m p) tells_own).room
 
@@ -114,13 +129,25 @@ module _ {S T : Type 0} (eq : T → T → Bool) (m : PolicyModel T S) (p : PumpS
     pub pump_asked : (answered : Result (Outs ℕ) AskEnd) → IsAsked p.policy answered → IsPump m asked
     pump_asked answered asks = pump_grown m p asked is refl refl asks.extends asks.within (room_by answered asks) asks.rules
 
+    looked_seen : (looked_in eq m p look).seen ≡ p.table.tags
+    looked_seen = looked_leaves eq (key_in eq m p look) (λ account. account.seen) (account_by_words m p) refl refl
+
+    looked_limit : (looked_in eq m p look).limit ≡ p.table.limit
+    looked_limit = looked_leaves eq (key_in eq m p look) (λ account. account.limit) (account_by_words m p) refl refl
+
+    looked_some : 1 ≤ (looked_in eq m p look).ways
+    looked_some = subst (λ n. 1 ≤ n) (sym (looked_leaves eq (key_in eq m p look) (λ account. account.ways) (account_by_words m p) refl refl)) is.room
+
     over_refused : (answered : Result (Outs ℕ) AskEnd) → IsAsked p.policy answered → answered ≡ Err ask_end.TagsOut → is_over (ruled_in eq m p look) ≡ true
     over_refused answered asks out =
-        over_by eq (key_in eq m p look) p.table.tags p.table.limit (looked_in eq m p look)
-        (looked_leaves eq (key_in eq m p look) (λ account. account.seen) (account_by_words m p) refl refl)
-        (looked_leaves eq (key_in eq m p look) (λ account. account.limit) (account_by_words m p) refl refl)
-        (subst (λ n. 1 ≤ n) (sym (looked_leaves eq (key_in eq m p look) (λ account. account.capacity) (account_by_words m p) refl refl)) is.room)
-        (answer_in eq m p look) (asks.tags_out out)
+        over_by eq (key_in eq m p look) p.table.tags p.table.limit (looked_in eq m p look) looked_seen looked_limit looked_some (answer_in eq m p look) (asks.tags_out out)
+
+    fits_wanting : (answered : Result (Outs ℕ) AskEnd) → IsAsked p.policy answered → answered ≡ Err ask_end.Memory → is_over (ruled_in eq m p look) ≡ false
+    fits_wanting answered asks out =
+        fits_by eq (key_in eq m p look) p.table.tags p.table.limit (looked_in eq m p look) looked_seen looked_limit looked_some (answer_in eq m p look) (asks.memory out)
+
+    allowed_wanting : (answered : Result (Outs ℕ) AskEnd) → IsAsked p.policy answered → answered ≡ Err ask_end.Memory → IsOk (answer_in eq m p look)
+    allowed_wanting answered asks out = ok_where (answer_in eq m p look) _ (asks.memory out)
 
     module _ (inputs : AreInWords (length p.table.tags) look.inputs) where
       pub allowed : (answered : Result (Outs ℕ) AskEnd) → IsAsked p.policy answered → IfOk answered (Allows eq m p look asked)
@@ -142,6 +169,8 @@ module _ {S T : Type 0} (eq : T → T → Bool) (m : PolicyModel T S) (p : PumpS
         within = le-ltb table.limit (length table.tags) asks.within;
         refused = λ refusal stops. asks.stopped refusal (ap (λ e. Err e) stops);
         over = λ out. over_refused (Err end) asks (ap (λ e. Err e) out);
+        allowed = λ out. allowed_wanting (Err end) asks (ap (λ e. Err e) out);
+        fits = λ out. fits_wanting (Err end) asks (ap (λ e. Err e) out);
       }
 
     -- a kept rule is answered

@@ -1,5 +1,6 @@
 -- Checks, look-ups and rules where tags are words are those of the tags that the words stand for.
-use Rattle.std.proofs.Common.{◌≡◌, ℕ, Bool, true, false, ◌&&◌, Result, Ok, Err, refl, ap, ◌∙◌, if◌then◌else◌}
+use Rattle.std.proofs.Common.{◌≡◌, ℕ, Bool, true, false, ◌&&◌, Result, Ok, Err, IsOk, refl, ap, sym, ◌∙◌, subst, if◌then◌else◌}
+use Rattle.std.proofs.lemmas.Bool.{false≢true}
 use Rattle.policy_trait.specs.Maps.{ok_by}
 use Rattle.policy_trait.specs.Model.{PolicyModel}
 use Rattle.shared_terms.specs.Steps.{◌>>=◌}
@@ -18,12 +19,18 @@ use Rattle.turn_steps.proofs.MapLemmas.{looked_by}
 use Rattle.engine_trait.specs.Accounts.{Account, Key, look_counted, rule_counted, rule_kept}
 use Rattle.engine_trait.specs.Machine.{hart_at, is_ready_in}
 use Rattle.engine_trait.specs.Standing.{is_ready, is_running}
-use Rattle.engine_trait.specs.Turn.{rule_answer, service_look, or_fault, or_violation, preparation}
+use Rattle.engine_trait.specs.Turn.{rule_answer, rule_at, service_look, or_fault, or_violation, preparation}
 use Rattle.engine_trait.proofs.MapLemmas.{hart_at_by}
 use Rattle.engine_trait.proofs.MirrorLemmas.{ready_by}
+use Rattle.engine_trait.proofs.TurnLemmas.{rule_looked}
 use Rattle.pump_engine.specs.Pump.{PumpState, account_by_words, decode, machine_by_words, standing_by_words}
 use Rattle.pump_engine.specs.Steps.{answer_in, is_known, key_in, known_or, looked_in, prepared_words, ruled_in}
 use Rattle.pump_engine.proofs.StepLemmas.{look_counted_at, rule_counted_at}
+
+-- a rule that allows has no stop
+allows_still : {T : Type 0} (pc : ℕ) (answer : Result (Outs T) Refused) → IsOk answer → IsOk (or_violation pc answer)
+allows_still pc (Ok outs) allows = refl
+allows_still pc (Err refused) allows = absurd (false≢true allows)
 
 -- a rule that is refused as a stop is kept as little as one that is refused
 kept_alike : {T : Type 0} (eq : T → T → Bool) (key : Key T) (pc : ℕ) (answer : Result (Outs T) Refused) (a : Account T)
@@ -68,6 +75,11 @@ module _ {S T : Type 0} (m : PolicyModel T S) (p : PumpState S T) where
       allowed_at = ap (λ (hart : HartState T). or_violation hart.pc (answer_in eq m p look)) (hart_at_by (decode m p) p.core h)
 
       module _ (found : prepared_words m p h ≡ Ok look) where
+        pub rule_allows : IsOk (answer_in eq m p look) → IsOk (rule_at m (machine_by_words m p) h)
+        rule_allows allows =
+            subst IsOk (sym (rule_looked m (machine_by_words m p) h (look_by (decode m p) look) (prepared_at found) ∙ allowed_at))
+            (allows_still (hart_at p.core h).pc (answer_in eq m p look) allows)
+
         pub look_counted_by_words : look_counted eq m (machine_by_words m p) h (account_by_words m p) ≡ looked_in eq m p look
         look_counted_by_words = look_counted_at eq m (machine_by_words m p) h (look_by (decode m p) look) (prepared_at found) (account_by_words m p)
 

@@ -1,12 +1,12 @@
 -- How a turn of words ended: what a failure and an idle turn leave, a service of the policy, and want of memory.
-use Rattle.std.proofs.Common.{◌≡◌, ℕ, Bool, true, false, ◌||◌, not, List, Option, Some, None, Result, Ok, Err, ◌≢◌, refl, sym, ap, ◌∙◌, subst}
+use Rattle.std.proofs.Common.{◌≡◌, ℕ, Bool, true, false, ◌&&◌, ◌||◌, not, List, Option, Some, None, Result, Ok, Err, IsOk, is_ok, ◌≢◌, refl, sym, ap, ◌∙◌, subst}
+use Rattle.std.proofs.lemmas.Bool.{false≢true}
 use Rattle.policy_trait.specs.Model.{PolicyModel}
 use Rattle.shared_terms.specs.Steps.{◌>>=◌}
 use Rattle.policy_trait.specs.declared.rules.Outs.{Outs}
 use Rattle.policy_trait.specs.declared.services.PlanEnd.{PlanEnd}
 use Rattle.monitor_calls.specs.Service.{Job}
 use Rattle.turn_steps.specs.Looks.{is_call}
-use Rattle.turn_steps.specs.Maps.{look_by}
 use Rattle.turn_steps.specs.declared.effects.Done.{Done}
 use Rattle.turn_steps.specs.declared.effects.Done.TheVariants as done
 use Rattle.turn_steps.specs.declared.look.Look.{Look}
@@ -16,17 +16,17 @@ use Rattle.engine_trait.specs.Accounts.{is_kept}
 use Rattle.engine_trait.specs.EngineLaws.{is_made}
 use Rattle.engine_trait.specs.Machine.{Machine, is_ready_in}
 use Rattle.engine_trait.specs.Standing.{GivesUp, IsFailure, Standing, Stepped, StopsOnly, Unchanged, is_ready, step}
-use Rattle.engine_trait.specs.Turn.{Turned, rule_answer, attempt, carried_at, turn_effect, end_of, turn_job, preparation, settlement, stopped_at, turn_by, turn_of}
+use Rattle.engine_trait.specs.Turn.{Turned, rule_answer, rule_at, attempt, carried_at, turn_effect, end_of, is_served, turn_job, preparation, settlement, stopped_at, turn_by, turn_of}
 use Rattle.engine_trait.specs.declared.ends.TurnEnd.{TurnEnd}
 use Rattle.engine_trait.specs.declared.ends.TurnEnd.TheVariants as ends
 use Rattle.engine_trait.proofs.StepLemmas.{step_follows, step_stays_idle}
 use Rattle.engine_trait.proofs.TurnLemmas.{allowed_turn, planned_turn}
 use Rattle.miss_handler.specs.declared.ends.AskEnd.{AskEnd}
 use Rattle.miss_handler.specs.declared.ends.AskEnd.TheVariants as ask_end
-use Rattle.pump_engine.specs.Pump.{PumpState, account_by_words, decode, standing_by_words}
-use Rattle.pump_engine.specs.Steps.{Allows, EndsService, HasParts, key_in, may_grow, prepared_words, service_in, takes_memory, unanswered_end}
-use Rattle.pump_engine.proofs.CountLemmas.{prepared_at}
-use Rattle.pump_engine.proofs.TurnLemmas.{StepsTo, served_gives_up, served_turn, unserved_turn}
+use Rattle.pump_engine.specs.Pump.{PumpState, account_by_words, machine_by_words, standing_by_words}
+use Rattle.pump_engine.specs.Steps.{Allows, EndsService, HasParts, answer_in, finds_rule, key_in, prepared_words, service_in, takes_memory, unanswered_end}
+use Rattle.pump_engine.proofs.CountLemmas.{prepared_at, rule_allows}
+use Rattle.pump_engine.proofs.TurnLemmas.{StepsTo, served_gives_up, served_now, served_turn, unserved_turn}
 
 -- ---- a failure
 
@@ -115,28 +115,43 @@ module _ {S T : Type 0} (eq : T → T → Bool) (m : PolicyModel T S) (p : PumpS
   service_gives_up_by : (given : Result (Job T) PlanEnd) → service_in eq m q h look outs ≡ given → ended ≡ ends.Memory
       → GivesUp eq m (standing_by_words m p) feed h (standing_by_words m f) feed
   service_gives_up_by (Ok job) is out =
-      served_gives_up eq m p feed h ready q look found parts outs rule call f job ended (served.served job is) out
+      served_gives_up eq m p feed h ready q look found parts outs rule call f job is ended (served.served job is) out
   service_gives_up_by (Err end) is out = let stopped : ended ≡ ends.Stopped _ = (served.stopped end is).1 in absurd (cc (out, stopped))
 
   pub service_gives_up : ended ≡ ends.Memory → GivesUp eq m (standing_by_words m p) feed h (standing_by_words m f) feed
   service_gives_up = service_gives_up_by (service_in eq m q h look outs) refl
 
+  service_there_by : (given : Result (Job T) PlanEnd) → service_in eq m q h look outs ≡ given → ended ≡ ends.Memory → is_served m (machine_by_words m p) h ≡ true
+  service_there_by (Ok job) is out = served_now eq m p feed h ready q look found parts outs rule call f job is
+  service_there_by (Err end) is out = let stopped : ended ≡ ends.Stopped _ = (served.stopped end is).1 in absurd (cc (out, stopped))
+
+  pub service_there : ended ≡ ends.Memory → is_served m (machine_by_words m p) h ≡ true
+  service_there = service_there_by (service_in eq m q h look outs) refl
+
 -- ---- turns that may take memory
 
-module _ {S T : Type 0} (eq : T → T → Bool) (m : PolicyModel T S) (p : PumpState S T) (h : ℕ) (look : Look ℕ) (found : prepared_words m p h ≡ Ok look) where
-  grows : may_grow eq m (standing_by_words m p) h (Ok (look_by (decode m p) look)) ≡ true → takes_memory eq m (standing_by_words m p) h ≡ true
-  grows may = ap (may_grow eq m (standing_by_words m p) h) (prepared_at m p h look found) ∙ may
+by_service : (allows kept serves : Bool) → serves ≡ true → ((allows && not kept) || serves) ≡ true
+by_service true true serves is = is
+by_service true false serves is = refl
+by_service false kept serves is = is
 
-  either_way : (kept call : Bool) → call ≡ true → (not kept || call) ≡ true
-  either_way true call is = is
-  either_way false call is = refl
+by_miss : (allows kept serves : Bool) → allows ≡ true → (kept ≡ true → ⊥) → ((allows && not kept) || serves) ≡ true
+by_miss true true serves is missed = absurd (missed refl)
+by_miss true false serves is missed = refl
+by_miss false kept serves is missed = absurd (false≢true is)
 
-  pub service_grows : is_call look.group ≡ true → takes_memory eq m (standing_by_words m p) h ≡ true
-  service_grows call = grows (either_way (is_kept eq (key_in eq m p look) (account_by_words m p)) (is_call look.group) call)
+module _ {S T : Type 0} (eq : T → T → Bool) (m : PolicyModel T S) (p : PumpState S T) (h : ℕ) where
+  abbrev allowing : Bool
+  allowing = is_ok (rule_at m (machine_by_words m p) h)
 
-  not_kept : (kept call : Bool) → (kept ≡ true → ⊥) → (not kept || call) ≡ true
-  not_kept true call missed = absurd (missed refl)
-  not_kept false call missed = refl
+  abbrev finding : Bool
+  finding = finds_rule eq m (standing_by_words m p) h (preparation m (machine_by_words m p) h)
 
-  pub missed_grows : (is_kept eq (key_in eq m p look) (account_by_words m p) ≡ true → ⊥) → takes_memory eq m (standing_by_words m p) h ≡ true
-  missed_grows missed = grows (not_kept (is_kept eq (key_in eq m p look) (account_by_words m p)) (is_call look.group) missed)
+  pub service_grows : is_served m (machine_by_words m p) h ≡ true → takes_memory eq m (standing_by_words m p) h ≡ true
+  service_grows serves = by_service allowing finding (is_served m (machine_by_words m p) h) serves
+
+  pub missed_grows : (look : Look ℕ) → prepared_words m p h ≡ Ok look → IsOk (answer_in eq m p look) → (is_kept eq (key_in eq m p look) (account_by_words m p) ≡ true → ⊥)
+      → takes_memory eq m (standing_by_words m p) h ≡ true
+  missed_grows look found allows missed =
+      by_miss allowing finding (is_served m (machine_by_words m p) h) (rule_allows m p h look eq found allows)
+      (λ kept. missed (sym (ap (finds_rule eq m (standing_by_words m p) h) (prepared_at m p h look found)) ∙ kept))

@@ -1,36 +1,42 @@
 -- A service of the policy where tags are words: what it is asked with, and what it leaves.
-use Rattle.std.proofs.Common.{◌≡◌, ℕ, ◌%◌, ◌<◌, ◌≤◌, Bool, List, All, length, map, Option, option_map, take, refl, sym, ap, ◌∙◌, if◌then◌else◌}
-use Rattle.std.proofs.lemmas.Bool.{le-ltb}
-use Rattle.std.specs.Map.{keys_of}
+use Rattle.std.proofs.Common.{◌≡◌, ℕ, ◌%◌, ◌<◌, ◌≤◌, Bool, true, false, not, nat_lt, List, [], ◌∷◌, All, length, map, Option, option_map, Result, Ok, Err, IfOk, IsOkAnd, take, refl, sym, ap, ◌∙◌, subst, if◌then◌else◌, arith}
+use Rattle.std.specs.Prelude.{◌↔◌, IsTrue}
+use Rattle.std.proofs.lemmas.Bool.{false≢true, le-ltb, lt-ltb}
+use Rattle.std.proofs.lemmas.Result.{IfOk-weaker}
 use Rattle.policy_trait.specs.PolicyLaws.{KeepsLaws}
 use Rattle.policy_trait.specs.Maps.{answer_by, args_by}
 use Rattle.policy_trait.specs.Model.{IsGiven, PolicyModel}
 use Rattle.policy_trait.specs.declared.rules.Outs.{Outs}
 use Rattle.policy_trait.specs.declared.services.Answer.{Answer}
 use Rattle.policy_trait.specs.declared.services.Args.{Args}
+use Rattle.policy_trait.specs.declared.services.PlanEnd.{PlanEnd}
 use Rattle.tag_memory.specs.Maps.{ram_by}
 use Rattle.tag_memory.specs.Ram.{RamState, ram_tag, ram_word}
 use Rattle.tag_memory.proofs.MapLemmas.{ram_tag_by}
 use Rattle.monitor_calls.specs.Service.{Job, service_job}
 use Rattle.turn_steps.specs.Services.{args_on}
 use Rattle.turn_steps.specs.declared.look.Look.{Look}
-use Rattle.engine_trait.specs.Accounts.{with_tags, written_tags}
+use Rattle.engine_trait.specs.Accounts.{first_written, is_over, seeing, with_tag, with_tags, written_tags}
 use Rattle.shared_terms.specs.Counts.{next_count}
 use Rattle.engine_trait.specs.Machine.{hart_at}
 use Rattle.engine_trait.specs.Maps.{core_by, words_by}
 use Rattle.engine_trait.specs.Turn.{core_served, service_on}
+use Rattle.engine_trait.specs.declared.ends.Halt.TheVariants as halt
+use Rattle.engine_trait.specs.declared.ends.TurnEnd.{TurnEnd}
+use Rattle.engine_trait.specs.declared.ends.TurnEnd.TheVariants as ends
 use Rattle.engine_trait.proofs.MapLemmas.{args_on_by, hart_at_by}
-use Rattle.rule_cache.specs.Named.{key_by}
+use Rattle.rule_cache.specs.Named.{keys_by}
 use Rattle.tag_intern.specs.Table.{Extends, TableState, cut_to}
 use Rattle.tag_intern.specs.Words.{tag_at}
 use Rattle.tag_intern.proofs.TableLemmas.{front}
 use Rattle.miss_handler.specs.Asked.{AreOutWords}
 use Rattle.miss_handler.specs.Books.{rulebook_of}
 use Rattle.word_service.specs.Written.{IsAnswerBelow, IsWordBelow}
-use Rattle.miss_handler.proofs.RuleLemmas.{keys_below, keys_grown, rules_grown}
+use Rattle.miss_handler.proofs.RuleLemmas.{rules_grown, sets_below, sets_grown}
 use Rattle.pump_engine.specs.Pump.{IsPump, PumpState, account_by_words, decode, machine_by_words, pump_of}
-use Rattle.pump_engine.specs.Steps.{Serves, service_in, written_in}
+use Rattle.pump_engine.specs.Steps.{CarriesOut, EndsService, Serves, after_halt, first_in, service_in, written_in}
 use Rattle.engine_trait.proofs.AccountLemmas.{keeps_some}
+use Rattle.pump_engine.proofs.StepLemmas.{first_over, first_within}
 use Rattle.pump_engine.proofs.StayLemmas.{after_service, decode_grown, machine_grown, machine_served, pump_grown, pump_served}
 
 -- ---- what it is asked with
@@ -87,7 +93,7 @@ module _ {S T : Type 0} (eq : T → T → Bool) (m : PolicyModel T S) (holds : S
 
   module _ (written : IsWritten) (given : IsGiven m p.policy job.plan) (outputs : AreOutWords (length p.table.tags) outs) where
     grown_is : IsPump m grown
-    grown_is = pump_grown m p grown is refl refl written.extends written.within is.room (rules_grown (rulebook_of m p.policy) p.table.tags table.tags written.extends p.store.kept is.rules)
+    grown_is = pump_grown m p grown is refl refl written.extends written.within is.room (rules_grown (rulebook_of m p.policy) p.table.tags table.tags written.extends p.store.sets is.rules)
 
     pub pump_left : h < length p.core.harts → look.effect.next % 4 ≡ 0 → outs.pc < length table.tags → IsPump m left
     pump_left there aligned below =
@@ -118,12 +124,80 @@ module _ {S T : Type 0} (eq : T → T → Bool) (m : PolicyModel T S) (holds : S
         (λ j. record (account_by_words m p) {
           seen = written.seen j;
           limit = written.limit j;
-          kept = (ap (λ plain. map (key_by (tag_at plain table.tags)) (keys_of p.store.kept)) plain_stays
-              ∙ keys_grown (m.plain p.policy) p.table.tags table.tags written.extends (keys_of p.store.kept) (keys_below (rulebook_of m p.policy) p.table.tags p.store.kept is.rules)) j;
+          sets = (ap (λ plain. map (keys_by (tag_at plain table.tags)) p.store.sets) plain_stays
+              ∙ sets_grown (m.plain p.policy) p.table.tags table.tags written.extends p.store.sets (sets_below (rulebook_of m p.policy) p.table.tags p.store.sets is.rules)) j;
           turns = next_count p.turns;
         })
         ∙ sym (ap (λ is_none. record (if is_none then account_by_words m p else record (account_by_words m p) { seen = with_tags eq p.table.tags (written_tags job) }) { turns = next_count p.turns })
-        (keeps_some p.store.capacity is.room))
+        (keeps_some p.store.ways is.room))
 
     pub serves : Serves eq m p h look outs job left
     serves = record { machine = machine_left; account = account_left; within = le-ltb table.limit (length table.tags) written.within }
+
+-- ---- whether the first tag that a service writes can have a word
+
+module _ {S T : Type 0} (eq : T → T → Bool) (m : PolicyModel T S) (p : PumpState S T) (is : IsPump m p) (h : ℕ) (look : Look ℕ) (outs : Outs ℕ) where
+  -- with tags that come, there are too many exactly where the table has
+  seeing_counted : (tags : List T) → is_over (seeing eq tags (account_by_words m p)) ≡ nat_lt p.table.limit (length (with_tags eq p.table.tags tags))
+  seeing_counted tags =
+      ap (λ is_none. is_over (if is_none then account_by_words m p else record (account_by_words m p) { seen = with_tags eq p.table.tags tags }))
+      (keeps_some p.store.ways is.room)
+
+  first_counted : (job : Job T) (tag : T) → first_written job ≡ tag ∷ [] → is_over (first_in eq m p h look outs job) ≡ nat_lt p.table.limit (length (with_tag eq p.table.tags tag))
+  first_counted job tag first =
+      seeing_counted (first_written job) ∙ ap (λ tags. nat_lt p.table.limit (length (with_tags eq p.table.tags tags))) first
+
+  -- where all that it writes has words, the first has
+  pub written_fits : (job : Job T) (table : TableState T) → table.tags ≡ with_tags eq p.table.tags (written_tags job) → table.limit ≡ p.table.limit → length table.tags ≤ table.limit
+      → is_over (first_in eq m p h look outs job) ≡ false
+  written_fits job table seen limit within =
+      first_within eq (written_tags job) (account_by_words m p)
+      (seeing_counted (written_tags job) ∙ (λ j. nat_lt (sym limit j) (length (sym seen j))) ∙ le-ltb table.limit (length table.tags) within)
+
+  room_told : (room : Bool) (count : ℕ) → IsTrue room ↔ (count ≤ p.table.limit) → nat_lt p.table.limit count ≡ not room
+  room_told true count fits = le-ltb p.table.limit count (fits.0 refl)
+  room_told false count fits = lt-ltb p.table.limit count (let full = λ (within : count ≤ p.table.limit). false≢true (fits.1 within) in omega (arith, full))
+
+  pub first_fits : (given : Result (Job T) PlanEnd) → service_in eq m p h look outs ≡ given → (tag : T)
+      → IfOk given (λ job. 1 ≤ length job.words → first_written job ≡ tag ∷ []) → (room : Bool) → IsTrue room ↔ (length (with_tag eq p.table.tags tag) ≤ p.table.limit)
+      → IfOk (service_in eq m p h look outs) (λ job. 1 ≤ length job.words → is_over (first_in eq m p h look outs job) ≡ not room)
+  first_fits given same tag told room fits =
+      subst (λ defined. IfOk defined (λ job. 1 ≤ length job.words → is_over (first_in eq m p h look outs job) ≡ not room)) (sym same)
+      (IfOk-weaker given (λ job. 1 ≤ length job.words → first_written job ≡ tag ∷ []) (λ job. 1 ≤ length job.words → is_over (first_in eq m p h look outs job) ≡ not room)
+      (λ job first some. first_counted job tag (first some) ∙ room_told room (length (with_tag eq p.table.tags tag)) fits) told)
+
+  pub no_first : (given : Result (Job T) PlanEnd) → service_in eq m p h look outs ≡ given → IfOk given (λ job. 1 ≤ length job.words → ⊥)
+      → IfOk (service_in eq m p h look outs) (λ job. 1 ≤ length job.words → is_over (first_in eq m p h look outs job) ≡ not true)
+  no_first given same told =
+      subst (λ defined. IfOk defined (λ job. 1 ≤ length job.words → is_over (first_in eq m p h look outs job) ≡ not true)) (sym same)
+      (IfOk-weaker given (λ job. 1 ≤ length job.words → ⊥) (λ job. 1 ≤ length job.words → is_over (first_in eq m p h look outs job) ≡ not true) (λ job never some. absurd (never some)) told)
+
+-- ---- a service that nothing refuses, and whose words find no memory
+
+module _ {S T : Type 0} (eq : T → T → Bool) (m : PolicyModel T S) (p : PumpState S T) (h : ℕ) (look : Look ℕ) (outs : Outs ℕ)
+    (some : IsOkAnd (service_in eq m p h look outs) (λ job. 1 ≤ length job.words)) (room : Bool)
+    (told : IfOk (service_in eq m p h look outs) (λ job. 1 ≤ length job.words → is_over (first_in eq m p h look outs job) ≡ not room)) where
+  first_told : (job : Job T) → service_in eq m p h look outs ≡ Ok job → is_over (first_in eq m p h look outs job) ≡ not room
+  first_told job is =
+      subst (λ given. IfOk given (λ job. 1 ≤ length job.words → is_over (first_in eq m p h look outs job) ≡ not room)) is told
+      (subst (λ given. IsOkAnd given (λ job. 1 ≤ length job.words)) is some)
+
+  unrefused : (end : PlanEnd) → service_in eq m p h look outs ≡ Err end → ⊥
+  unrefused end is = subst (λ given. IsOkAnd given (λ job. 1 ≤ length job.words)) is some
+
+  ends_by : (f g : PumpState S T) (ended end : TurnEnd) → ((job : Job T) → service_in eq m p h look outs ≡ Ok job → CarriesOut eq m p h look outs job g end)
+      → f ≡ g → ended ≡ end → EndsService eq m p h look outs f ended
+  ends_by f g ended end each f_is ended_is =
+      subst (λ (q : PumpState S T). EndsService eq m p h look outs q ended) (sym f_is)
+      (subst (EndsService eq m p h look outs g) (sym ended_is) (record { served = each; stopped = λ why is. absurd (unrefused why is) }))
+
+  -- where the first tag that it writes can have a word
+  pub wants_memory : (f : PumpState S T) (ended : TurnEnd) → room ≡ true → f ≡ after_halt p halt.Memory → ended ≡ ends.Memory → EndsService eq m p h look outs f ended
+  wants_memory f ended fits =
+      ends_by f (after_halt p halt.Memory) ended ends.Memory (λ job is. (refl, first_told job is ∙ ap not fits))
+
+  -- and where it can't
+  pub wants_words : (f : PumpState S T) (ended : TurnEnd) → room ≡ false → f ≡ after_halt p halt.TagWords → ended ≡ ends.TagsOut → EndsService eq m p h look outs f ended
+  wants_words f ended over =
+      ends_by f (after_halt p halt.TagWords) ended ends.TagsOut
+      (λ job is. (refl, first_over eq (written_tags job) (account_by_words m p) (first_told job is ∙ ap not over)))

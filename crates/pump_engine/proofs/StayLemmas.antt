@@ -47,7 +47,7 @@ module _ {S T : Type 0} (m : PolicyModel T S) (p q : PumpState S T) where
       λ j. record { policy = policy j; core = (ap (core_by (decode m q)) core ∙ same) j }
 
   pub pump_grown : IsPump m p → q.policy ≡ p.policy → q.core ≡ p.core → Extends p.table.tags q.table.tags
-      → length q.table.tags ≤ q.table.limit → 1 ≤ q.store.capacity → AreRules (rulebook_of m p.policy) q.table.tags q.store.kept → IsPump m q
+      → length q.table.tags ≤ q.table.limit → 1 ≤ q.store.ways → AreRules (rulebook_of m p.policy) q.table.tags q.store.sets → IsPump m q
   pump_grown is policy core extends within room rules =
       let old = p.table.tags in
       let new = q.table.tags in
@@ -57,7 +57,7 @@ module _ {S T : Type 0} (m : PolicyModel T S) (p q : PumpState S T) where
         plain_word = same_words old new extends 0 has_zero ∙ is.plain_word ∙ ap (λ s. Some (m.plain s)) (sym policy);
         within = within;
         words = subst (IsLowCore (length new)) (sym core) (low_grown (length old) p.core is.words (length new) (longer old new extends));
-        rules = subst (λ s. AreRules (rulebook_of m s) new q.store.kept) (sym policy) rules;
+        rules = subst (λ s. AreRules (rulebook_of m s) new q.store.sets) (sym policy) rules;
         room = room;
       }
 
@@ -175,6 +175,6 @@ module _ {S T : Type 0} (m : PolicyModel T S) (holds : S → Type 0) (laws : Kee
           plain_word = is.plain_word ∙ ap Some (sym committed.plain);
           within = is.within;
           words = low_served (length p.table.tags) p.core is.words h words answer next pc all below pc_below;
-          rules = subst (λ book. AreRules book p.table.tags p.store.kept) (sym (same_book m p.policy (m.commit p.policy plan) committed)) is.rules;
+          rules = subst (λ book. AreRules book p.table.tags p.store.sets) (sym (same_book m p.policy (m.commit p.policy plan) committed)) is.rules;
           room = is.room;
         }

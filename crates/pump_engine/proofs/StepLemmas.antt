@@ -1,7 +1,7 @@
 -- Steps of an engine that keeps rules, by where the turn ended.
-use Rattle.std.proofs.Common.{◌≡◌, ℕ, ◌+◌, ◌==◌, ◌<◌, ◌≤◌, Bool, true, false, nat_lt, List, [], ◌∷◌, ◌++◌, length, Option, Some, None, Result, Ok, Err, ap, ◌∙◌, if◌then◌else◌, arith}
+use Rattle.std.proofs.Common.{◌≡◌, ℕ, ◌+◌, ◌==◌, ◌<◌, ◌≤◌, Bool, true, false, nat_lt, List, [], ◌∷◌, ◌++◌, length, take, Option, Some, None, Result, Ok, Err, refl, ap, sym, ◌∙◌, if◌then◌else◌, arith}
 use Rattle.std.specs.List.{list_any}
-use Rattle.std.proofs.lemmas.Bool.{lt-ltb, ltb-true}
+use Rattle.std.proofs.lemmas.Bool.{false≢true, lt-ltb, ltb-true}
 use Rattle.std.proofs.lemmas.List.{length-append}
 use Rattle.policy_trait.specs.Model.{PolicyModel}
 use Rattle.shared_terms.specs.Steps.{◌>>=◌}
@@ -44,9 +44,28 @@ module _ {T : Type 0} (eq : T → T → Bool) where
   seeing_over_by false tags a over =
       over_longer a.limit (length a.seen) (length (with_tags eq a.seen tags)) (with_tags_longer tags a.seen) over
 
+  first_over_by : (uncached : Bool) (tags : List T) (a : Account T)
+      → is_over (if uncached then a else record a { seen = with_tags eq a.seen (take 1 tags) }) ≡ true
+      → is_over (if uncached then a else record a { seen = with_tags eq a.seen tags }) ≡ true
+  first_over_by true tags a over = over
+  first_over_by false [] a over = over
+  first_over_by false (tag ∷ tags) a over =
+      over_longer a.limit (length (with_tag eq a.seen tag)) (length (with_tags eq (with_tag eq a.seen tag) tags)) (with_tags_longer tags (with_tag eq a.seen tag)) over
+
+  -- where the first of some tags is too many, all are, and where all have words, the first has
+  pub first_over : (tags : List T) (a : Account T) → is_over (seeing eq (take 1 tags) a) ≡ true → is_over (seeing eq tags a) ≡ true
+  first_over tags a = first_over_by (a.ways == 0) tags a
+
+  pub first_within : (tags : List T) (a : Account T) → is_over (seeing eq tags a) ≡ false → is_over (seeing eq (take 1 tags) a) ≡ false
+  first_within tags a within = by (is_over (seeing eq (take 1 tags) a)) refl
+    where
+      by : (over : Bool) → is_over (seeing eq (take 1 tags) a) ≡ over → is_over (seeing eq (take 1 tags) a) ≡ false
+      by true over = absurd (false≢true (sym within ∙ first_over tags a over))
+      by false is = is
+
   -- what has too many has too many after more tags
   seeing_over : (tags : List T) (a : Account T) → is_over a ≡ true → is_over (seeing eq tags a) ≡ true
-  seeing_over tags a = seeing_over_by (a.capacity == 0) tags a
+  seeing_over tags a = seeing_over_by (a.ways == 0) tags a
 
 module _ {S T : Type 0} (eq : T → T → Bool) (m : PolicyModel T S) (s : Machine S T) (h : ℕ) where
   -- ---- the account along the steps of a turn

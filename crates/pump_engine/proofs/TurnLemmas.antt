@@ -12,22 +12,22 @@ use Rattle.turn_steps.specs.Looks.{is_call}
 use Rattle.turn_steps.specs.Maps.{look_by}
 use Rattle.turn_steps.specs.declared.look.Look.{Look}
 use Rattle.turn_steps.specs.declared.stop.Stop.{Stop}
-use Rattle.engine_trait.specs.Accounts.{Account, is_over, look_counted, rule_counted}
+use Rattle.engine_trait.specs.Accounts.{Account, first_written, is_over, look_counted, rule_counted, seeing}
 use Rattle.shared_terms.specs.Counts.{next_count}
 use Rattle.engine_trait.specs.Machine.{CoreState, Machine, hart_at}
-use Rattle.engine_trait.specs.Standing.{GivesUp, Standing, is_ready, step, wanting}
-use Rattle.engine_trait.specs.Turn.{Turned, rule_answer, carried_at, end_of, or_unserved, or_violation, turn_job, preparation, stopped_at, service_stop, violation}
+use Rattle.engine_trait.specs.Standing.{GivesUp, GivesUpAtRule, GivesUpAtService, Standing, is_ready, step, wanting}
+use Rattle.engine_trait.specs.Turn.{Turned, rule_answer, carried_at, end_of, is_job, is_served, job_at, or_unserved, or_violation, turn_job, preparation, stopped_at, service_stop, violation}
 use Rattle.engine_trait.specs.declared.ends.Halt.TheVariants as halt
 use Rattle.engine_trait.specs.declared.ends.TurnEnd.{TurnEnd}
 use Rattle.engine_trait.specs.declared.ends.TurnEnd.TheVariants as ends
 use Rattle.engine_trait.proofs.MapLemmas.{carried_at_by, core_effected_by, hart_at_by}
 use Rattle.engine_trait.proofs.StepLemmas.{step_idle}
-use Rattle.engine_trait.proofs.TurnLemmas.{planned_own}
+use Rattle.engine_trait.proofs.TurnLemmas.{job_ruled, planned_own}
 use Rattle.miss_handler.specs.declared.ends.AskEnd.{AskEnd}
 use Rattle.miss_handler.specs.declared.ends.AskEnd.TheVariants as ask_end
 use Rattle.pump_engine.specs.Pump.{PumpState, account_by_words, decode, machine_by_words, standing_by_words}
 use Rattle.pump_engine.specs.Steps.{Allows, CarriesOut, HasParts, Serves, Unanswered, after_effect, after_halt, after_stop, after_unanswered, answer_in, looked_in, prepared_words, ruled_in, service_in, unanswered_end, written_in}
-use Rattle.pump_engine.proofs.CountLemmas.{allowed_at, checked_at, look_counted_by_words, prepared_at, rule_counted_by_words}
+use Rattle.pump_engine.proofs.CountLemmas.{allowed_at, checked_at, look_counted_by_words, prepared_at, rule_allows, rule_counted_by_words}
 use Rattle.pump_engine.proofs.StepLemmas.{accounted_ruled, checked_step, out_at_rule, out_at_service, planned_call, refused_step, ruled_step, stepped_to}
 
 module _ {S T : Type 0} (eq : T → T → Bool) (m : PolicyModel T S) (p : PumpState S T) (feed : List ℕ) (h : ℕ) where
@@ -95,15 +95,14 @@ module _ {S T : Type 0} (eq : T → T → Bool) (m : PolicyModel T S) (p : PumpS
         rule_counted_asked : rule_counted eq m asked.machine h asked.account ≡ ruled_in eq m p look
         rule_counted_asked = ap (λ s. rule_counted eq m s h asked.account) machine ∙ rule_counted_by_words m p h look eq found
 
-      -- memory ran out
-      given_up : (f : PumpState S T) → f ≡ after_halt q halt.Memory → machine_by_words m q ≡ machine_by_words m p
-          → (wanting (account_by_words m q) ≡ wanting (look_counted eq m (machine_by_words m p) h (account_by_words m p)))
-          ⊎ (wanting (account_by_words m q) ≡ wanting (rule_counted eq m (machine_by_words m p) h (account_by_words m p)))
+      -- memory ran out in a turn whose rule allows
+      given_up : (f : PumpState S T) → f ≡ after_halt q halt.Memory → machine_by_words m q ≡ machine_by_words m p → IsOk (answer_in eq m p look)
+          → GivesUpAtRule eq m (standing_by_words m p) h (wanting (account_by_words m q)) ⊎ GivesUpAtService eq m (standing_by_words m p) h (wanting (account_by_words m q))
           → GivesUp eq m (standing_by_words m p) feed h (standing_by_words m f) feed
-      given_up f f_is machine left =
+      given_up f f_is machine allows left =
           subst (λ g. GivesUp eq m (standing_by_words m p) feed h (standing_by_words m g) feed) (sym f_is) (record {
             ready = ready;
-            asked = subst IsOk (sym (prepared_at m p h look found)) refl;
+            allowed = rule_allows m p h look eq found allows;
             machine = machine;
             unfed = refl;
             account = left;
@@ -142,7 +141,10 @@ module _ {S T : Type 0} (eq : T → T → Bool) (m : PolicyModel T S) (p : PumpS
       pub unanswered_gives_up : (f : PumpState S T) (end : AskEnd) → Unanswered eq m p look q end → f ≡ after_unanswered q h end → end ≡ ask_end.Memory
           → GivesUp eq m (standing_by_words m p) feed h (standing_by_words m f) feed
       unanswered_gives_up f end given f_is end_is =
-          given_up f (f_is ∙ ap (after_unanswered q h) end_is) given.machine (inl (ap wanting (given.account ∙ sym (look_counted_by_words m p h look eq found))))
+          given_up f (f_is ∙ ap (after_unanswered q h) end_is) given.machine (given.allowed end_is) (inl (record {
+            fits = ap is_over (rule_counted_by_words m p h look eq found) ∙ given.fits end_is;
+            left = ap wanting (given.account ∙ sym (look_counted_by_words m p h look eq found));
+          }))
 
       -- ---- with outputs
 
@@ -249,9 +251,23 @@ module _ {S T : Type 0} (eq : T → T → Bool) (m : PolicyModel T S) (p : PumpS
                 told f (after_halt q halt.TagWords) feed feed ends.TagsOut ends.TagsOut (out_by out.1) out.0 refl refl
             served_turn ends.Memory halted has_memory = absurd (has_memory refl)
 
-          -- memory ran out: the rule is kept
-          pub served_gives_up : (f : PumpState S T) (job : Job T) (ended : TurnEnd) → CarriesOut eq m q h look outs job f ended → ended ≡ ends.Memory
-              → GivesUp eq m (standing_by_words m p) feed h (standing_by_words m f) feed
-          served_gives_up f job ended halted ended_is =
-              given_up f (subst (CarriesOut eq m q h look outs job f) ended_is halted) rule.machine
-              (inr (ap wanting (rule.account ∙ sym (rule_counted_by_words m p h look eq found))))
+            -- the turn comes to it
+            job_there : job_at m (machine_by_words m p) h ≡ Ok (Some job)
+            job_there =
+                ap (λ s. job_at m s h) (sym rule.machine) ∙ job_ruled m now.machine h look_now outs_now prepared_now allowed_now ∙ planned_now
+
+            pub served_now : is_served m (machine_by_words m p) h ≡ true
+            served_now = ap is_job job_there
+
+            -- memory ran out: the rule is kept
+            pub served_gives_up : (ended : TurnEnd) → CarriesOut eq m q h look outs job f ended → ended ≡ ends.Memory
+                → GivesUp eq m (standing_by_words m p) feed h (standing_by_words m f) feed
+            served_gives_up ended halted ended_is =
+                let wants = subst (CarriesOut eq m q h look outs job f) ended_is halted in
+                let counted = rule_counted_by_words m p h look eq found in
+                given_up f wants.0 rule.machine (subst IsOk (sym rule.rule) refl) (inr (record {
+                  job = job;
+                  served = job_there;
+                  fits = ap (λ account. is_over (seeing eq (first_written job) account)) (counted ∙ sym rule.account) ∙ wants.1;
+                  left = ap wanting (rule.account ∙ sym counted);
+                }))

@@ -1,7 +1,6 @@
 -- The engine whose tags are words of a table, and which keeps rules: what it is, and which machine with which account it is
 -- by what its words stand for.
 use Rattle.std.specs.Prelude.{◌≡◌, ℕ, ◌≤◌, Option, Some, length, map, slice_get}
-use Rattle.std.specs.Map.{keys_of}
 use Rattle.rv_decode.specs.declared.groups.Group.{Group}
 use Rattle.policy_trait.specs.Model.{PolicyModel}
 use Rattle.policy_trait.specs.declared.rules.Mask.{Mask}
@@ -10,7 +9,7 @@ use Rattle.engine_trait.specs.Machine.{CoreState, IsMachine, Machine}
 use Rattle.engine_trait.specs.Maps.{core_by}
 use Rattle.engine_trait.specs.Standing.{Standing}
 use Rattle.engine_trait.specs.declared.ends.Halt.{Halt}
-use Rattle.rule_cache.specs.Named.{key_by}
+use Rattle.rule_cache.specs.Named.{keys_by}
 use Rattle.rule_cache.specs.Stores.{Store}
 use Rattle.tag_intern.specs.Table.{TableState}
 use Rattle.tag_intern.specs.Words.{tag_at}
@@ -46,8 +45,8 @@ module _ {S T : Type 0} (m : PolicyModel T S) where
   account_by_words p = record {
     seen = p.table.tags;
     limit = p.table.limit;
-    kept = map (key_by (decode p)) (keys_of p.store.kept);
-    capacity = p.store.capacity;
+    sets = map (keys_by (decode p)) p.store.sets;
+    ways = p.store.ways;
     turns = p.turns;
     hits = p.store.hits;
     misses = p.store.misses;
@@ -58,15 +57,15 @@ module _ {S T : Type 0} (m : PolicyModel T S) where
   standing_by_words p = record { machine = machine_by_words p; account = account_by_words p }
 
   -- what holds of the engine at all times: the machine is sound, word 0 is the plain tag, no more tags have words than may,
-  -- every word in a register, in a pc and in memory is that of a tag, each kept rule is the policy's answer, and there may be
-  -- at least one
+  -- every word in a register, in a pc and in memory is that of a tag, each kept rule is the policy's answer, and each set may
+  -- keep one
   pub record IsPump (p : PumpState S T) : Type 0 where
     pub machine : IsMachine m (machine_by_words p)
     pub plain_word : slice_get p.table.tags 0 ≡ Some (m.plain p.policy)
     pub within : length p.table.tags ≤ p.table.limit
     pub words : IsLowCore (length p.table.tags) p.core
-    pub rules : AreRules (rulebook_of m p.policy) p.table.tags p.store.kept
-    pub room : 1 ≤ p.store.capacity
+    pub rules : AreRules (rulebook_of m p.policy) p.table.tags p.store.sets
+    pub room : 1 ≤ p.store.ways
 
   -- the masks that were taken are the policy's
   pub record IsMasked (masks : Group → Mask) (p : PumpState S T) : Type 0 where

@@ -1,5 +1,5 @@
 -- The steps of a turn where tags are words.
-use Rattle.std.specs.Prelude.{◌≡◌, ℕ, Bool, true, false, ◌||◌, not, List, Some, None, Result, Ok, Err, if◌then◌else◌, length}
+use Rattle.std.specs.Prelude.{◌≡◌, ℕ, Bool, true, false, ◌&&◌, ◌||◌, not, List, Some, None, Result, Ok, Err, IsOk, if◌then◌else◌, is_ok, length}
 use Rattle.rv_step.specs.declared.faults.Fault.TheVariants.{NoService}
 use Rattle.policy_trait.specs.Maps.{ins_by, outs_by}
 use Rattle.policy_trait.specs.Model.{PolicyModel}
@@ -15,11 +15,11 @@ use Rattle.turn_steps.specs.Maps.{look_by}
 use Rattle.turn_steps.specs.declared.look.Look.{Look}
 use Rattle.turn_steps.specs.declared.stop.Stop.{Stop}
 use Rattle.turn_steps.specs.declared.stop.Stop.TheVariants as stop
-use Rattle.engine_trait.specs.Accounts.{Account, Key, is_kept, is_over, key_of, looked_up, rule_kept, seeing, written_tags}
+use Rattle.engine_trait.specs.Accounts.{Account, Key, first_written, is_kept, is_over, key_of, looked_up, rule_kept, seeing, written_tags}
 use Rattle.shared_terms.specs.Counts.{next_count}
 use Rattle.engine_trait.specs.Machine.{fresh_core, hart_at, stopping}
 use Rattle.engine_trait.specs.Standing.{Standing}
-use Rattle.engine_trait.specs.Turn.{core_effected, core_served, or_fault, preparation, service_on, service_stop, violation}
+use Rattle.engine_trait.specs.Turn.{core_effected, core_served, is_served, or_fault, preparation, rule_at, service_on, service_stop, violation}
 use Rattle.engine_trait.specs.declared.ends.Halt.{Halt}
 use Rattle.engine_trait.specs.declared.ends.Halt.TheVariants as halt
 use Rattle.engine_trait.specs.declared.ends.TurnEnd.{TurnEnd}
@@ -93,13 +93,16 @@ module _ {S T : Type 0} (eq : T → T → Bool) (m : PolicyModel T S) (p : PumpS
     pub within : is_over (account_by_words m q) ≡ false
     pub words : AreOutWords (length q.table.tags) outs
 
-  -- there are no outputs: the look-up is counted, and nothing else is done
+  -- there are no outputs: the look-up is counted, and nothing else is done. For want of memory it is so only where the rule
+  -- allows and its outputs can have words.
   pub record Unanswered (q : PumpState S T) (end : AskEnd) : Type 0 where
     pub account : account_by_words m q ≡ looked_in
     pub machine : machine_by_words m q ≡ machine_by_words m p
     pub within : is_over (account_by_words m q) ≡ false
     pub refused : (refusal : Refused) → end ≡ ask_end.Stopped refusal → answer_in ≡ Err refusal
     pub over : end ≡ ask_end.TagsOut → is_over ruled_in ≡ true
+    pub allowed : end ≡ ask_end.Memory → IsOk answer_in
+    pub fits : end ≡ ask_end.Memory → is_over ruled_in ≡ false
 
 -- how a turn without outputs ends, and what it leaves
 abbrev pub unanswered_end : ℕ → AskEnd → TurnEnd
@@ -123,6 +126,10 @@ module _ {S T : Type 0} (eq : T → T → Bool) (m : PolicyModel T S) (p : PumpS
   abbrev pub written_in : Job T → Account T
   written_in job = seeing eq (written_tags job) (account_by_words m p)
 
+  -- and after the first of them alone
+  abbrev pub first_in : Job T → Account T
+  first_in job = seeing eq (first_written job) (account_by_words m p)
+
   -- it was carried out
   pub record Serves (job : Job T) (q : PumpState S T) : Type 0 where
     pub machine : machine_by_words m q ≡ record {
@@ -136,7 +143,7 @@ module _ {S T : Type 0} (eq : T → T → Bool) (m : PolicyModel T S) (p : PumpS
   abbrev pub CarriesOut : Job T → PumpState S T → TurnEnd → Type 0
   CarriesOut job q (ends.Ran None) = Serves job q
   CarriesOut job q ends.TagsOut = (q ≡ after_halt p halt.TagWords) × (is_over (written_in job) ≡ true)
-  CarriesOut job q ends.Memory = q ≡ after_halt p halt.Memory
+  CarriesOut job q ends.Memory = (q ≡ after_halt p halt.Memory) × (is_over (first_in job) ≡ false)
   CarriesOut job q other = ⊥
 
   -- how it ended
@@ -148,11 +155,12 @@ module _ {S T : Type 0} (eq : T → T → Bool) (m : PolicyModel T S) (p : PumpS
 -- ---- memory
 
 module _ {S T : Type 0} (eq : T → T → Bool) (m : PolicyModel T S) (e : Standing S T) (h : ℕ) where
-  -- the rule of what is looked at is not kept, or it is a service of the policy
-  abbrev pub may_grow : Result (Look T) Stop → Bool
-  may_grow (Ok look) = not (is_kept eq (key_of eq m e.machine h look) e.account) || is_call look.group
-  may_grow (Err why) = false
+  -- the rule of what is looked at is kept
+  abbrev pub finds_rule : Result (Look T) Stop → Bool
+  finds_rule (Ok look) = is_kept eq (key_of eq m e.machine h look) e.account
+  finds_rule (Err why) = false
 
-  -- the turn is one that may take memory
+  -- the turn is one that may take memory: its rule allows and is not kept, or it comes to a service of the policy that
+  -- nothing refuses
   abbrev pub takes_memory : Bool
-  takes_memory = may_grow (preparation m e.machine h)
+  takes_memory = (is_ok (rule_at m e.machine h) && not (finds_rule (preparation m e.machine h))) || is_served m e.machine h

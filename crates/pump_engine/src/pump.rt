@@ -1,6 +1,6 @@
 //! The engine whose tags are words of a table, with a cache of rules.
 
-ghost use Rattle.std.specs.Prelude.{◌≡◌, ◌≢◌, ◌+◌, ◌%◌, ◌<◌, ◌≤◌, ◌&&◌, ◌||◌, not, [], Err, Ok, Some, None, IfErr, IfOk, IsOk, IsTrue, false, true, is_none, length};
+ghost use Rattle.std.specs.Prelude.{◌≡◌, ◌≢◌, ◌+◌, ◌%◌, ◌<◌, ◌≤◌, ◌&&◌, ◌||◌, not, [], Err, Ok, Some, None, IfErr, IfOk, IsOk, IsOkAnd, IsTrue, false, true, is_none, length};
 ghost use Rattle.std.specs.List.{All};
 ghost use Rattle.policy_trait.specs.Maps.{ins_by, outs_by};
 ghost use Rattle.policy_trait.specs.Model.{IsGiven};
@@ -16,7 +16,7 @@ ghost use Rattle.engine_trait.specs.Standing.{GivesUp, IsFailure, StopsOnly, Unc
 ghost use Rattle.engine_trait.specs.Turn.{carried_at, end_of, service_on};
 ghost use Rattle.miss_handler.specs.Asked.{AreInWords, AreOutWords};
 ghost use Rattle.pump_engine.specs.Pump.{IsPump, account_by_words, standing_by_words};
-ghost use Rattle.pump_engine.specs.Steps.{Allows, CarriesOut, EndsService, HasParts, Unanswered, after_effect, after_halt, after_stop, after_unanswered, is_known, key_in, prepared_words, pump_start, service_in, takes_memory, unanswered_end};
+ghost use Rattle.pump_engine.specs.Steps.{Allows, CarriesOut, EndsService, HasParts, Unanswered, after_effect, after_halt, after_stop, after_unanswered, first_in, is_known, key_in, prepared_words, pump_start, service_in, takes_memory, unanswered_end};
 
 use engine_trait::{Core, Counts, Engine, Feed, Halt, Stop, TurnEnd};
 use miss_handler::{AskEnd, Asking, Masks, ask};
@@ -26,10 +26,10 @@ use rule_cache::{OutWords, RuleStore};
 use rv_step::Fault;
 use std::alloc::Global;
 use std::marker::Model;
-use tag_intern::{Decoder, InternEnd, TagTable};
+use tag_intern::{Decoder, InternEnd, TagTable, has_room};
 use tag_memory::{Hart, Ram};
 use turn_steps::{Look, is_call};
-use word_service::{Decoded, WordJob, intern_job};
+use word_service::{Decoded, WordJob, first_tag, intern_job};
 
 /// An engine whose tags are words of a table, and which asks its policy for a rule only where the rule is not kept.
 ///
@@ -242,6 +242,10 @@ impl<P: Policy, T: TagTable<Tag = P::Tag>, C: RuleStore> Pump<P, T, C> {
             ≡ Ok (job_by job.plan job.words.items)) }
         ensures err { IfErr result
             (λ end. EndsAs end (service_in P.Tag.eq P.model self.now h look.now outs)) }
+        // Want of memory is told only of a service that nothing refuses and that has words to write.
+        ensures memory { result ≡ Err ServeEnd.Memory
+            → IsOkAnd (service_in P.Tag.eq P.model self.now h look.now outs)
+            (λ job. 1 ≤ length job.words) }
         ensures places { IfOk result
             (λ job. All (λ word. IsPlace (ram_bytes self.now.core.ram) word.0) job.words.items) }
         ensures given { IfOk result (λ job. IsGiven P.model self.now.policy job.plan) }
@@ -261,6 +265,45 @@ impl<P: Policy, T: TagTable<Tag = P::Tag>, C: RuleStore> Pump<P, T, C> {
             pc,
             &memory,
         )
+    }
+
+    /// Whether the first tag can have a word that a service writes which nothing refuses and which has words to write.
+    #[tactic(auto, unfolding(engine_trait::specs::Turn::service_on))]
+    fn has_room_for_first(&self, h: u32, look: &Look<u32>, outs: OutWords) -> bool
+        requires hart { h < length self.now.core.harts }
+        requires known { IsTrue (P.model.knows self.now.policy look.now.service) }
+        ensures { IfOk (service_in P.Tag.eq P.model self.now h look.now outs)
+            (λ job. 1 ≤ length job.words
+            → is_over (first_in P.Tag.eq P.model self.now h look.now outs job) ≡ not result) }
+    {
+        let decoder = self.decoder();
+        let given = self.core.arguments(h).map(&decoder);
+        let pc = decoder.image(outs.pc);
+        let memory = Decoded {
+            ram: self.core.ram(),
+            decoder,
+        };
+        match first_tag(&self.policy, look.service, &given, pc, &memory) {
+            Some(tag) => has_room(&self.tags, &tag),
+            None => true,
+        }
+    }
+
+    /// Ends a call of a service that nothing refuses, and whose words found no memory: for want of tag words where the
+    /// first tag that it writes can't have one.
+    fn end_without_memory(&mut self, h: u32, look: &Look<u32>, outs: OutWords) -> TurnEnd
+        requires hart { h < length self.old.core.harts }
+        requires known { IsTrue (P.model.knows self.old.policy look.now.service) }
+        requires unrefused { IsOkAnd (service_in P.Tag.eq P.model self.old h look.now outs)
+            (λ job. 1 ≤ length job.words) }
+        ensures ends { EndsService P.Tag.eq P.model self.old h look.now outs self.new result }
+        ensures harts { length self.new.core.harts ≡ length self.old.core.harts }
+        ensures bytes { ram_bytes self.new.core.ram ≡ ram_bytes self.old.core.ram }
+    {
+        if self.has_room_for_first(h, look, outs) {
+            return self.give_up();
+        }
+        self.run_out()
     }
 
     /// Carries out a service that nothing refused. What it writes gets words, and the policy takes note, before anything
@@ -310,7 +353,7 @@ impl<P: Policy, T: TagTable<Tag = P::Tag>, C: RuleStore> Pump<P, T, C> {
                 self.stop_hart(h, why)
             }
             Err(ServeEnd::Spent) => self.stop_hart(h, Stop::Fault(Fault::Spent(look.service))),
-            Err(ServeEnd::Memory) => self.give_up(),
+            Err(ServeEnd::Memory) => self.end_without_memory(h, look, outs),
         }
     }
 }
@@ -342,7 +385,7 @@ impl<P: Policy, T: TagTable<Tag = P::Tag>, C: RuleStore> Engine for Pump<P, T, C
             ≡ length (standing_by_words P.model self.old).machine.core.harts }
         ensures ram { ram_bytes (standing_by_words P.model self.new).machine.core.ram
             ≡ ram_bytes (standing_by_words P.model self.old).machine.core.ram }
-        // A turn whose rule is kept takes no memory, but for a service of the policy.
+        // A turn whose rule is kept takes no memory, but for a service of the policy that nothing refuses.
         ensures kept { result ≡ TurnEnd.Memory
             → takes_memory P.Tag.eq P.model (standing_by_words P.model self.old) h ≡ true }
     {

@@ -16,7 +16,7 @@ use policy_choice::Choice;
 use std::alloc::{AllocError, Global};
 
 /// What the words ask for, a case for each subcommand.
-#[derive(Clone, Copy, Debug)]
+#[derive(Clone, Copy)]
 pub enum Task<'a> {
     /// `run`
     Run(RunTask<'a>),
@@ -31,7 +31,7 @@ pub enum Task<'a> {
 }
 
 /// A run that the words ask for.
-#[derive(Clone, Copy, Debug)]
+#[derive(Clone, Copy)]
 pub struct RunTask<'a> {
     /// The name of the image's file; it may be empty.
     pub image: &'a str,
@@ -46,7 +46,7 @@ pub struct RunTask<'a> {
 }
 
 /// A session of the monitor shell that the words ask for.
-#[derive(Clone, Copy, Debug)]
+#[derive(Clone, Copy)]
 pub struct ShellTask<'a> {
     /// The name of the image's file; it may be empty.
     pub image: &'a str,
@@ -59,7 +59,7 @@ pub struct ShellTask<'a> {
 }
 
 /// An image of a source that the words ask for.
-#[derive(Clone, Copy, Debug)]
+#[derive(Clone, Copy)]
 pub struct AssembleTask<'a> {
     /// The name of the source's file; it may be empty.
     pub source: &'a str,
@@ -68,14 +68,14 @@ pub struct AssembleTask<'a> {
 }
 
 /// A listing of an image's words that the words ask for.
-#[derive(Clone, Copy, Debug)]
+#[derive(Clone, Copy)]
 pub struct DisassembleTask<'a> {
     /// The name of the image's file; it may be empty.
     pub image: &'a str,
 }
 
 /// A run of a workload, under every policy, that the words ask for.
-#[derive(Clone, Copy, Debug)]
+#[derive(Clone, Copy)]
 pub struct LoadTask {
     /// How many blocks the workload has: 1 to 1,000.
     pub count: u32,
@@ -86,7 +86,7 @@ pub struct LoadTask {
 }
 
 /// Why words were not read.
-#[derive(Clone, Copy, Debug)]
+#[derive(Clone, Copy)]
 pub enum WordsEnd {
     /// They are no command line of `pump`.
     Bad,

@@ -47,6 +47,6 @@ bare_start_mirrors choice g none = record {
   policy = nothing_mirrors choice g (record {}) none;
   core = start_core_by no_tag all (choice_state choice g) nothing (record {}) (nothing_mirrors choice g (record {}) none) g;
   halt = refl;
-  uncached = record { capacity = refl; seen = refl; kept = refl };
-  mirror_uncached = record { capacity = refl; seen = refl; kept = refl };
+  uncached = record { ways = refl; seen = refl; sets = refl };
+  mirror_uncached = record { ways = refl; seen = refl; sets = refl };
 }

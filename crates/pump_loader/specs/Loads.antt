@@ -20,7 +20,7 @@ pub record HasRoom (load : CachedLoad) : Type 0 where
 
 -- the image's start under the chosen policies
 abbrev pub cached_start_of : Choice → ℕ → ℕ → Picture → Standing AllState AllTag
-cached_start_of choice cache tags g = cached_standing all_eq all (choice_state choice g) g cache tags
+cached_start_of choice cache tags g = cached_standing all_eq all (choice_state choice g) g 1 cache tags
 
 abbrev pub cached_start_of_load : CachedLoad → Standing AllState AllTag
 cached_start_of_load load = cached_start_of load.choice load.cache load.tags load.image

@@ -82,6 +82,6 @@ impl<'a> Loader for PumpLoad<'a> {
         let Ok(policy) = choose(self.alloc, self.choice, self.image) else {
             return Err(LoadEnd::Memory);
         };
-        start_cached(self.alloc, policy, self.image, self.cache, self.tags)
+        start_cached(self.alloc, policy, self.image, 1, self.cache, self.tags)
     }
 }

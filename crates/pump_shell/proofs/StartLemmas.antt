@@ -1,5 +1,5 @@
 -- The start that a setup asks for, by whether rules are kept.
-use Rattle.std.proofs.Common.{◌≡◌, ℕ, ◌≤◌, ◌==◌, Bool, if◌then◌else◌, refl, ap}
+use Rattle.std.proofs.Common.{◌≡◌, ℕ, ◌≤◌, ◌==◌, Bool, if◌then◌else◌, ap}
 use Rattle.image_format.specs.Picture.{Picture}
 use Rattle.policy_choice.specs.All.{AllState, AllTag}
 use Rattle.engine_trait.specs.Standing.{Standing}

@@ -10,7 +10,7 @@ use Rattle.shell_turns.specs.declared.ends.ObeyEnd.TheVariants as obey_end
 use Rattle.shell_turns.proofs.PutLemmas.{puts_cut_with, puts_not_begun, puts_nothing, puts_with}
 use Rattle.shell_run.specs.Session.{SessionState, fresh}
 use Rattle.shell_script.specs.Scripts.{Script, followed_by, script}
-use Rattle.shell_script.specs.Shell.{Shell, ShellEnds, at_the_end, ending_so, last_in, lines_in, shell_of}
+use Rattle.shell_script.specs.Shell.{ShellEnds, at_the_end, ending_so, last_in, lines_in, shell_of}
 use Rattle.shell_script.specs.declared.reading.ShellCut.{ShellCut}
 use Rattle.shell_script.specs.declared.reading.ShellEnd.{ShellEnd}
 use Rattle.shell_script.specs.declared.reading.ShellEnd.TheVariants as shell_end

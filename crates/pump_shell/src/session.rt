@@ -4,7 +4,7 @@ ghost use Rattle.std.specs.Prelude.{◌≡◌, ◌+◌, ◌<◌, ◌≤◌, IfOk
 ghost use Rattle.host_io.specs.Fronts.{LosesFront};
 ghost use Rattle.engine_trait.specs.Accounts.{is_over};
 ghost use Rattle.shell_turns.specs.Cuts.{PutsOut};
-ghost use Rattle.pump_shell.specs.Ends.{SessionCause};
+ghost use Rattle.pump_shell.specs.Ends.{NoSession, SessionCause};
 ghost use Rattle.pump_shell.specs.Told.{start_of_setup, told_from, told_of};
 
 use crate::ends::{SessionCut, SessionEnd};
@@ -35,8 +35,8 @@ fn run_from<L: Loader, S: Source, K: Sink>(
         → IfSome (S.left input.old) (λ bytes. limit < length bytes) }
     ensures out_of_tags { result ≡ Ok SessionEnd.TagsOut
         → is_over (L.start loader).account ≡ true }
-    ensures unread { result ≡ Ok SessionEnd.TagsOut → input.new ≡ input.old }
-    ensures silent { result ≡ Ok SessionEnd.TagsOut → K.taken out.new ≡ K.taken out.old }
+    ensures over { is_over (L.start loader).account ≡ true
+        → NoSession input.old input.new (K.taken out.old) (K.taken out.new) result }
     ensures closed { result ≡ Ok SessionEnd.InputEnd → IsTrue (S.closed input.new) }
     ensures moved { LosesFront (S.left input.old) (S.left input.new) (limit + 4096) }
     ensures cause { SessionCause
@@ -72,8 +72,8 @@ fn session_asked<S: Source, K: Sink>(
         → IfSome (S.left input.old) (λ bytes. limit < length bytes) }
     ensures out_of_tags { result ≡ Ok SessionEnd.TagsOut
         → is_over (start_of_setup setup image.now).account ≡ true }
-    ensures unread { result ≡ Ok SessionEnd.TagsOut → input.new ≡ input.old }
-    ensures silent { result ≡ Ok SessionEnd.TagsOut → K.taken out.new ≡ K.taken out.old }
+    ensures over { is_over (start_of_setup setup image.now).account ≡ true
+        → NoSession input.old input.new (K.taken out.old) (K.taken out.new) result }
     ensures closed { result ≡ Ok SessionEnd.InputEnd → IsTrue (S.closed input.new) }
     ensures moved { LosesFront (S.left input.old) (S.left input.new) (limit + 4096) }
     ensures cause { SessionCause
@@ -103,8 +103,8 @@ fn session_kept<S: Source, K: Sink>(
         → IfSome (S.left input.old) (λ bytes. limit < length bytes) }
     ensures out_of_tags { result ≡ Ok SessionEnd.TagsOut
         → is_over (start_of_setup setup image.now).account ≡ true }
-    ensures unread { result ≡ Ok SessionEnd.TagsOut → input.new ≡ input.old }
-    ensures silent { result ≡ Ok SessionEnd.TagsOut → K.taken out.new ≡ K.taken out.old }
+    ensures over { is_over (start_of_setup setup image.now).account ≡ true
+        → NoSession input.old input.new (K.taken out.old) (K.taken out.new) result }
     ensures closed { result ≡ Ok SessionEnd.InputEnd → IsTrue (S.closed input.new) }
     ensures moved { LosesFront (S.left input.old) (S.left input.new) (limit + 4096) }
     ensures cause { SessionCause
@@ -137,11 +137,11 @@ pub fn run_session<S: Source, K: Sink>(
     ensures long { result ≡ Ok SessionEnd.TooLong
         → IfSome (S.left input.old) (λ bytes. limit < length bytes) }
 
-    // A start that is out of tag words leaves input and output alone.
+    // A start that is out of tag words leaves input and output alone, whatever the input is.
     ensures out_of_tags { result ≡ Ok SessionEnd.TagsOut
         → is_over (start_of_setup setup image.now).account ≡ true }
-    ensures unread { result ≡ Ok SessionEnd.TagsOut → input.new ≡ input.old }
-    ensures silent { result ≡ Ok SessionEnd.TagsOut → K.taken out.new ≡ K.taken out.old }
+    ensures over { is_over (start_of_setup setup image.now).account ≡ true
+        → NoSession input.old input.new (K.taken out.old) (K.taken out.new) result }
 
     // What was moved out of the input stood first, and it is closed where its end was met.
     ensures closed { result ≡ Ok SessionEnd.InputEnd → IsTrue (S.closed input.new) }

@@ -59,7 +59,7 @@ module _ {S T : Type 0} (eq : T → T → Bool) (m : PolicyModel T S) where
     after_is_run others runs = step_if (is_made (step eq m e feed h).ended) others refl runs
 
   -- the rounds after one more turn
-  abbrev rest_of : ℕ → Standing S T → List ℕ → ℕ → Course S T
+  abbrev pub rest_of : ℕ → Standing S T → List ℕ → ℕ → Course S T
   rest_of n e feed h = rounds eq m n (h + 1) (step eq m e feed h).standing (step eq m e feed h).feed
 
   taken_is_run : (e : Standing S T) (feed : List ℕ) (next : Option ℕ) (go : ℕ → Course S T)

@@ -11,8 +11,6 @@ mod pieces;
 mod runs;
 mod stops;
 mod tellings;
-#[cfg(test)]
-mod tests;
 
 use host_io::{StdFiles, StdSink};
 use runs::run_files;

@@ -1,6 +1,6 @@
-//! `RuleCache`: the rules in one list by recency.
+//! `RuleCache`: the rules in one set by recency.
 
-ghost use Rattle.std.specs.Prelude.{◌≡◌, ◌≤◌, IfNone, IfSome, Some, slice_get};
+ghost use Rattle.std.specs.Prelude.{◌≡◌, ◌≤◌, [], ◌∷◌, IfNone, IfSome, Some, slice_get};
 ghost use Rattle.std.specs.Map.{lookup};
 ghost use Rattle.lru.specs.LruCache.{lru_cache};
 ghost use Rattle.rule_cache.specs.Keys.{key_eq};
@@ -12,7 +12,7 @@ use lru::LruCache;
 use std::alloc::{AllocError, Global};
 use std::num::NonZeroUsize;
 
-/// A store that holds its rules in one list, under a hash of their keys.
+/// A store of one set, under a hash of the keys.
 #[derive(Drop)]
 pub struct RuleCache {
     rules: LruCache<Key, OutWords>,
@@ -22,15 +22,17 @@ pub struct RuleCache {
 
 impl RuleStore for RuleCache {
     ghost state = { λ c. record {
-      kept = c.rules.entries;
-      capacity = c.rules.cap;
+      sets = c.rules.entries ∷ [];
+      ways = c.rules.cap;
       hits = c.hits;
       misses = c.misses;
     } };
 
-    fn made(alloc: Global, capacity: u32) -> Result<Self, AllocError> {
-        let capacity = NonZeroUsize::new(capacity as usize).unwrap();
-        let rules = LruCache::new(alloc, capacity)?;
+    ghost fits = { λ sets ways. sets ≡ 1 };
+
+    fn made(alloc: Global, _sets: u32, ways: u32) -> Result<Self, AllocError> {
+        let ways = NonZeroUsize::new(ways as usize).unwrap();
+        let rules = LruCache::new(alloc, ways)?;
         Ok(RuleCache {
             rules,
             hits: 0,

@@ -7,14 +7,14 @@ ghost use Rattle.policy_trait.specs.declared.rules.Outs.{Outs};
 ghost use Rattle.engine_trait.specs.Accounts as accounts;
 ghost use Rattle.engine_trait.specs.Accounts.{Account, is_kept, looked_up};
 ghost use Rattle.rule_cache.specs.Named.{IsAccountOf, IsKeyBelow, IsToldApart, TellsBelow, key_by};
-ghost use Rattle.rule_cache.specs.Stores.{IsStore, Store, store_without_rules, empty_store, lookup_of, looked_for, store_with};
+ghost use Rattle.rule_cache.specs.Stores.{IsStore, Store, store_without_rules, empty_store, lookup_of, looked_for, set_rules, store_with};
 ghost use Rattle.rule_cache.specs.declared.key.Key.{Key as StoreKey};
 
 use pump_words::Same;
 
-/// A store is one after each call: its keys are distinct and no more than its capacity. The function does nothing.
+/// A store is one after each call: the keys of each set are distinct and no more than its ways. The function does nothing.
 pub fn store_law()
-    ensures made { (capacity : ℕ) → 1 ≤ capacity → IsStore (empty_store capacity) }
+    ensures made { (sets ways : ℕ) → 1 ≤ sets → 1 ≤ ways → IsStore (empty_store sets ways) }
     ensures find { (key : StoreKey) (store : Store) → IsStore store
         → IsStore (looked_for key store) }
     ensures keep { (key : StoreKey) (words : Outs ℕ) (store : Store) → IsStore store
@@ -27,7 +27,7 @@ pub fn store_law()
 pub fn account_law<T: Same>()
     ensures apart { (tag_of : ℕ → T) (bound : ℕ) (store : Store) (key : StoreKey)
         → TellsBelow tag_of T.eq bound → IsKeyBelow bound key
-        → AllByRecursion (IsKeyBelow bound) (keys_of store.kept)
+        → AllByRecursion (IsKeyBelow bound) (keys_of (set_rules key store))
         → IsToldApart tag_of T.eq key store }
     ensures is_kept { (tag_of : ℕ → T) (account : Account T) (store : Store) (key : StoreKey)
         → IsAccountOf tag_of account store → IsToldApart tag_of T.eq key store

@@ -36,10 +36,10 @@ use Rattle.heap_runs.specs.BlockBook.{block_book}
 use Rattle.heap_runs.specs.HeapLine.{HeapLine}
 use Rattle.heap_runs.specs.HeapSafe.{HeapTurn, is_in_heap}
 use Rattle.run_props.proofs.EndLemmas.{ready_ends, retired_call}
-use Rattle.run_props.proofs.PartLemmas.{all_laws, comp_is_part, flow_is_part, heap_is_part, seal_is_part}
-use Rattle.run_props.specs.Attacks.{GoesAstray, MissesBlock, Trespasses, UnsealsWithoutKey, enters, forged, outside, stores, unlisted}
+use Rattle.run_props.proofs.PartLemmas.{comp_is_part, flow_is_part, heap_is_part, seal_is_part}
+use Rattle.run_props.specs.Attacks.{GoesAstray, MissesBlock, Trespasses, UnsealsWithoutKey, enters, forged, outside, stores, unlisted, zeroes}
 use Rattle.run_props.specs.Ends.{IsStopped}
-use Rattle.run_props.specs.Holds.{AllHold}
+use Rattle.policy_choice.specs.AllLaws.{AllHold, all_laws}
 use Rattle.run_props.specs.Line.{InLine}
 use Rattle.run_props.specs.Views.{comp_view, flow_view, heap_view, seal_view}
 
@@ -64,20 +64,21 @@ module _ (s : Machine AllState AllTag) (feed : List ℕ) (h : ℕ) where
       | inr stop ↦ stop
     ]
 
+  -- a service as a policy sees it
+  abbrev seen_service : {U : Type 0} → (AllTag → U) → Option (Call AllTag) → Option (Work AllTag) → Option (Service U)
+  seen_service tag call work = service_by (option_map (call_by tag) call) (option_map (work_by tag) work)
+
   -- ---- sealing
 
   module _ (events : List (Event SealTag)) (stands : InLine seal_view SealLine events s) (ready : is_ready_in s.core h ≡ true)
       (attack : UnsealsWithoutKey (event_with seal_view.tag turn)) where
-    abbrev seen_service : Option (Call AllTag) → Option (Work AllTag) → Option (Service SealTag)
-    seen_service call work = service_by (option_map (call_by seal_view.tag) call) (option_map (work_by seal_view.tag) work)
-
     by_call : SealTurn (key_book events) (event_with seal_view.tag turn) → is_retirement turn ≡ true
         → (call : Option (Call AllTag)) → turn.call ≡ call → option_map (call_by seal_view.tag) call ≡ Some attack.call → ⊥
     by_call kept done None is same = absurd cc
     by_call kept done (Some call) is same =
         let served = retired_call all s feed h ready call is done in
         let seen : call_by seal_view.tag call ≡ attack.call = cc in
-        let service = ap (λ c. seen_service c turn.work) is ∙ ap (λ w. seen_service (Some call) w) served.1 in
+        let service = ap (λ c. seen_service seal_view.tag c turn.work) is ∙ ap (λ w. seen_service seal_view.tag (Some call) w) served.told in
         let uses = kept.unseals _ service (ap (λ (c : Call SealTag). c.number) seen ∙ attack.unseals) in
         attack.without uses.key (sym (ap (λ (c : Call SealTag). c.arguments.t0) seen) ∙ uses.sealed) (sym (ap (λ (c : Call SealTag). c.arguments.t1) seen) ∙ uses.held)
 
@@ -90,13 +91,18 @@ module _ (s : Machine AllState AllTag) (feed : List ℕ) (h : ℕ) where
 
   module _ (birth : ℕ → Birth) (entries : List ℕ) (events : List (Event CompartmentTag))
       (stands : InLine comp_view (CompLine birth entries) events s) (ready : is_ready_in s.core h ≡ true) where
-    trespass_fails : Trespasses birth entries events (event_with comp_view.tag turn) → CompTurn birth entries events (event_with comp_view.tag turn)
+    trespass_fails : Trespasses birth entries s.policy events turn → CompTurn birth entries events (event_with comp_view.tag turn)
         → is_retirement turn ≡ true → ⊥
     trespass_fails (stores touch accessed is_store foreign) kept done =
         let permitted = (kept.writes done).stores touch accessed is_store in absurd (cc (permitted, foreign))
+    trespass_fails (zeroes call range word called would covered foreign) kept done =
+        let served = retired_call all s feed h ready call called done in
+        let service = ap (λ c. seen_service comp_view.tag c turn.work) called ∙ ap (λ w. seen_service comp_view.tag (Some call) w) served.told in
+        let plan = would served.pc served.plan served.planned in
+        let permitted = (kept.writes done).zeroes _ range word service plan.0 plan.1 covered in absurd (cc (permitted, foreign))
     trespass_fails (enters without) kept done = without (kept.follows done)
 
-    pub comp_stops : Trespasses birth entries events (event_with comp_view.tag turn) → IsStopped turn
+    pub comp_stops : Trespasses birth entries s.policy events turn → IsStopped turn
     comp_stops attack =
         stopped_unless compartments comp_view (CompLine birth entries) (CompTurn birth entries) comp_is_part (comp_keeps birth entries) events stands ready
         (trespass_fails attack)

@@ -6,13 +6,13 @@ use Rattle.std.specs.Option.{is_some}
 use Rattle.std.proofs.lemmas.Bool.{eqb-true, leb-true}
 use Rattle.std.proofs.lemmas.List.Elements.{All-nil}
 use Rattle.std.proofs.Math.Nat.{le-max_left, le-max_right, max-le}
-use Rattle.image_format.specs.Conditions.{IsImage, are_rows, in_order, is_aligned, is_compartment, is_compartment_after, is_owner, is_range, is_u32, whole}
+use Rattle.image_format.specs.Conditions.{IsImage, are_rows, in_order, is_aligned, is_compartment, is_compartment_after, whole}
 use Rattle.image_format.specs.Picture.{Picture}
 use Rattle.image_format.specs.declared.rows.CompartmentRange.{CompartmentRange}
 use Rattle.image_format.proofs.FieldLemmas.{both}
 use Rattle.compartment_policy.specs.Compartments.{IsCount}
 use Rattle.heap_policy.specs.Heap.{IsHeap}
-use Rattle.policy_choice.specs.All.{compartment_count, heap_of}
+use Rattle.policy_choice.specs.All.{compartment_count, compartments_of, heap_of}
 use Rattle.policy_choice.proofs.OwnerLemmas.{owner_fits}
 use Rattle.tag_loader.specs.Births.{birth_by, birth_of, id_of, is_labelled_by, is_owned_by, lies_in, lies_in_heap}
 
@@ -39,8 +39,12 @@ count_most ram before count (row ∷ rows) few are =
     let next : row.owner + 1 ≤ 32 = omega arith in
     count_most ram (Some row) (max count (row.owner + 1)) rows (max-le few next) parts.1
 
-pub count_is : (g : Picture) → IsImage g → IsCount (compartment_count g.compartments)
-count_is g is = (count_least 1 g.compartments, count_most g.ram None 1 g.compartments (omega arith) is.compartments.rows)
+pub count_is : (g : Picture) → IsImage g → IsCount (compartments_of g)
+count_is g is = record {
+  some = count_least 1 g.compartments;
+  within = count_most g.ram None 1 g.compartments (omega arith) is.compartments.rows;
+  few = omega arith;
+}
 
 -- ---- the owners of words
 

@@ -1,22 +1,21 @@
 -- The chosen policies at the start of an image: what each keeps of its value, their sound machine, and each one's value.
-use Rattle.std.proofs.Common.{◌≡◌, ℕ, ◌≤◌, Bool, true, false, [], map, ap, arith}
+use Rattle.std.proofs.Common.{◌≡◌, Bool, true, false, [], map, ap, arith}
 use Rattle.std.specs.Option.{is_some, unwrap_or}
 use Rattle.image_format.specs.Conditions.{IsImage}
 use Rattle.image_format.specs.Picture.{Picture}
-use Rattle.policy_trait.specs.Model.{PolicyModel}
-use Rattle.sealing_policy.specs.Sealing.{HasFewKeys, sealing}
-use Rattle.compartment_policy.specs.Compartments.{IsCount, compartments}
-use Rattle.flow_policy.specs.Flow.{HoldsAlways, flow}
-use Rattle.heap_policy.specs.Heap.{IsHeap, empty_heap, heap}
+use Rattle.sealing_policy.specs.Sealing.{HasFewKeys}
+use Rattle.compartment_policy.specs.Compartments.{IsCount, first_compartments}
+use Rattle.flow_policy.specs.Flow.{HoldsAlways}
+use Rattle.heap_policy.specs.Heap.{IsHeap, empty_heap}
 use Rattle.policy_product.specs.Maybe.{MaybeHolds}
-use Rattle.policy_choice.specs.All.{all, choice_state, compartment_count, heap_of, pair_of, part_if}
+use Rattle.policy_choice.specs.All.{all, choice_state, compartments_of, heap_of, pair_of, part_if}
 use Rattle.policy_choice.specs.declared.choice.Choice.{Choice}
 use Rattle.policy_choice.proofs.AllLemmas.{room_of_chosen}
 use Rattle.engine_trait.specs.Machine.{IsMachine}
 use Rattle.tag_loader.specs.Start.{start_machine}
 use Rattle.run_props.specs.Views.{comp_view, flow_view, heap_view, seal_view}
 use Rattle.run_props.proofs.BirthLemmas.{count_is, ends_inside, heap_is}
-use Rattle.run_props.specs.Holds.{AllHold}
+use Rattle.policy_choice.specs.AllLaws.{AllHold}
 use Rattle.run_props.proofs.StartLemmas.{sound_start}
 
 -- ---- a policy that may be chosen
@@ -39,7 +38,7 @@ module _ (choice : Choice) (g : Picture) where
   start_holds is = (
     holds_if 0 HasFewKeys choice.seal (omega arith),
     (
-      holds_if (compartment_count g.compartments) IsCount choice.comp (count_is g is),
+      holds_if (compartments_of g) IsCount choice.comp (count_is g is),
       (holds_if (map pair_of g.edges) HoldsAlways choice.flow tt, holds_if (heap_of g) IsHeap choice.heap (heap_is g is)),
     ),
   )
@@ -56,10 +55,10 @@ module _ (choice : Choice) (g : Picture) where
   seal_value on = value_if 0 choice.seal 0 on
 
   pub comp_on : choice.comp ≡ true → comp_view.is_on (choice_state choice g) ≡ true
-  comp_on on = on_if (compartment_count g.compartments) choice.comp on
+  comp_on on = on_if (compartments_of g) choice.comp on
 
-  pub comp_value : choice.comp ≡ true → comp_view.value (choice_state choice g) ≡ compartment_count g.compartments
-  comp_value on = value_if (compartment_count g.compartments) choice.comp 0 on
+  pub comp_value : choice.comp ≡ true → comp_view.value (choice_state choice g) ≡ compartments_of g
+  comp_value on = value_if (compartments_of g) choice.comp (first_compartments 0) on
 
   pub flow_on : choice.flow ≡ true → flow_view.is_on (choice_state choice g) ≡ true
   flow_on on = on_if (map pair_of g.edges) choice.flow on

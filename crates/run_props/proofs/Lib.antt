@@ -7,3 +7,4 @@ mod PartRunLemmas
 pub mod RunLemmas
 mod StartLemmas
 mod StayLemmas
+mod ZeroLemmas

@@ -17,8 +17,7 @@ use Rattle.tag_loader.specs.Births.{birth_of}
 use Rattle.tag_loader.specs.Start.{memory_of, start_machine}
 use Rattle.tag_loader.proofs.MemoryLemmas.{length-memory_of}
 use Rattle.run_props.proofs.ChosenLemmas.{start_holds, start_sound}
-use Rattle.run_props.proofs.PartLemmas.{all_laws}
-use Rattle.run_props.specs.Holds.{AllHold}
+use Rattle.policy_choice.specs.AllLaws.{AllHold, all_laws}
 use Rattle.run_props.proofs.StartLemmas.{seen_start}
 
 module _ (choice : Choice) (g : Picture) (feed : List ℕ) (items : List Item) where

@@ -4,14 +4,14 @@ use Rattle.image_format.specs.Conditions.{IsImage}
 use Rattle.image_format.specs.Picture.{Picture}
 use Rattle.sealing_policy.specs.Sealing.{sealing}
 use Rattle.sealing_policy.specs.declared.tag.SealTag.{SealTag}
-use Rattle.compartment_policy.specs.Compartments.{compartments}
+use Rattle.compartment_policy.specs.Compartments.{CompartmentState, compartments}
 use Rattle.compartment_policy.specs.declared.tag.CompartmentTag.{CompartmentTag}
 use Rattle.flow_policy.specs.Flow.{flow}
 use Rattle.flow_policy.specs.declared.tag.FlowTag.{FlowTag}
 use Rattle.heap_policy.specs.Heap.{HeapState, heap}
 use Rattle.heap_policy.specs.declared.tag.HeapTag.{HeapTag}
 use Rattle.policy_trait.specs.Model.{PolicyModel}
-use Rattle.policy_choice.specs.All.{AllState, AllTag, all, choice_state, compartment_count, heap_of, pair_of}
+use Rattle.policy_choice.specs.All.{AllState, AllTag, all, choice_state, compartments_of, heap_of, pair_of}
 use Rattle.policy_parts.specs.Part.{IsPart}
 use Rattle.policy_parts.specs.View.{View}
 use Rattle.policy_choice.specs.declared.choice.Choice.{Choice}
@@ -64,7 +64,7 @@ module _ (choice : Choice) (g : Picture) (feed : List ℕ) (items : List Item) (
       part_keeps choice g feed items sealing seal_view SealLine seal_promise 0 is seal_is_part seal_keeps
       (seal_on choice g on) (seal_value choice g on) (seal_starts (birth_of g) (memory_of g) g.entries)
 
-  abbrev comp_line : List (Event CompartmentTag) → Machine ℕ CompartmentTag → Type 0
+  abbrev comp_line : List (Event CompartmentTag) → Machine CompartmentState CompartmentTag → Type 0
   comp_line = CompLine (birth_of g) g.entries
 
   abbrev comp_promise : List (Event CompartmentTag) → Event CompartmentTag → Type 0
@@ -72,10 +72,9 @@ module _ (choice : Choice) (g : Picture) (feed : List ℕ) (items : List Item) (
 
   comp_keeps_run : choice.comp ≡ true → RunKeeps comp_view comp_line comp_promise run
   comp_keeps_run on =
-      let count = compartment_count g.compartments in
-      part_keeps choice g feed items compartments comp_view comp_line comp_promise count is comp_is_part
+      part_keeps choice g feed items compartments comp_view comp_line comp_promise (compartments_of g) is comp_is_part
       (comp_keeps (birth_of g) g.entries) (comp_on choice g on) (comp_value choice g on)
-      (comp_starts (birth_of g) (memory_of g) g.entries count (λ n below. owner_below g (4 * n)))
+      (comp_starts (birth_of g) (memory_of g) g.entries (compartments_of g) (λ n below. owner_below g (4 * n)))
 
   abbrev edges : List (ℕ × ℕ)
   edges = map pair_of g.edges

@@ -9,8 +9,7 @@ use Rattle.engine_trait.specs.Turn.{turn_of}
 use Rattle.policy_parts.specs.Part.{IsPart}
 use Rattle.policy_parts.specs.View.{View}
 use Rattle.part_turns.proofs.TurnLemmas.{turn_shown}
-use Rattle.run_props.proofs.PartLemmas.{all_laws}
-use Rattle.run_props.specs.Holds.{AllHold}
+use Rattle.policy_choice.specs.AllLaws.{AllHold, all_laws}
 
 module _ {U V : Type 0} (m : PolicyModel U V) (l : View AllTag AllState U V) (part : IsPart all m l) where
   pub record IsOn (s : Machine AllState AllTag) : Type 0 where

@@ -1,6 +1,5 @@
 pub mod Attacks
 pub mod Ends
-pub mod Holds
 pub mod Line
 pub mod Safe
 pub mod Views

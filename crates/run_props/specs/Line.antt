@@ -5,7 +5,7 @@ use Rattle.engine_trait.specs.Machine.{IsMachine, Machine}
 use Rattle.policy_choice.specs.All.{AllState, AllTag, all}
 use Rattle.policy_parts.specs.View.{View}
 use Rattle.part_turns.specs.Maps.{seen_by}
-use Rattle.run_props.specs.Holds.{AllHold}
+use Rattle.policy_choice.specs.AllLaws.{AllHold}
 
 -- a sound machine where the policy is on, and its line holds after these events
 pub record InLine {U V : Type 0} (l : View AllTag AllState U V) (line : List (Event U) → Machine V U → Type 0) (events : List (Event U))

@@ -5,6 +5,7 @@ use Rattle.policy_parts.specs.View.{View, left_view, on_view, right_view}
 use Rattle.part_turns.specs.Maps.{event_with}
 use Rattle.sealing_policy.specs.declared.tag.SealTag.{SealTag}
 use Rattle.sealing_policy.specs.declared.tag.SealTag.TheVariants.{Data}
+use Rattle.compartment_policy.specs.Compartments.{CompartmentState, first_compartments}
 use Rattle.compartment_policy.specs.declared.tag.CompartmentTag.{CompartmentTag}
 use Rattle.compartment_policy.specs.declared.tag.CompartmentTag.TheVariants as compartment_tag
 use Rattle.flow_policy.specs.declared.tag.FlowTag.{FlowTag}
@@ -17,8 +18,8 @@ use Rattle.policy_choice.specs.All.{AllState, AllTag}
 abbrev pub seal_view : View AllTag AllState SealTag ℕ
 seal_view = left_view (on_view Data 0)
 
-abbrev pub comp_view : View AllTag AllState CompartmentTag ℕ
-comp_view = right_view (left_view (on_view compartment_tag.Plain 0))
+abbrev pub comp_view : View AllTag AllState CompartmentTag CompartmentState
+comp_view = right_view (left_view (on_view compartment_tag.Plain (first_compartments 0)))
 
 abbrev pub flow_view : View AllTag AllState FlowTag (List (ℕ × ℕ))
 flow_view = right_view (right_view (left_view (on_view flow_tag.Plain [])))

@@ -1,13 +1,15 @@
 //! Laws on runs.
 
-ghost use Rattle.std.specs.Prelude.{◌≡◌, ℕ, ◌+◌, List, [], map, true};
+ghost use Rattle.std.specs.Prelude.{◌≡◌, ℕ, ◌+◌, List, [], map, Some, true};
 ghost use Rattle.image_format.specs.Conditions.{IsImage};
 ghost use Rattle.image_format.specs.Picture.{Picture};
 ghost use Rattle.engine_trait.specs.Runs.{Item, run_along};
 ghost use Rattle.sealing_policy.specs.Sealing.{sealing};
 ghost use Rattle.compartment_policy.specs.Compartments.{compartments};
 ghost use Rattle.flow_policy.specs.Flow.{flow};
-ghost use Rattle.heap_policy.specs.Heap.{heap};
+ghost use Rattle.heap_policy.specs.Heap.{free_service, heap, malloc_service, pointed_to, words_of};
+ghost use Rattle.live_blocks.specs.Space.{first_fit};
+ghost use Rattle.live_blocks.specs.declared.block.Block.{Block};
 ghost use Rattle.policy_choice.specs.All.{all, choice_state, pair_of};
 ghost use Rattle.policy_choice.specs.declared.choice.Choice.{Choice};
 ghost use Rattle.policy_parts.specs.Part.{IsPart};
@@ -18,7 +20,7 @@ ghost use Rattle.comp_runs.specs.CompSafe.{CompSafe};
 ghost use Rattle.flow_runs.specs.FlowSafe.{FlowSafe};
 ghost use Rattle.heap_runs.specs.HeapSafe.{HeapSafe};
 ghost use Rattle.policy_trait.specs.declared.birth.Birth.{Birth};
-ghost use Rattle.engine_trait.specs.Events.{Event, event_of};
+ghost use Rattle.engine_trait.specs.Events.{Call, Event, event_of};
 ghost use Rattle.engine_trait.specs.Machine.{Machine, is_ready_in};
 ghost use Rattle.part_turns.specs.Maps.{event_with};
 ghost use Rattle.policy_choice.specs.All.{AllState, AllTag};
@@ -27,7 +29,7 @@ ghost use Rattle.comp_runs.specs.CompLine.{CompLine};
 ghost use Rattle.flow_runs.specs.FlowLine.{FlowLine};
 ghost use Rattle.heap_runs.specs.BlockBook.{block_book};
 ghost use Rattle.heap_runs.specs.HeapLine.{HeapLine};
-ghost use Rattle.run_props.specs.Attacks.{GoesAstray, MissesBlock, Trespasses, UnsealsWithoutKey};
+ghost use Rattle.run_props.specs.Attacks.{GoesAstray, MissesBlock, Trespasses, UnsealsWithoutKey, WouldZero};
 ghost use Rattle.run_props.specs.Ends.{IsStopped};
 ghost use Rattle.run_props.specs.Line.{InLine};
 ghost use Rattle.run_props.specs.Safe.{IsInLine, IsSafe, heap_top, run_of};
@@ -95,25 +97,53 @@ pub fn line_law()
         (run_along all (start_machine all (choice_state choice g) g) feed items).machine }
 {}
 
-/// In every state of which a policy's line speaks, a ready hart's turn ends in a stop that is no exit where it is an attack: an unsealing without its key; a word outside the code, or one to which no edge leads from the jump before; a
-/// store to a word that is not permitted, or a foreign word without right of entry; an access by a pointer that does not
-/// reach its live block, or one to the heap by what is no pointer. The function does nothing.
-pub fn attack_law()
-    ensures seal { (events : List (Event SealTag)) (s : Machine AllState AllTag) (feed : List ℕ)
-        (h : ℕ) → InLine seal_view SealLine events s → is_ready_in s.core h ≡ true
+/// In every state of which the line of sealing speaks, a ready hart's turn that unseals without the key ends in a stop that is
+/// no exit. The function does nothing.
+pub fn seal_attack_law()
+    ensures { (events : List (Event SealTag)) (s : Machine AllState AllTag) (feed : List ℕ) (h : ℕ)
+        → InLine seal_view SealLine events s → is_ready_in s.core h ≡ true
         → UnsealsWithoutKey (event_with seal_view.tag (event_of all s feed h))
         → IsStopped (event_of all s feed h) }
-    ensures comp { (birth : ℕ → Birth) (entries : List ℕ) (events : List (Event CompartmentTag))
+{}
+
+/// In every state of which the line of compartments speaks, a ready hart's turn ends in a stop that is no exit where it stores
+/// to a word that is not permitted, or calls a service that would make such a word zero, or obeys a foreign word without right
+/// of entry. The function does nothing.
+pub fn comp_attack_law()
+    ensures { (birth : ℕ → Birth) (entries : List ℕ) (events : List (Event CompartmentTag))
         (s : Machine AllState AllTag) (feed : List ℕ) (h : ℕ)
         → InLine comp_view (CompLine birth entries) events s → is_ready_in s.core h ≡ true
-        → Trespasses birth entries events (event_with comp_view.tag (event_of all s feed h))
+        → Trespasses birth entries s.policy events (event_of all s feed h)
         → IsStopped (event_of all s feed h) }
-    ensures flow { (birth : ℕ → Birth) (words : List ℕ) (edges : List (ℕ × ℕ))
+{}
+
+/// Where heap safety is chosen, malloc would make zero the words at which the block fits first, and free those of the live block
+/// that the pointer in a0 points to, whichever policies are chosen too. The function does nothing.
+pub fn zeroing_law()
+    ensures malloc { (policy : AllState) (call : Call AllTag) (base : ℕ)
+        → heap_view.is_on policy ≡ true → call.number ≡ malloc_service
+        → first_fit (heap_view.value policy).space (words_of call.arguments.a0) ≡ Some base
+        → WouldZero policy call (record { base = base; count = words_of call.arguments.a0 }) }
+    ensures free { (policy : AllState) (call : Call AllTag) (block : Block)
+        → heap_view.is_on policy ≡ true → call.number ≡ free_service
+        → pointed_to (heap_view.value policy).space (heap_view.tag call.arguments.t0) ≡ Some block
+        → WouldZero policy call (record { base = block.base; count = block.words }) }
+{}
+
+/// In every state of which the line of control flow speaks, a ready hart's turn ends in a stop that is no exit where it obeys a
+/// word outside the code, or one to which no edge leads from the jump before. The function does nothing.
+pub fn flow_attack_law()
+    ensures { (birth : ℕ → Birth) (words : List ℕ) (edges : List (ℕ × ℕ))
         (events : List (Event FlowTag)) (s : Machine AllState AllTag) (feed : List ℕ) (h : ℕ)
         → InLine flow_view (FlowLine birth words edges) events s → is_ready_in s.core h ≡ true
         → GoesAstray birth words edges events (event_with flow_view.tag (event_of all s feed h))
         → IsStopped (event_of all s feed h) }
-    ensures heap { (base top : ℕ) (events : List (Event HeapTag)) (s : Machine AllState AllTag)
+{}
+
+/// In every state of which the line of heap safety speaks, a ready hart's turn ends in a stop that is no exit where it accesses
+/// memory by a pointer that does not reach its live block, or the heap by what is no pointer. The function does nothing.
+pub fn heap_attack_law()
+    ensures { (base top : ℕ) (events : List (Event HeapTag)) (s : Machine AllState AllTag)
         (feed : List ℕ) (h : ℕ) → InLine heap_view (HeapLine base top) events s
         → is_ready_in s.core h ≡ true
         → MissesBlock base top (block_book events)

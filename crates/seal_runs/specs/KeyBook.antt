@@ -3,6 +3,7 @@ use Rattle.std.specs.Prelude.{ℕ, ◌%◌, ◌^◌, ◌==◌, List, [], ◌∷�
 use Rattle.std.specs.List.{fold}
 use Rattle.policy_trait.specs.declared.services.Answer.{Answer}
 use Rattle.engine_trait.specs.Events.{Event}
+use Rattle.sealing_policy.specs.Sealing.{make_key_service, seal_service}
 use Rattle.part_turns.specs.Moments.{Service, service_of}
 
 -- the numbers of the keys that were made, and for each seal the value of its key and the word that it sealed, in their order
@@ -29,12 +30,12 @@ abbrev pub with_pair : KeyBook → ℕ → ℕ → KeyBook
 with_pair book key value = record book { pairs = book.pairs ++ (key, value) ∷ [] }
 
 module _ {T : Type 0} where
-  -- 16 makes a key, 17 seals a0 by the key in a1
+  -- a key that is made is written down, and of a sealing the key in a1 and the word in a0
   abbrev pub keys_by : KeyBook → Option (Service T) → KeyBook
   keys_by book None = book
   keys_by book (Some x) =
-      if x.number == 16 then with_key book (answer_value x.answer) else
-      if x.number == 17 then with_pair book x.arguments.a1 (word_of x.arguments.a0) else
+      if x.number == make_key_service then with_key book (answer_value x.answer) else
+      if x.number == seal_service then with_pair book x.arguments.a1 (word_of x.arguments.a0) else
       book
 
   abbrev pub keys_after : KeyBook → Event T → KeyBook

@@ -1,12 +1,13 @@
 -- Sealing keeps the laws of a policy.
-use Rattle.std.proofs.Common.{◌≡◌, ℕ, ◌+◌, ◌<◌, ◌≤◌, ◌==◌, Bool, true, false, Some, None, Result, Ok, Err, IsTrue, nat_lt, if◌then◌else◌, refl, sym, ap, ◌∙◌, arith}
+use Rattle.std.proofs.Common.{◌≡◌, ℕ, ◌+◌, ◌^◌, ◌<◌, ◌≤◌, ◌==◌, Bool, true, false, Some, None, Result, Ok, Err, IsTrue, nat_lt, if◌then◌else◌, refl, sym, ap, ◌∙◌, subst, arith}
 use Rattle.std.proofs.lemmas.Bool.Decides.{nat_tests}
 use Rattle.std.proofs.lemmas.Option.{none-some, same_Some}
+use Rattle.std.specs.Option.{ForSome}
 use Rattle.shared_terms.proofs.CaseLemmas.{not_refused}
 use Rattle.shared_terms.proofs.StepLemmas.{ok_is}
 use Rattle.rv_decode.specs.declared.groups.Group.{Group}
 use Rattle.rv_decode.specs.declared.groups.Group.TheVariants as group
-use Rattle.policy_trait.specs.PolicyLaws.{KeepsLaws}
+use Rattle.policy_trait.specs.PolicyLaws.{AgreesOnUsed, HasWord, KeepsLaws}
 use Rattle.policy_trait.specs.Model.{masked_inputs}
 use Rattle.policy_trait.specs.declared.rules.Ins.{Ins}
 use Rattle.policy_trait.specs.declared.services.Answer.{Answer}
@@ -52,15 +53,17 @@ record IsSealPlan (keys number a0 : ℕ) (p : Plan SealTag) : Type 0 where
   service : p.service ≡ number
   range : p.range ≡ None
   value : (x : Answer SealTag) → p.answer ≡ Some x → x.rest ≡ AsA0 → x.value ≡ a0
+  word : a0 < 2 ^ 32 → ForSome p.answer HasWord
   below : number ≡ make_key_service → keys < key_limit
 
 -- a plan that is made
 abbrev given_as : Plan SealTag → Result (Plan SealTag) PlanEnd
 given_as plan = Ok plan
 
-made : (keys number a0 n value : ℕ) (pc tag : SealTag) (others : Rest) (p : Plan SealTag) → n ≡ number → (others ≡ AsA0 → value ≡ a0) → (number ≡ make_key_service → keys < key_limit)
+made : (keys number a0 n value : ℕ) (pc tag : SealTag) (others : Rest) (p : Plan SealTag) → n ≡ number → (others ≡ AsA0 → value ≡ a0)
+    → (a0 < 2 ^ 32 → value < 2 ^ 32) → (number ≡ make_key_service → keys < key_limit)
     → given_as (answering n pc value tag others) ≡ given_as p → IsSealPlan keys number a0 p
-made keys number a0 n value pc tag others p n_is value_is below given =
+made keys number a0 n value pc tag others p n_is value_is fits below given =
     let e : answering n pc value tag others ≡ p = ok_is (answering n pc value tag others) p given in
     record {
       service = ap (λ (q : Plan SealTag). q.service) (sym e) ∙ n_is;
@@ -68,12 +71,14 @@ made keys number a0 n value pc tag others p n_is value_is below given =
       value = λ x x_is as_a0.
           let same : (record { value = value; tag = tag; rest = others }) ≡ x = same_Some (record { value = value; tag = tag; rest = others }) x (ap (λ (q : Plan SealTag). q.answer) e ∙ x_is) in
           ap (λ (y : Answer SealTag). y.value) (sym same) ∙ value_is (ap (λ (y : Answer SealTag). y.rest) same ∙ as_a0);
+      word = λ a0_fits x x_is.
+          subst HasWord (same_Some (record { value = value; tag = tag; rest = others }) x (ap (λ (q : Plan SealTag). q.answer) e ∙ x_is)) (fits a0_fits);
       below = below;
     }
 
 sealed_plan : (keys number : ℕ) (a : Args SealTag) (pc : SealTag) (p : Plan SealTag) (t0 t1 : SealTag) → seal_service ≡ number → (number ≡ make_key_service → keys < key_limit)
     → seal_plan a pc t0 t1 ≡ Ok p → IsSealPlan keys number a.a0 p
-sealed_plan keys number a pc p Data (Key k) is below e = made keys number a.a0 seal_service a.a0 pc (Sealed k) rest.AsA0 p is (λ _. refl) below e
+sealed_plan keys number a pc p Data (Key k) is below e = made keys number a.a0 seal_service a.a0 pc (Sealed k) rest.AsA0 p is (λ _. refl) (λ fits. fits) below e
 sealed_plan keys number a pc p Data Data is below e = not_refused e
 sealed_plan keys number a pc p Data (Sealed k) is below e = not_refused e
 sealed_plan keys number a pc p (Key k) t1 is below e = not_refused e
@@ -81,7 +86,7 @@ sealed_plan keys number a pc p (Sealed k) t1 is below e = not_refused e
 
 unsealed_by : (same : Bool) (keys number : ℕ) (a : Args SealTag) (pc : SealTag) (p : Plan SealTag) → unseal_service ≡ number → (number ≡ make_key_service → keys < key_limit)
     → (if same then Ok (answering unseal_service pc a.a0 Data rest.AsA0) else refused_plan why.WrongKey) ≡ Ok p → IsSealPlan keys number a.a0 p
-unsealed_by true keys number a pc p is below e = made keys number a.a0 unseal_service a.a0 pc Data rest.AsA0 p is (λ _. refl) below e
+unsealed_by true keys number a pc p is below e = made keys number a.a0 unseal_service a.a0 pc Data rest.AsA0 p is (λ _. refl) (λ fits. fits) below e
 unsealed_by false keys number a pc p is below e = not_refused e
 
 unsealed_plan : (keys number : ℕ) (a : Args SealTag) (pc : SealTag) (p : Plan SealTag) (t0 t1 : SealTag) → unseal_service ≡ number → (number ≡ make_key_service → keys < key_limit)
@@ -95,7 +100,8 @@ unsealed_plan keys number a pc p (Key k) t1 is below e = not_refused e
 key_made : (few : Bool) (keys number a0 : ℕ) (pc : SealTag) (p : Plan SealTag) → (few ≡ true → keys < key_limit) → make_key_service ≡ number
     → (if few then Ok (answering make_key_service pc keys (Key keys) rest.Plain) else Err plan_end.Spent) ≡ Ok p → IsSealPlan keys number a0 p
 key_made true keys number a0 pc p below is e =
-    made keys number a0 make_key_service keys pc (Key keys) rest.Plain p is (λ plain. cc) (λ _. below refl) e
+    let few : keys < key_limit = below refl in
+    made keys number a0 make_key_service keys pc (Key keys) rest.Plain p is (λ plain. cc) (λ fits. omega (arith, few)) (λ _. few) e
 key_made false keys number a0 pc p below is e = not_refused e
 
 planned_by : (first second : Bool) (keys number : ℕ) (a : Args SealTag) (pc : SealTag) (p : Plan SealTag)
@@ -117,6 +123,39 @@ planned keys number a pc p known e =
 stays_by : (sixteen : Bool) (keys : ℕ) → (sixteen ≡ true → keys < key_limit) → HasFewKeys keys → HasFewKeys (if sixteen then keys + 1 else keys)
 stays_by true keys below few = let h : keys < key_limit = below refl in omega arith
 stays_by false keys below few = few
+
+-- ---- what the services use: the key's maker nothing, the others a0 and a1
+
+sealed_as : (a b : Args SealTag) (pc t0 t1 : SealTag) → a.a0 ≡ b.a0 → seal_plan a pc t0 t1 ≡ seal_plan b pc t0 t1
+sealed_as a b pc Data (Key k) same = ap (λ (value : ℕ). given_as (answering seal_service pc value (Sealed k) rest.AsA0)) same
+sealed_as a b pc Data Data same = refl
+sealed_as a b pc Data (Sealed k) same = refl
+sealed_as a b pc (Key k) t1 same = refl
+sealed_as a b pc (Sealed k) t1 same = refl
+
+unsealed_as : (a b : Args SealTag) (pc t0 t1 : SealTag) → a.a0 ≡ b.a0 → unseal_plan a pc t0 t1 ≡ unseal_plan b pc t0 t1
+unsealed_as a b pc (Sealed k) (Key j) same =
+    ap (λ (value : ℕ). if k == j then given_as (answering unseal_service pc value Data rest.AsA0) else refused_plan why.WrongKey) same
+unsealed_as a b pc (Sealed k) Data same = refl
+unsealed_as a b pc (Sealed k) (Sealed j) same = refl
+unsealed_as a b pc Data t1 same = refl
+unsealed_as a b pc (Key k) t1 same = refl
+
+-- the plan, by whether a key is made
+abbrev plan_by_service : Bool → ℕ → ℕ → Args SealTag → SealTag → Result (Plan SealTag) PlanEnd
+plan_by_service makes keys number a pc =
+    if makes then key_plan keys pc else if number == seal_service then seal_plan a pc a.t0 a.t1 else unseal_plan a pc a.t0 a.t1
+
+unused_by : (makes : Bool) (keys number : ℕ) (a b : Args SealTag) (pc : SealTag) → AgreesOnUsed (if makes then 0 else 2) a b
+    → plan_by_service makes keys number a pc ≡ plan_by_service makes keys number b pc
+unused_by true keys number a b pc same = refl
+unused_by false keys number a b pc same =
+    let a0 : a.a0 ≡ b.a0 = same.a0 (omega arith) in
+    let t0 : a.t0 ≡ b.t0 = same.t0 (omega arith) in
+    let t1 : a.t1 ≡ b.t1 = same.t1 (omega arith) in
+    (λ j. plan_by_service false keys number (record a { t0 = t0 j; t1 = t1 j }) pc)
+    ∙ (λ j. if number == seal_service then sealed_as (record a { t0 = b.t0; t1 = b.t1 }) b pc b.t0 b.t1 a0 j
+    else unsealed_as (record a { t0 = b.t0; t1 = b.t1 }) b pc b.t0 b.t1 a0 j)
 
 uses_by : (sixteen : Bool) → (if sixteen then 0 else 2) ≤ 3
 uses_by true = omega arith
@@ -147,4 +186,8 @@ sealing_laws = record {
   few = λ keys k known. uses_by (k == make_key_service);
   service = λ keys k a pc p known given. let plan : IsSealPlan keys k a.a0 p = planned keys k a pc p known given in plan.service;
   value = λ keys k a pc p known given x x_is. let plan : IsSealPlan keys k a.a0 p = planned keys k a pc p known given in plan.value x x_is;
+  unused = λ keys k a b pc known same. unused_by (k == make_key_service) keys k a b pc same;
+  blind_retag = λ keys p x old. refl;
+  blind_commit = λ keys p x. refl;
+  words = λ keys k a pc p can few are given. let plan : IsSealPlan keys k a.a0 p = planned keys k a pc p can.known given in plan.word are.a0;
 }

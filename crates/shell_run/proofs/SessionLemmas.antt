@@ -1,35 +1,49 @@
 -- What becomes of a session, by its end and by its commands.
-use Rattle.std.proofs.Common.{◌≡◌, ℕ, Bool, true, false, nat_lt, List, [], length, if◌then◌else◌, refl, sym, ap, arith}
+use Rattle.std.proofs.Common.{◌≡◌, ℕ, Bool, true, false, nat_lt, inl, inr, List, [], ◌∷◌, length, Option, Some, Result, Ok, Err, IfErr, if◌then◌else◌, refl, subst}
 use Rattle.std.specs.List.{list_all}
+use Rattle.host_io.specs.Pieces.{out}
 use Rattle.policy_trait.specs.Model.{PolicyModel}
-use Rattle.engine_trait.specs.Standing.{Standing}
 use Rattle.shell_lang.specs.declared.command.Command.{Command}
 use Rattle.shell_lang.specs.declared.command.Command.TheVariants as command
-use Rattle.shell_turns.specs.Cuts.{StandsIn}
+use Rattle.shell_turns.specs.Cuts.{PutsOut, TurnsCut, cut_by}
 use Rattle.shell_turns.specs.Order.{Order, listed, only, rounds_from}
-use Rattle.shell_turns.specs.Turns.{Leaves, Turns, turns}
-use Rattle.shell_turns.proofs.TurnLemmas.{turns-zero}
-use Rattle.shell_run.specs.Replies.{Reply, breaking, reply_if, clearing, is_kept, reply_to, running, silent, with_break}
+use Rattle.shell_turns.specs.Turns.{Leaves, turns}
+use Rattle.shell_turns.specs.declared.ends.ObeyEnd.{ObeyEnd}
+use Rattle.shell_turns.proofs.PutLemmas.{gives, puts_as}
+use Rattle.shell_run.specs.Lines.{turns_line}
+use Rattle.shell_run.specs.Replies.{IsCut, IsCutInCount, Reply, breaking, reply_if, clearing, is_kept, reply_to, running, silent, with_break}
 use Rattle.shell_run.specs.Session.{SessionState, is_hart, is_place, is_range}
 
-module _ {S T : Type 0} (eq : T → T → Bool) (m : PolicyModel T S) (breaks : List ℕ) (budget : ℕ) (order : Order) (e : Standing S T) (feed : List ℕ) where
-  -- no turn was begun
-  pub stands_still : StandsIn eq m breaks budget order e feed e feed
-  stands_still = record {
-    begun = 0;
-    few = omega arith;
-    machine = sym (ap (λ (t : Turns S T). t.standing.machine) (turns-zero eq m breaks order e feed));
-    left = sym (ap (λ (t : Turns S T). t.feed) (turns-zero eq m breaks order e feed));
+-- ---- turns that are cut short
+
+module _ {S T : Type 0} (eq : T → T → Bool) (m : PolicyModel T S) (s : SessionState S T) (budget : ℕ) (order : Order) (t : SessionState S T)
+    (start : t.start ≡ s.start) (kept : t.breaks ≡ s.breaks) (ended : t.ended ≡ s.ended) (breaks : List ℕ) (breaks_are : breaks ≡ s.breaks) where
+  -- in a turn
+  pub cut_in_turns : (old new : Option (List ℕ)) (end : ObeyEnd) → TurnsCut eq m breaks budget order s.standing s.feed t.standing t.feed old new end
+      → IsCut eq m s (Some (budget, order)) t old new end
+  cut_in_turns old new end cut = record {
+    start = start;
+    breaks = kept;
+    ended = ended;
+    cut = inl (subst (λ (set : List ℕ). TurnsCut eq m set budget order s.standing s.feed t.standing t.feed old new end) breaks_are cut);
   }
 
-  -- all turns were made
-  pub stands_after : (f : Standing S T) (fed : List ℕ) (count : ℕ) → Leaves (turns eq m breaks budget order e feed) f fed count
-      → StandsIn eq m breaks budget order e feed f fed
-  stands_after f fed count leaves = record {
-    begun = budget;
-    few = omega arith;
-    machine = ap (λ (g : Standing S T). g.machine) leaves.standing;
-    left = leaves.feed;
+  -- while their number was told
+  pub cut_in_count : (count : ℕ) → Leaves (turns eq m breaks budget order s.standing s.feed) t.standing t.feed count → (old mid new : Option (List ℕ))
+      → PutsOut old mid (turns eq m breaks budget order s.standing s.feed).pieces (gives count) → (put : Result (Unit {0}) ObeyEnd)
+      → PutsOut mid new (out (turns_line count) ∷ []) put → IfErr put (λ end. IsCut eq m s (Some (budget, order)) t old new end)
+  cut_in_count count leaves old mid new puts (Ok x) line = tt
+  cut_in_count count leaves old mid new puts (Err end) line = record {
+    start = start;
+    breaks = kept;
+    ended = ended;
+    cut = inr (subst (λ (set : List ℕ). IsCutInCount eq m set budget order s.standing s.feed t.standing t.feed old new end) breaks_are (record {
+      standing = leaves.standing;
+      left = leaves.feed;
+      taken = mid;
+      whole = puts_as old mid (turns eq m breaks budget order s.standing s.feed).pieces count tt puts;
+      front = subst (λ (counted : ℕ). PutsOut mid new (out (turns_line counted) ∷ []) (cut_by end)) leaves.count line;
+    }));
   }
 
 -- ---- a command that is obeyed ends no session

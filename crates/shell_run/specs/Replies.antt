@@ -1,15 +1,17 @@
 -- What a session replies to a command, and what becomes of it.
-use Rattle.std.specs.Prelude.{◌≡◌, ℕ, ◌/◌, ◌==◌, Bool, true, false, not, nat_lt, List, [], ◌∷◌, ◌++◌, filter, length, Option, Some, None, if◌then◌else◌}
+use Rattle.std.specs.Prelude.{◌≡◌, ◌⊎◌, ℕ, ◌/◌, ◌==◌, Bool, true, false, not, nat_lt, List, [], ◌∷◌, ◌++◌, filter, length, Option, Some, None, if◌then◌else◌}
 use Rattle.std.specs.List.{list_all, list_any}
 use Rattle.host_io.specs.Pieces.{Piece, out}
 use Rattle.policy_trait.specs.Model.{PolicyModel}
 use Rattle.engine_trait.specs.Accounts.{counts_of}
 use Rattle.engine_trait.specs.Machine.{stop_at}
+use Rattle.engine_trait.specs.Standing.{Standing}
 use Rattle.shell_lang.specs.declared.command.Command.{Command}
 use Rattle.shell_lang.specs.declared.command.Command.TheVariants as command
-use Rattle.shell_turns.specs.Cuts.{StandsAt, StandsIn}
+use Rattle.shell_turns.specs.Cuts.{PutsOut, TurnsCut, all_put, cut_by}
 use Rattle.shell_turns.specs.Order.{Order, listed as listed_harts, only, rounds_from}
 use Rattle.shell_turns.specs.Turns.{Turns, turns}
+use Rattle.shell_turns.specs.declared.ends.ObeyEnd.{ObeyEnd}
 use Rattle.shell_run.specs.Lines.{refusal_line, stats_line, turns_line}
 use Rattle.shell_run.specs.Session.{SessionState, bytes_in, is_hart, is_place, is_range}
 use Rattle.shell_run.specs.Shown.{blocks, lines_from, pc_of, register_of, statement_of, tag_of, why_line, word_of}
@@ -53,12 +55,16 @@ module _ {S T : Type 0} (s : SessionState S T) where
   abbrev pub restarting : Reply S T
   restarting = record { after = record s { standing = s.start; feed = [] }; pieces = [] }
 
--- the turns that a command asks for: at most how many, and whose
-abbrev pub turns_asked : Command → Option (ℕ × Order)
-turns_asked (command.Step h n) = Some (n, only h)
-turns_asked (command.Run n) = Some (n, rounds_from 0)
-turns_asked (command.Turns harts) = Some (length harts, listed_harts harts)
-turns_asked _ = None
+-- turns, at most how many and whose, where `test` holds
+abbrev pub asked_if : Bool → ℕ → Order → Option (ℕ × Order)
+asked_if test budget order = if test then Some (budget, order) else None
+
+-- the turns that a command asks for in a session, if it asks for any: one that names a hart that isn't there asks for none
+abbrev pub turns_asked : {S T : Type 0} → SessionState S T → Command → Option (ℕ × Order)
+turns_asked s (command.Step h n) = asked_if (is_hart s h) n (only h)
+turns_asked s (command.Run n) = Some (n, rounds_from 0)
+turns_asked s (command.Turns harts) = asked_if (list_all (is_hart s) harts) (length harts) (listed_harts harts)
+turns_asked s _ = None
 
 abbrev pub is_quit : Command → Bool
 is_quit command.Quit = true
@@ -125,15 +131,32 @@ module _ {S T : Type 0} (eq : T → T → Bool) (m : PolicyModel T S) (s : Sessi
   reply_to command.Reset = restarting s
   reply_to command.Quit = silent s
 
-  -- the machine and the feed of a session whose command was cut short: as they were, or after the last of the turns that
-  -- were asked for and made
-  abbrev StandsAs : Option (ℕ × Order) → SessionState S T → Type 0
-  StandsAs None t = StandsAt s.standing.machine s.feed t.standing t.feed
-  StandsAs (Some asked) t = StandsIn eq m s.breaks asked.0 asked.1 s.standing s.feed t.standing t.feed
+-- ---- commands that are cut short
 
-  -- what is left of it
-  pub record IsCut (asked : Option (ℕ × Order)) (t : SessionState S T) : Type 0 where
-    pub start : t.start ≡ s.start
-    pub breaks : t.breaks ≡ s.breaks
-    pub ended : t.ended ≡ s.ended
-    pub stands : StandsAs asked t
+module _ {S T : Type 0} (eq : T → T → Bool) (m : PolicyModel T S) where
+  -- Cut short while the number of the turns was told: all of them were made, and all that they tell was put, and a front of that
+  -- line.
+  pub record IsCutInCount (breaks : List ℕ) (budget : ℕ) (order : Order) (e : Standing S T) (feed : List ℕ) (f : Standing S T) (fed : List ℕ)
+      (old new : Option (List ℕ)) (end : ObeyEnd) : Type 0 where
+    pub standing : f ≡ (turns eq m breaks budget order e feed).standing
+    pub left : fed ≡ (turns eq m breaks budget order e feed).feed
+    -- what the sink had taken before that line
+    pub taken : Option (List ℕ)
+    pub whole : PutsOut old taken (turns eq m breaks budget order e feed).pieces all_put
+    pub front : PutsOut taken new (out (turns_line (length (turns eq m breaks budget order e feed).harts)) ∷ []) (cut_by end)
+
+  module _ (s : SessionState S T) where
+    -- A session whose command was cut short: it stands as it did, or, where turns were asked for, after the last of them that was
+    -- made; no further one was made, and what was put is of these turns.
+    abbrev pub CutAs : Option (ℕ × Order) → SessionState S T → Option (List ℕ) → Option (List ℕ) → ObeyEnd → Type 0
+    CutAs None t old new end = (t.standing ≡ s.standing) × (t.feed ≡ s.feed)
+    CutAs (Some asked) t old new end =
+        TurnsCut eq m s.breaks asked.0 asked.1 s.standing s.feed t.standing t.feed old new end
+        ⊎ IsCutInCount s.breaks asked.0 asked.1 s.standing s.feed t.standing t.feed old new end
+
+    -- what is left of it
+    pub record IsCut (asked : Option (ℕ × Order)) (t : SessionState S T) (old new : Option (List ℕ)) (end : ObeyEnd) : Type 0 where
+      pub start : t.start ≡ s.start
+      pub breaks : t.breaks ≡ s.breaks
+      pub ended : t.ended ≡ s.ended
+      pub cut : CutAs asked t old new end

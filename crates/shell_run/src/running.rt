@@ -4,7 +4,7 @@ ghost use Rattle.std.specs.Prelude.{◌≡◌, ◌≤◌, IfErr, OnOk, Some, len
 ghost use Rattle.std.specs.List.{list_all};
 ghost use Rattle.shell_turns.specs.Cuts.{ObeyCause, PutsOut};
 ghost use Rattle.shell_turns.specs.Order.{AreHarts, listed, only, order_of};
-ghost use Rattle.shell_run.specs.Replies.{IsCut, reply_if, feeding, restarting, running};
+ghost use Rattle.shell_run.specs.Replies.{IsCut, asked_if, reply_if, feeding, restarting, running};
 ghost use Rattle.shell_run.specs.Session.{is_hart};
 
 use crate::session::Session;
@@ -30,7 +30,8 @@ impl<L: Loader> Session<L> {
             result }
         ensures cause { ObeyCause (K.faults out.old) (K.faults out.new) result }
         ensures cut { IfErr result (λ end. IsCut L.E.P.Tag.eq L.E.P.model self.old
-            (Some (budget, order_of order.entry)) self.new) }
+            (Some (budget, order_of order.entry)) self.new
+            (K.taken out.old) (K.taken out.new) end) }
     {
         let breaks = &self.breaks;
         let count = make_turns(&mut self.engine, &mut self.feed, breaks, budget, order, out)?;
@@ -38,7 +39,6 @@ impl<L: Loader> Session<L> {
     }
 
     /// `step H N`: at most `N` turns of hart `H`.
-    #[tactic(auto, using(crate::proofs::SessionLemmas::stands_still))]
     pub(crate) fn step<K: Sink>(&mut self, h: u32, budget: u32, out: &mut K) -> Result<(), ObeyEnd>
         ensures after { OnOk result (self.new ≡ (reply_if self.old (is_hart self.old h)
             (running L.E.P.Tag.eq L.E.P.model self.old budget (only h))).after) }
@@ -47,7 +47,8 @@ impl<L: Loader> Session<L> {
             (running L.E.P.Tag.eq L.E.P.model self.old budget (only h))).pieces result }
         ensures cause { ObeyCause (K.faults out.old) (K.faults out.new) result }
         ensures cut { IfErr result (λ end. IsCut L.E.P.Tag.eq L.E.P.model self.old
-            (Some (budget, only h)) self.new) }
+            (asked_if (is_hart self.old h) budget (only h)) self.new
+            (K.taken out.old) (K.taken out.new) end) }
     {
         if !self.is_hart(h) {
             return self.refuse(out);
@@ -56,7 +57,6 @@ impl<L: Loader> Session<L> {
     }
 
     /// `turns DIGITS`: one turn of each of these harts, one after another.
-    #[tactic(auto, using(crate::proofs::SessionLemmas::stands_still))]
     pub(crate) fn turns<K: Sink>(&mut self, harts: &[u8], out: &mut K) -> Result<(), ObeyEnd>
         requires { length harts.now ≤ 256 }
         ensures after { OnOk result (self.new ≡ (reply_if self.old (list_all
@@ -70,7 +70,9 @@ impl<L: Loader> Session<L> {
             result }
         ensures cause { ObeyCause (K.faults out.old) (K.faults out.new) result }
         ensures cut { IfErr result (λ end. IsCut L.E.P.Tag.eq L.E.P.model self.old
-            (Some (length harts.now, listed harts.now)) self.new) }
+            (asked_if (list_all (is_hart self.old) harts.now)
+            (length harts.now) (listed harts.now)) self.new
+            (K.taken out.old) (K.taken out.new) end) }
     {
         if !self.are_harts(harts) {
             return self.refuse(out);

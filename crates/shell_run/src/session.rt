@@ -81,7 +81,8 @@ impl<L: Loader> Session<L> {
             (reply_to L.E.P.Tag.eq L.E.P.model self.old command.now).pieces result }
         ensures cause { ObeyCause (K.faults out.old) (K.faults out.new) result }
         ensures cut { IfErr result (λ end. IsCut L.E.P.Tag.eq L.E.P.model self.old
-            (turns_asked command.now) self.new) }
+            (turns_asked self.old command.now) self.new
+            (K.taken out.old) (K.taken out.new) end) }
     {
         match command {
             Command::Blank | Command::Quit => Ok(()),
@@ -106,8 +107,9 @@ impl<L: Loader> Session<L> {
     /// Obeys a command: what it replies is put line by line. The answer is whether the session ends with it, as it does with
     /// `quit`.
     ///
-    /// After an error the session is stopped: the machine stands after the last turn that was made, and each later command has
-    /// the same answer and puts nothing.
+    /// After an error the session is stopped, and each later command has the same answer and puts nothing. Where a put failed no
+    /// further turn was made: the machine and its account stand after the turn that was then told, if the command made turns, and
+    /// as they were, if it made none.
     #[tactic(auto, using(shell_turns::proofs::PutLemmas::puts_as, shell_turns::proofs::PutLemmas::puts_cut_as, crate::proofs::SessionLemmas::ended_stays))]
     pub fn obey<K: Sink>(&mut self, command: &Command, out: &mut K) -> Result<bool, ObeyEnd>
         // A session that goes on: the reply.
@@ -124,7 +126,8 @@ impl<L: Loader> Session<L> {
         // A command that was cut short, and a session that had ended before.
         ensures cut { self.old.ended ≡ None → IfErr result (λ end.
             IsCut L.E.P.Tag.eq L.E.P.model (ending self.old end)
-            (turns_asked command.now) self.new) }
+            (turns_asked self.old command.now) self.new
+            (K.taken out.old) (K.taken out.new) end) }
         ensures same_end { IfSome self.old.ended (λ end. result ≡ Err end) }
         ensures stopped { IfSome self.old.ended (λ end. self.new ≡ self.old) }
         ensures silent { IfSome self.old.ended (λ end. K.taken out.new ≡ K.taken out.old) }

@@ -2,12 +2,13 @@
 use Rattle.std.proofs.Common.{◌≡◌, ℕ, zero, suc, ◌+◌, ◌-◌, ◌<◌, ◌≤◌, inl, inr, Bool, true, false, List, [], ◌++◌, length, Option, Some, None, if◌then◌else◌, refl, ap, sym, subst, ◌∙◌, append-nil, append_assoc, arith}
 use Rattle.host_io.specs.Pieces.{Piece}
 use Rattle.policy_trait.specs.Model.{PolicyModel}
-use Rattle.engine_trait.specs.Standing.{Standing, Stepped, step}
-use Rattle.shell_turns.specs.Cuts.{PutsOut, StandsAt, StandsIn, StandsOn}
+use Rattle.engine_trait.specs.Standing.{GivesUp, Standing, Stepped, step}
+use Rattle.shell_turns.specs.Cuts.{GaveUp, IsCutInEngine, IsCutInTelling, IsMade, PutsOut, TurnCut, TurnsCut, all_put, cut_by}
 use Rattle.shell_turns.specs.Order.{Order, next_of}
 use Rattle.shell_turns.specs.Told.{counted_harts, is_last}
 use Rattle.shell_turns.specs.Turns.{Leaves, Turns, behind, going_on, no_turns, pc_after, step_pieces, then_others, turns}
 use Rattle.shell_turns.specs.declared.ends.ObeyEnd.{ObeyEnd}
+use Rattle.shell_turns.specs.declared.ends.ObeyEnd.TheVariants as ends
 use Rattle.shell_turns.proofs.PutLemmas.{done, fails, gives, puts_as, puts_cut_in, puts_on}
 
 -- turns behind others, behind others
@@ -142,25 +143,54 @@ module _ {S T : Type 0} (eq : T → T → Bool) (m : PolicyModel T S) (breaks : 
           (puts_cut_in A B old new told rest end told_end
           (puts_on old now new pieces (step_pieces breaks h stepped) tt (fails A end) puts cut))
 
-      after_either : (last : Bool) → StandsAt (after last 0).standing.machine (after last 0).feed stepped.standing stepped.feed
-      after_either true = record { machine = refl; left = refl }
-      after_either false = record {
-        machine = sym (ap (λ (t : Turns S T). t.standing.machine) (turns-zero eq m breaks rest stepped.standing stepped.feed));
-        left = sym (ap (λ (t : Turns S T). t.feed) (turns-zero eq m breaks rest stepped.standing stepped.feed));
+      -- what that turn leaves where no other follows
+      one_after : (last : Bool) → after last 0 ≡ no_turns stepped.standing stepped.feed
+      one_after true = refl
+      one_after false = turns-zero eq m breaks rest stepped.standing stepped.feed
+
+      one_made : turns eq m breaks (begun + 1) first start fed ≡ behind told made (no_turns stepped.standing stepped.feed)
+      one_made =
+          ap (λ n. turns eq m breaks n first start fed) (let e : begun + 1 ≡ begun + suc 0 = omega arith in e)
+          ∙ one_more 0 ∙ ap (behind told made) (one_after (is_last breaks (pc_after h stepped) stepped.ended))
+
+      over_pieces : (turns eq m breaks begun first start fed).pieces ≡ pieces
+      over_pieces = ap (λ (t : Turns S T). t.pieces) way_over ∙ append-nil pieces
+
+      -- the turn was made, and told in part
+      way_untold : (all : ℕ) → begun < all → (f : Standing S T) (left : List ℕ) → IsMade eq m e feed h f left → (old now new : Option (List ℕ)) (end : ObeyEnd)
+          → PutsOut old now pieces done → PutsOut now new (step_pieces breaks h stepped) (cut_by end)
+          → IsCutInTelling eq m breaks all first start fed f left old new end
+      way_untold all below f left made_so old now new end puts front = record {
+        before = begun;
+        within = below;
+        standing = made_so.standing ∙ sym (ap (λ (t : Turns S T). t.standing) one_made);
+        left = made_so.left ∙ sym (ap (λ (t : Turns S T). t.feed) one_made);
+        taken = now;
+        last = step_pieces breaks h stepped;
+        told =
+            ap (λ (t : Turns S T). t.pieces) one_made ∙ append-nil told
+            ∙ ap (λ (front_pieces : List Piece). front_pieces ++ step_pieces breaks h stepped) (sym over_pieces);
+        whole = subst (λ (all_told : List Piece). PutsOut old now all_told all_put) (sym over_pieces) puts;
+        front = front;
       }
 
-      pub way_stands : (all : ℕ) → begun < all → (f : Standing S T) (left : List ℕ) → StandsOn eq m e feed h f left → StandsIn eq m breaks all first start fed f left
-      way_stands all below f left (inl here) = record {
-        begun = begun;
-        few = omega (arith, below);
-        machine = here.machine ∙ sym (ap (λ (t : Turns S T). t.standing.machine) way_over);
-        left = here.left ∙ sym (ap (λ (t : Turns S T). t.feed) way_over);
+      -- the turn was given up
+      way_given_up : (all : ℕ) → begun < all → (f : Standing S T) (left : List ℕ) (old now new : Option (List ℕ)) → GaveUp eq m e feed h f left now new
+          → PutsOut old now pieces done → IsCutInEngine eq m breaks all first start fed f left old new
+      way_given_up all below f left old now new gave puts = record {
+        made = begun;
+        within = below;
+        hart = h;
+        engine =
+            subst (λ (t : Turns S T). GivesUp eq m t.standing t.feed h f left) (sym way_over) gave.engine;
+        whole =
+            subst (λ (all_told : List Piece). PutsOut old new all_told all_put) (sym over_pieces)
+            (subst (λ (taken : Option (List ℕ)). PutsOut old taken pieces done) (sym gave.silent) puts);
       }
-      way_stands all below f left (inr there) =
-          let last = is_last breaks (pc_after h stepped) stepped.ended in
-          record {
-            begun = begun + suc 0;
-            few = omega (arith, below);
-            machine = there.machine ∙ (after_either last).machine ∙ sym (ap (λ (t : Turns S T). t.standing.machine) (one_more 0));
-            left = there.left ∙ (after_either last).left ∙ sym (ap (λ (t : Turns S T). t.feed) (one_more 0));
-          }
+
+      pub way_stands : (all : ℕ) → begun < all → (f : Standing S T) (left : List ℕ) (old now new : Option (List ℕ)) (end : ObeyEnd) → PutsOut old now pieces done
+          → PutsOut now new (step_pieces breaks h stepped) (cut_by end) → TurnCut eq m e feed h f left now new end
+          → TurnsCut eq m breaks all first start fed f left old new end
+      way_stands all below f left old now new ends.WriteFault puts front made_so = way_untold all below f left made_so old now new ends.WriteFault puts front
+      way_stands all below f left old now new ends.Memory puts front (inl made_so) = inl (way_untold all below f left made_so old now new ends.Memory puts front)
+      way_stands all below f left old now new ends.Memory puts front (inr gave) = inr (way_given_up all below f left old now new gave puts)

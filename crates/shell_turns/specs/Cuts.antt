@@ -1,12 +1,11 @@
 -- What is put on one sink, and how a command is cut short.
-use Rattle.std.specs.Prelude.{◌≡◌, ◌⊎◌, ℕ, ◌≤◌, Bool, List, Option, Result, Ok, Err}
+use Rattle.std.specs.Prelude.{◌≡◌, ◌⊎◌, ℕ, ◌+◌, ◌<◌, Bool, List, ◌++◌, Option, Result, Ok, Err}
 use Rattle.host_io.specs.Causes.{Rose}
 use Rattle.host_io.specs.Pieces.{Piece, Puts}
 use Rattle.host_io.specs.declared.traits.sink.PutEnd.{PutEnd}
 use Rattle.host_io.specs.declared.traits.sink.PutEnd.TheVariants as put_end
 use Rattle.policy_trait.specs.Model.{PolicyModel}
-use Rattle.engine_trait.specs.Machine.{Machine}
-use Rattle.engine_trait.specs.Standing.{Standing, step}
+use Rattle.engine_trait.specs.Standing.{GivesUp, Standing, step}
 use Rattle.shell_turns.specs.Order.{Order}
 use Rattle.shell_turns.specs.Turns.{turns}
 use Rattle.shell_turns.specs.declared.ends.ObeyEnd.{ObeyEnd}
@@ -24,25 +23,61 @@ ObeyCause before now (Ok _) = now ≡ before
 ObeyCause before now (Err ends.WriteFault) = Rose before now
 ObeyCause before now (Err ends.Memory) = now ≡ before
 
+-- all of the pieces were put, or, where the call was cut short, a front of them
+abbrev pub all_put : Result (Unit {0}) ObeyEnd
+all_put = Ok tt
+
+abbrev pub cut_by : ObeyEnd → Result (Unit {0}) ObeyEnd
+cut_by end = Err end
+
 -- the answer of a put, as that of a command
 abbrev pub answer_of : Result (Unit {0}) PutEnd → Result (Unit {0}) ObeyEnd
 answer_of (Ok x) = Ok x
 answer_of (Err put_end.Failed) = Err ends.WriteFault
 answer_of (Err put_end.Memory) = Err ends.Memory
 
--- the machine and the feed are these
-pub record StandsAt {S T : Type 0} (s : Machine S T) (feed : List ℕ) (f : Standing S T) (fed : List ℕ) : Type 0 where
-  pub machine : f.machine ≡ s
-  pub left : fed ≡ feed
+module _ {S T : Type 0} (eq : T → T → Bool) (m : PolicyModel T S) where
+  -- a turn of hart h was made: the standing, with its account, and the feed are those that it leaves
+  pub record IsMade (e : Standing S T) (feed : List ℕ) (h : ℕ) (f : Standing S T) (fed : List ℕ) : Type 0 where
+    pub standing : f ≡ (step eq m e feed h).standing
+    pub left : fed ≡ (step eq m e feed h).feed
 
--- a turn of hart h was begun: the machine and the feed are those of before it, or those after it
-abbrev pub StandsOn : {S T : Type 0} → (T → T → Bool) → PolicyModel T S → Standing S T → List ℕ → ℕ → Standing S T → List ℕ → Type 0
-StandsOn eq m e feed h f fed = StandsAt e.machine feed f fed ⊎ StandsAt (step eq m e feed h).standing.machine (step eq m e feed h).feed f fed
+  -- memory ran out in a turn of hart h: the engine gave it up, and nothing was told of it
+  pub record GaveUp (e : Standing S T) (feed : List ℕ) (h : ℕ) (f : Standing S T) (fed : List ℕ) (old new : Option (List ℕ)) : Type 0 where
+    pub engine : GivesUp eq m e feed h f fed
+    pub silent : new ≡ old
 
-module _ {S T : Type 0} (eq : T → T → Bool) (m : PolicyModel T S) (breaks : List ℕ) where
-  -- the machine and the feed are those after the last turn that was made, one of at most so many
-  pub record StandsIn (budget : ℕ) (order : Order) (e : Standing S T) (feed : List ℕ) (f : Standing S T) (fed : List ℕ) : Type 0 where
-    pub begun : ℕ
-    pub few : begun ≤ budget
-    pub machine : f.machine ≡ (turns eq m breaks begun order e feed).standing.machine
-    pub left : fed ≡ (turns eq m breaks begun order e feed).feed
+  -- A turn that was cut short: where a put failed it was made; where memory ran out, in a put or in the engine, it was made or
+  -- given up.
+  abbrev pub TurnCut : Standing S T → List ℕ → ℕ → Standing S T → List ℕ → Option (List ℕ) → Option (List ℕ) → ObeyEnd → Type 0
+  TurnCut e feed h f fed old new ends.WriteFault = IsMade e feed h f fed
+  TurnCut e feed h f fed old new ends.Memory = IsMade e feed h f fed ⊎ GaveUp e feed h f fed old new
+
+  module _ (breaks : List ℕ) (budget : ℕ) (order : Order) (e : Standing S T) (feed : List ℕ) where
+    -- Cut short while a turn was told, the last one that was made: the standing, with its account, and the feed are those after
+    -- it. What was put is all that the turns before it tell, and a front of what it tells itself.
+    pub record IsCutInTelling (f : Standing S T) (fed : List ℕ) (old new : Option (List ℕ)) (end : ObeyEnd) : Type 0 where
+      pub before : ℕ
+      pub within : before < budget
+      pub standing : f ≡ (turns eq m breaks (before + 1) order e feed).standing
+      pub left : fed ≡ (turns eq m breaks (before + 1) order e feed).feed
+      -- what the sink had taken before that turn, and what the turn tells
+      pub taken : Option (List ℕ)
+      pub last : List Piece
+      pub told : (turns eq m breaks (before + 1) order e feed).pieces ≡ (turns eq m breaks before order e feed).pieces ++ last
+      pub whole : PutsOut old taken (turns eq m breaks before order e feed).pieces all_put
+      pub front : PutsOut taken new last (cut_by end)
+
+    -- Cut short by the engine, for want of memory in the turn behind the last one that was made: that turn was given up, and what
+    -- was put is all that those before it tell.
+    pub record IsCutInEngine (f : Standing S T) (fed : List ℕ) (old new : Option (List ℕ)) : Type 0 where
+      pub made : ℕ
+      pub within : made < budget
+      pub hart : ℕ
+      pub engine : GivesUp eq m (turns eq m breaks made order e feed).standing (turns eq m breaks made order e feed).feed hart f fed
+      pub whole : PutsOut old new (turns eq m breaks made order e feed).pieces all_put
+
+    -- turns that were cut short, of at most so many
+    abbrev pub TurnsCut : Standing S T → List ℕ → Option (List ℕ) → Option (List ℕ) → ObeyEnd → Type 0
+    TurnsCut f fed old new ends.WriteFault = IsCutInTelling f fed old new ends.WriteFault
+    TurnsCut f fed old new ends.Memory = IsCutInTelling f fed old new ends.Memory ⊎ IsCutInEngine f fed old new

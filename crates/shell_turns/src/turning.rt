@@ -2,7 +2,7 @@
 
 ghost use Rattle.std.specs.Prelude.{◌≡◌, ◌<◌, IfErr, IfOk, OnOk, length};
 ghost use Rattle.engine_trait.specs.Standing.{step};
-ghost use Rattle.shell_turns.specs.Cuts.{ObeyCause, PutsOut, StandsIn, StandsOn};
+ghost use Rattle.shell_turns.specs.Cuts.{ObeyCause, PutsOut, TurnCut, TurnsCut};
 ghost use Rattle.shell_turns.specs.Order.{AreHarts, order_of};
 ghost use Rattle.shell_turns.specs.Turns.{Leaves, pc_after, step_pieces, turns};
 
@@ -37,8 +37,9 @@ fn make_turn<E: Engine, K: Sink>(
     ensures puts { PutsOut (K.taken out.old) (K.taken out.new) (step_pieces breaks.now h
         (step E.P.Tag.eq E.P.model (E.standing engine.old) feed.old h)) result }
     ensures cause { ObeyCause (K.faults out.old) (K.faults out.new) result }
-    ensures stands { IfErr result (λ end. StandsOn E.P.Tag.eq E.P.model
-        (E.standing engine.old) feed.old h (E.standing engine.new) feed.new) }
+    ensures cut { IfErr result (λ end. TurnCut E.P.Tag.eq E.P.model
+        (E.standing engine.old) feed.old h (E.standing engine.new) feed.new
+        (K.taken out.old) (K.taken out.new) end) }
 {
     let end = engine.turn(h, feed);
     if let TurnEnd::Memory = end {
@@ -55,7 +56,10 @@ fn make_turn<E: Engine, K: Sink>(
 /// no turn is next, and where the engine runs out of tag words. The answer is how many turns were counted: an idle one is not,
 /// nor one that ran out of tag words.
 ///
-/// After an error nothing more is put, and the engine stands after the last turn that was made.
+/// After an error nothing more is put, and no further turn is made. Where a put came to nothing, or to less than all of its
+/// bytes, the engine and its account stand after the turn that was then told; what was put is all that the turns before it tell,
+/// and a front of what it tells. Where memory ran out in a turn, the machine stands after the turns before it, all of which were
+/// told.
 pub fn make_turns<E: Engine, K: Sink>(
     engine: &mut E,
     feed: &mut Feed,
@@ -72,9 +76,9 @@ pub fn make_turns<E: Engine, K: Sink>(
         (turns E.P.Tag.eq E.P.model breaks.now
         budget (order_of order.entry) (E.standing engine.old) feed.old).pieces result }
     ensures cause { ObeyCause (K.faults out.old) (K.faults out.new) result }
-    ensures stands { IfErr result (λ end. StandsIn E.P.Tag.eq E.P.model breaks.now
+    ensures cut { IfErr result (λ end. TurnsCut E.P.Tag.eq E.P.model breaks.now
         budget (order_of order.entry) (E.standing engine.old) feed.old
-        (E.standing engine.new) feed.new) }
+        (E.standing engine.new) feed.new (K.taken out.old) (K.taken out.new) end) }
     ensures harts { length (E.standing engine.new).machine.core.harts
         ≡ length (E.standing engine.old).machine.core.harts }
 {

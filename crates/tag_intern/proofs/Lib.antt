@@ -1,2 +1,3 @@
 pub mod ComingLemmas
+pub mod RoomLemmas
 pub mod TableLemmas

@@ -3,7 +3,7 @@
 use crate::table::{InternEnd, TagTable};
 use indexmap::IndexSet;
 use pump_words::Same;
-use std::alloc::Global;
+use std::alloc::{AllocError, Global};
 use std::marker::Model;
 
 /// The tags that have words, in the order of their words, and how many may have.
@@ -28,15 +28,19 @@ impl<T: Same> TagTable for Interner<T> {
 
     ghost state = { λ table. table };
 
-    fn made(alloc: Global, limit: u32) -> Self {
-        Interner {
+    fn made(alloc: Global, limit: u32) -> Result<Self, AllocError> {
+        Ok(Interner {
             tags: IndexSet::new(alloc),
             limit,
-        }
+        })
     }
 
     fn len(&self) -> u32 {
         self.tags.len() as u32
+    }
+
+    fn limit(&self) -> u32 {
+        self.limit
     }
 
     fn word_of(&self, tag: &T) -> Option<u32> {

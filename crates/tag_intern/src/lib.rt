@@ -5,9 +5,11 @@
 mod decoder;
 mod interner;
 mod law;
+mod room;
 mod table;
 
 pub use decoder::Decoder;
 pub use interner::Interner;
 pub use law::growth_law;
+pub use room::{has_room, has_word};
 pub use table::{InternEnd, TagTable};

@@ -5,7 +5,7 @@ ghost use Rattle.engine_trait.specs.Accounts.{with_tag};
 ghost use Rattle.tag_intern.specs.Table.{Extends, IsTable, cut_to, empty_table, table_after};
 
 use pump_words::Same;
-use std::alloc::Global;
+use std::alloc::{AllocError, Global};
 
 /// Why a tag got no word.
 #[derive(Clone, Copy, Debug, PartialEq, Eq)]
@@ -25,15 +25,19 @@ pub trait TagTable: Drop {
 
     ghost state: { Self → TableState Self.Tag };
 
-    /// An empty table for at most `limit` tags. It takes no memory.
-    fn made(alloc: Global, limit: u32) -> Self
+    /// An empty table for at most `limit` tags. Its error is want of memory.
+    fn made(alloc: Global, limit: u32) -> Result<Self, AllocError>
         requires { 1 ≤ limit }
-        ensures { state result ≡ empty_table limit };
+        ensures { IfOk result (λ made. state made ≡ empty_table limit) };
 
     /// How many tags have words: those below it.
     fn len(&self) -> u32
         ensures len { result ≡ length (state self.now).tags }
         ensures sound { IsTable (state self.now) };
+
+    /// How many tags may have words.
+    fn limit(&self) -> u32
+        ensures { result ≡ (state self.now).limit };
 
     /// The word of a tag, `None` where it has none.
     fn word_of(&self, tag: &Self::Tag) -> Option<u32>

@@ -1,5 +1,5 @@
 -- Taint keeps the laws of a policy.
-use Rattle.std.proofs.Common.{◌≡◌, false, refl}
+use Rattle.std.proofs.Common.{◌≡◌, refl}
 use Rattle.std.proofs.lemmas.Bool.{false≢true}
 use Rattle.rv_decode.specs.declared.groups.Group.{Group}
 use Rattle.rv_decode.specs.declared.groups.Group.TheVariants as group
@@ -57,4 +57,8 @@ taint_laws = record {
   few = λ policy k known. absurd (false≢true known);
   service = λ policy k a pc p known given. absurd (false≢true known);
   value = λ policy k a pc p known given. absurd (false≢true known);
+  unused = λ policy k a b pc known same. refl;
+  blind_retag = λ policy p x old. refl;
+  blind_commit = λ policy p x. refl;
+  words = λ policy k a pc p can held are given. absurd (false≢true can.known);
 }

@@ -94,13 +94,18 @@ look_at hart ram word instr effect = record {
   inputs = inputs_at hart ram instr effect;
 }
 
--- Fetch, decode, alignment and range of the access, alignment of the jump: the first that fails decides.
+-- the checks of the effect, alignment and range of the access and then alignment of the jump, and what passes them
+abbrev pub checked_look : {T : Type 0} → HartState T → RamState T → ℕ → Instr → Result (Look T) Fault
+checked_look hart ram word instr = do
+  effect ← effect_or_fault (effect_at hart instr) (first_fault (effect_at hart instr) (ram_bytes ram))
+  Ok (look_at hart ram word instr effect)
+
+-- Fetch, decode, checks, one behind the other: the first fault decides.
 unfoldable pub look_result : {T : Type 0} → HartState T → RamState T → Result (Look T) Fault
 look_result hart ram = do
   word ← fetch_result hart ram
   instr ← read_instr word
-  effect ← effect_or_fault (effect_at hart instr) (first_fault (effect_at hart instr) (ram_bytes ram))
-  Ok (look_at hart ram word instr effect)
+  checked_look hart ram word instr
 
 -- the group of a call of a policy's service
 abbrev pub is_call : Group → Bool

@@ -1,5 +1,5 @@
-//! The steps of a turn that no policy decides, for any type of tags: look ahead through the checks, carry out the
-//! effect, a service's arguments and writes, and the feed.
+//! The steps of a turn that no policy decides, for any type of tags: look ahead through fetch, decode
+//! and checks, carry out the effect, a service's arguments and writes, and the feed.
 #![tactic(auto)]
 
 mod effects;
@@ -15,6 +15,6 @@ pub use effects::{Done, carry_out};
 pub use feed::Feed;
 pub use law::{map_law, steps_law, words_law};
 pub use look::{Look, is_call};
-pub use looking::look_ahead;
+pub use looking::{checked, decoded, fetch, look_ahead};
 pub use services::{answer_to, arguments_of, write_words};
 pub use stop::Stop;

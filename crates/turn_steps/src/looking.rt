@@ -1,10 +1,12 @@
-//! The checks of a turn that no policy decides, in their order.
+//! The checks of a turn that no policy decides, in three steps: fetch, decode, and the checks of the
+//! effect.
 
 ghost use Rattle.std.specs.Prelude.{◌≡◌, ◌+◌, ◌%◌, ◌≤◌, IfOk, IsFalse, OnOk};
 ghost use Rattle.rv_step.specs.Accesses.{EndsWithin};
 ghost use Rattle.turn_steps.specs.Effects.{IsSound};
 ghost use Rattle.tag_memory.specs.Ram.{ram_bytes};
-ghost use Rattle.turn_steps.specs.Looks.{access_tag, effect_on, fetch_result, inputs_on, look_result};
+ghost use Rattle.turn_steps.specs.Looks.{access_tag, effect_on, inputs_on};
+ghost use Rattle.turn_steps.specs.Looks.{checked_look, fetch_result, look_result, read_instr};
 
 use crate::look::Look;
 use crate::registers::{reg, reg_tag};
@@ -13,22 +15,45 @@ use rv_decode::{Instr, Places, Register, decode};
 use rv_step::{Access, Effect, Fault, check, exec};
 use tag_memory::{Hart, Ram};
 
-/// What the hart is about to do, or the first fault of fetch, decode, alignment and range of the access, and alignment
-/// of the jump, in this order (RISC-V unprivileged ISA; the order is this project's profile).
+/// The word at the pc. The only fault is that of the fetch, at a pc past the end of memory.
 #[inline(always)]
-#[tactic(auto, unfolding(crate::specs::Looks::look_result))]
-pub fn look_ahead<T: Copy>(hart: &Hart<T>, ram: &Ram<T>) -> Result<Look<T>, Fault>
-    ensures value { result ≡ look_result hart.now ram.now }
+pub fn fetch<T: Copy>(hart: &Hart<T>, ram: &Ram<T>) -> Result<u32, Fault>
+    ensures value { result ≡ fetch_result hart.now ram.now }
+    ensures within { OnOk result (hart.now.pc + 4 ≤ ram_bytes ram.now) }
+{
+    let pc = hart.pc();
+    if pc >= ram.bytes() {
+        return Err(Fault::Fetch(pc));
+    }
+    Ok(ram.word(pc))
+}
+
+/// The instruction of a word. The only fault is that of an illegal word, which has none.
+#[inline(always)]
+pub fn decoded(word: u32) -> Result<Instr, Fault>
+    ensures { result ≡ read_instr word }
+{
+    decode(word).ok_or(Fault::Illegal(word))
+}
+
+/// What the hart is about to do by the instruction, or the first fault of alignment and range of the
+/// access, and alignment of the jump, in this order. The word is the one at the pc, and the instruction
+/// that of the word.
+#[inline(always)]
+pub fn checked<T: Copy>(
+    hart: &Hart<T>,
+    ram: &Ram<T>,
+    word: u32,
+    instr: &Instr,
+) -> Result<Look<T>, Fault>
+    requires { hart.now.pc + 4 ≤ ram_bytes ram.now }
+    ensures value { result ≡ checked_look hart.now ram.now word instr.now }
     ensures safe { IfOk result (λ look. IsSound (ram_bytes ram.now) look.effect) }
 {
-    let word = fetch(hart, ram)?;
-    let Some(instr) = decode(word) else {
-        return Err(Fault::Illegal(word));
-    };
     let service = reg(hart, Register::A7);
     let group = instr.group(service);
     let places = instr.places(service);
-    let effect = effect_of(hart, &instr, &places);
+    let effect = effect_of(hart, instr, &places);
     check(&effect, ram.bytes())?;
     Ok(Look {
         word,
@@ -40,17 +65,17 @@ pub fn look_ahead<T: Copy>(hart: &Hart<T>, ram: &Ram<T>) -> Result<Look<T>, Faul
     })
 }
 
-/// The word at the pc.
+/// What the hart is about to do, or the first fault of fetch, decode and checks, in this order (RISC-V
+/// unprivileged ISA; the order is this project's profile).
 #[inline(always)]
-fn fetch<T: Copy>(hart: &Hart<T>, ram: &Ram<T>) -> Result<u32, Fault>
-    ensures value { result ≡ fetch_result hart.now ram.now }
-    ensures within { OnOk result (hart.now.pc + 4 ≤ ram_bytes ram.now) }
+#[tactic(auto, unfolding(crate::specs::Looks::look_result))]
+pub fn look_ahead<T: Copy>(hart: &Hart<T>, ram: &Ram<T>) -> Result<Look<T>, Fault>
+    ensures value { result ≡ look_result hart.now ram.now }
+    ensures safe { IfOk result (λ look. IsSound (ram_bytes ram.now) look.effect) }
 {
-    let pc = hart.pc();
-    if pc >= ram.bytes() {
-        return Err(Fault::Fetch(pc));
-    }
-    Ok(ram.word(pc))
+    let word = fetch(hart, ram)?;
+    let instr = decoded(word)?;
+    checked(hart, ram, word, &instr)
 }
 
 /// What the instruction computes of its operands.

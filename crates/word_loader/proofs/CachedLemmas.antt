@@ -1,5 +1,5 @@
 -- The start on the engine that keeps rules: it is sound, and its words stand for the start.
-use Rattle.std.proofs.Common.{◌≡◌, ℕ, ◌/◌, ◌*◌, ◌≤◌, Bool, List, [], Option, None, Some, length, map, slice_get, refl, sym, ap, subst, ◌∙◌, arith}
+use Rattle.std.proofs.Common.{◌≡◌, ℕ, zero, suc, ◌/◌, ◌*◌, ◌≤◌, Bool, List, [], ◌∷◌, replicate, Option, None, Some, length, map, slice_get, refl, sym, ap, subst, ◌∙◌, arith}
 use Rattle.std.specs.List.{All, range_with_len}
 use Rattle.std.proofs.lemmas.List.{length-map, length-replicate}
 use Rattle.std.proofs.lemmas.List.FromFn.{length-map-range_with_len}
@@ -14,11 +14,14 @@ use Rattle.engine_trait.specs.Accounts.{plain_account, with_tags}
 use Rattle.engine_trait.specs.Machine.{CoreState, IsMachine, fresh_core}
 use Rattle.engine_trait.specs.Maps.{core_by}
 use Rattle.engine_trait.proofs.MapLemmas.{core_on}
+use Rattle.rule_cache.specs.Named.{keys_by}
 use Rattle.rule_cache.specs.Stores.{empty_store}
 use Rattle.tag_intern.specs.Table.{TableState}
 use Rattle.tag_intern.specs.Words.{tag_at}
+use Rattle.miss_handler.specs.Asked.{AreRules}
+use Rattle.miss_handler.specs.Books.{Rulebook, rulebook_of}
 use Rattle.pump_engine.specs.Low.{IsLowCore, Low}
-use Rattle.pump_engine.specs.Pump.{IsPump, machine_by_words, standing_by_words}
+use Rattle.pump_engine.specs.Pump.{IsPump, decode, machine_by_words, standing_by_words}
 use Rattle.pump_engine.specs.Steps.{pump_start}
 use Rattle.word_loader.specs.Named.{AreHartsOf, AreWordsOf, Named}
 use Rattle.tag_loader.specs.Start.{memory_of, start_hart, start_harts, start_machine, start_ram, start_tag, start_tags}
@@ -50,6 +53,15 @@ has_sizes g ram ram_is some few entries entries_are harts most places memory mem
 -- memory whose tags are words; word 0 is that of the plain tag
 abbrev pub ram_in_words : List ℕ → List ℕ → RamState ℕ
 ram_in_words memory tags = record { words = memory; tags = tags; plain = 0 }
+
+-- sets without rules
+no_rules : {T : Type 0} (book : Rulebook T) (tags : List T) (sets : ℕ) → AreRules book tags (replicate sets [])
+no_rules book tags zero = tt
+no_rules book tags (suc sets) = (tt, no_rules book tags sets)
+
+none_read : {T : Type 0} (read : ℕ → T) (sets : ℕ) → map (keys_by read) (replicate sets []) ≡ replicate sets []
+none_read read zero = refl
+none_read read (suc sets) = ap (λ rest. [] ∷ rest) (none_read read sets)
 
 module _ {S T : Type 0} (m : PolicyModel T S) (policy : S) (g : Picture) where
   ram_is : HasSizes g → IsRam (start_ram m policy g)
@@ -110,25 +122,30 @@ module _ {S T : Type 0} (m : PolicyModel T S) (policy : S) (g : Picture) where
       is = core_written ∙ sym (core_on lowered (λ (w : Low (length table.tags)). w.word) named_core);
     }
 
-    module _ (cache : ℕ) where
-      machine_read : machine_by_words m (pump_start policy harts own_ram table (empty_store cache)) ≡ start_machine m policy g
+    module _ (sets ways : ℕ) where
+      machine_read : machine_by_words m (pump_start policy harts own_ram table (empty_store sets ways)) ≡ start_machine m policy g
       unfolding start_machine
       machine_read = λ j. record { policy = policy; core = core_read j }
 
-      pub start_is_pump : HasSizes g → m.room policy ≤ g.ram → length table.tags ≤ table.limit → 1 ≤ cache
-          → IsPump m (pump_start policy harts own_ram table (empty_store cache))
+      pub start_is_pump : HasSizes g → m.room policy ≤ g.ram → length table.tags ≤ table.limit → 1 ≤ ways
+          → IsPump m (pump_start policy harts own_ram table (empty_store sets ways))
       start_is_pump has room within some = record {
         machine = subst (IsMachine m) (sym machine_read) (start_is_sound has room);
         plain_word = plain_is;
         within = within;
         words = core_low;
-        rules = record {};
+        rules = no_rules (rulebook_of m policy) table.tags sets;
         room = some;
       }
 
       pub start_is_read : (eq : T → T → Bool) (limit : ℕ) → table.tags ≡ with_tags eq [] (first_tags m policy g) → table.limit ≡ limit
-          → standing_by_words m (pump_start policy harts own_ram table (empty_store cache)) ≡ cached_standing eq m policy g cache limit
+          → standing_by_words m (pump_start policy harts own_ram table (empty_store sets ways)) ≡ cached_standing eq m policy g sets ways limit
       start_is_read eq limit seen limit_is = λ j. record {
         machine = machine_read j;
-        account = record plain_account { seen = seen j; limit = limit_is j; capacity = cache };
+        account = record plain_account {
+          seen = seen j;
+          limit = limit_is j;
+          sets = none_read (decode m (pump_start policy harts own_ram table (empty_store sets ways))) sets j;
+          ways = ways;
+        };
       }

@@ -48,8 +48,8 @@ fn first_words<P: Policy, T: TagTable<Tag = P::Tag>>(
     Ok((harts, tags))
 }
 
-/// The engine at the start of the image under this policy, that keeps at most `cache` rules and has words for at most `limit`
-/// tags.
+/// The engine at the start of the image under this policy, that keeps rules in `sets` sets of at most `ways` each, and has
+/// words for at most `limit` tags.
 ///
 /// `TagsOut` is told only where the start has more tags than `limit`, and an engine is made only where it hasn't; else memory
 /// was out.
@@ -57,20 +57,25 @@ pub fn start_cached<P: Policy, T: TagTable<Tag = P::Tag>, C: RuleStore>(
     alloc: Global,
     policy: P,
     image: &Image,
-    cache: u32,
+    sets: u32,
+    ways: u32,
     limit: u32,
 ) -> Result<Pump<P, T, C>, LoadEnd>
     requires room { P.model.room policy ≤ image.now.ram }
-    requires cache { 1 ≤ cache }
+    requires sets { 1 ≤ sets }
+    requires ways { 1 ≤ ways }
+    requires fits { C.fits sets ways }
     requires limit { 1 ≤ limit }
     ensures start { IfOk result (λ engine. standing_by_words P.model engine
-        ≡ cached_standing P.Tag.eq P.model policy image.now cache limit) }
+        ≡ cached_standing P.Tag.eq P.model policy image.now sets ways limit) }
     ensures within { IfOk result (λ engine. is_over
-        (cached_account P.Tag.eq P.model policy image.now cache limit) ≡ false) }
+        (cached_account P.Tag.eq P.model policy image.now sets ways limit) ≡ false) }
     ensures out { result ≡ Err LoadEnd.TagsOut → is_over
-        (cached_account P.Tag.eq P.model policy image.now cache limit) ≡ true }
+        (cached_account P.Tag.eq P.model policy image.now sets ways limit) ≡ true }
 {
-    let mut table = T::made(alloc, limit);
+    let Ok(mut table) = T::made(alloc, limit) else {
+        return Err(LoadEnd::Memory);
+    };
     let (harts, tags) = match first_words(alloc, &policy, image, &mut table) {
         Ok(parts) => parts,
         Err(InternEnd::Full) => return Err(LoadEnd::TagsOut),
@@ -79,7 +84,7 @@ pub fn start_cached<P: Policy, T: TagTable<Tag = P::Tag>, C: RuleStore>(
     let Ok(words) = words_of(alloc, image) else {
         return Err(LoadEnd::Memory);
     };
-    let Ok(store) = C::made(alloc, cache) else {
+    let Ok(store) = C::made(alloc, sets, ways) else {
         return Err(LoadEnd::Memory);
     };
     // These serve the proof alone: the sizes of memory, 1 to 8 harts, and that no more tags have words than may.

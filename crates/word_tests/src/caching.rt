@@ -7,7 +7,7 @@ use std::test::Fail;
 
 #[test]
 fn rules_by_recency(rt: HostRuntime) -> Result<(), Fail> {
-    let mut rules = RuleCache::made(rt.alloc(), 2)?;
+    let mut rules = RuleCache::made(rt.alloc(), 1, 2)?;
     assert!(rt; rules.find(&key(Group::Add, 1)).is_none());
     rules.keep(key(Group::Add, 1), outs(10, 11))?;
     rules.keep(key(Group::Sub, 1), outs(20, 21))?;
@@ -39,7 +39,7 @@ fn rules_by_recency(rt: HostRuntime) -> Result<(), Fail> {
 
 #[test]
 fn keys_that_differ_in_one_place(rt: HostRuntime) -> Result<(), Fail> {
-    let mut rules = RuleCache::made(rt.alloc(), 1)?;
+    let mut rules = RuleCache::made(rt.alloc(), 1, 1)?;
     let kept = key(Group::Jal, 5);
     rules.keep(kept, outs(1, 2))?;
     let words = kept.words;

@@ -43,7 +43,7 @@ const CALLS: [Call; 22] = [
 
 #[test]
 fn words_of_tags(rt: HostRuntime) -> Result<(), Fail> {
-    let mut table: Interner<u32> = Interner::made(rt.alloc(), 3);
+    let mut table: Interner<u32> = Interner::made(rt.alloc(), 3)?;
     for (at, call) in CALLS.into_iter().enumerate() {
         assert!(rt; answers_as_stated(&mut table, call), "call {at}");
     }

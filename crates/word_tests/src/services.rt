@@ -138,7 +138,7 @@ fn memory_of_words(rt: HostRuntime) -> Result<(), Fail> {
 
 /// A table for four tags, where 70 and 50 have words.
 fn table_of(alloc: Global) -> Result<Interner<u32>, Fail> {
-    let mut table = Interner::made(alloc, 4);
+    let mut table = Interner::made(alloc, 4)?;
     for tag in [70, 50] {
         table.intern(tag).ok().ok_or("no word")?;
     }

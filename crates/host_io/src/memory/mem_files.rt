@@ -1,6 +1,7 @@
 // Files in memory whose chosen calls fail.
 ghost use Rattle.std.specs.Prelude.{◌≡◌, ◌≢◌, ◌↔◌, ◌⊎◌, ℕ, ◌<◌, ◌≤◌, true, List, length, Some, Err, All, IsTrue, IsNone, IsSomeAnd, IfOk, OnOk, OnErr, vec_len};
 ghost use Rattle.std.specs.Bool.{IsFalse};
+ghost use Rattle.host_io.specs.Bytes.{held_are_bytes, told_held};
 ghost use Rattle.host_io.specs.Causes.{LoadCause, SaveCause};
 ghost use Rattle.host_io.specs.FaultPlan.{fresh_calls, fails_next, calls_after};
 ghost use Rattle.host_io.specs.Held.{files_of, bytes_held, AreNamesDistinct};
@@ -79,7 +80,7 @@ impl MemFiles {
 }
 
 impl Files for MemFiles {
-    ghost held = { λ s. bytes_held s.files };
+    ghost held = { λ s name. told_held (bytes_held s.files name) };
 
     ghost tells = { true };
 
@@ -89,6 +90,8 @@ impl Files for MemFiles {
     ghost write_faults = { λ s _. s.write_faults };
 
     ghost calls = { λ s. s.calls.next };
+
+    ghost tells_bytes = { λ s name. held_are_bytes (bytes_held s.files name) };
 
     fn load(&mut self, alloc: Global, name: &str, limit: usize) -> Result<Vec<u8>, LoadFile>
         ensures ok { IfOk result (λ bytes. bytes_held self.old.files name.now ≡ Some bytes.items) }
@@ -122,6 +125,8 @@ impl Files for MemFiles {
 
     fn save(&mut self, alloc: Global, name: &str, bytes: &[u8]) -> Result<(), SaveFile>
         ensures ok { OnOk result (bytes_held self.new.files name.now ≡ Some bytes.now) }
+        ensures told { OnOk result
+            (told_held (bytes_held self.new.files name.now) ≡ Some bytes.now) }
         ensures others { (other : List ℕ) → other ≢ name.now →
             bytes_held self.new.files other ≡ bytes_held self.old.files other }
         ensures err { OnErr result (self.new.files ≡ self.old.files) }

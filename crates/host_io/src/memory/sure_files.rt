@@ -1,6 +1,7 @@
 // Files in memory that never fail.
 ghost use Rattle.std.specs.Prelude.{◌≡◌, ◌≢◌, ◌↔◌, ℕ, ◌<◌, ◌≤◌, true, List, length, Some, Err, All, IfOk, OnOk, OnErr, IsOkUnless, vec_len};
 ghost use Rattle.shared_terms.specs.Counts.{next_count};
+ghost use Rattle.host_io.specs.Bytes.{told_are_bytes, told_bytes};
 ghost use Rattle.host_io.specs.Held.{files_of, bytes_held, sure_bytes, AreNamesDistinct};
 
 use super::held_files::{HeldFiles, copied_within};
@@ -48,7 +49,7 @@ impl SureFiles {
 }
 
 impl Files for SureFiles {
-    ghost held = { λ s name. Some (sure_bytes s.files name) };
+    ghost held = { λ s name. told_bytes (sure_bytes s.files name) };
 
     ghost tells = { true };
 
@@ -57,6 +58,8 @@ impl Files for SureFiles {
     ghost write_faults = { λ _ _. 0 };
 
     ghost calls = { λ s. s.calls };
+
+    ghost tells_bytes = { λ s name. told_are_bytes (sure_bytes s.files name) };
 
     fn load(&mut self, alloc: Global, name: &str, limit: usize) -> Result<Vec<u8>, LoadFile>
         ensures ok { IfOk result (λ bytes. bytes.items ≡ sure_bytes self.old.files name.now) }
@@ -76,6 +79,8 @@ impl Files for SureFiles {
 
     fn save(&mut self, alloc: Global, name: &str, bytes: &[u8]) -> Result<(), SaveFile>
         ensures ok { OnOk result (bytes_held self.new.files name.now ≡ Some bytes.now) }
+        ensures told { OnOk result
+            (told_bytes (sure_bytes self.new.files name.now) ≡ Some bytes.now) }
         ensures others { (other : List ℕ) → other ≢ name.now →
             bytes_held self.new.files other ≡ bytes_held self.old.files other }
         ensures err { OnErr result (self.new.files ≡ self.old.files) }

@@ -1,6 +1,7 @@
 // Files over a file system of std.
 ghost use Rattle.std.specs.Prelude.{◌≡◌, ◌≢◌, ◌<◌, ◌≤◌, false, length, None, Err, IfOk, IfSome, vec_len};
 ghost use Rattle.std.specs.IoError.{error_kind};
+ghost use Rattle.host_io.specs.Bytes.{none_are_bytes};
 ghost use Rattle.host_io.specs.Causes.{LoadCause, SaveCause};
 ghost use Rattle.shared_terms.specs.Counts.{next_count};
 
@@ -85,6 +86,8 @@ impl<S: FileSystem + Drop> Files for StdFiles<S> {
     ghost write_faults = { λ files _. files.write_faults };
 
     ghost calls = { λ files. files.calls };
+
+    ghost tells_bytes = { λ _. none_are_bytes };
 
     fn load(&mut self, alloc: Global, name: &str, limit: usize) -> Result<Vec<u8>, LoadFile>
         ensures within { IfOk result (λ bytes. vec_len bytes ≤ limit) }

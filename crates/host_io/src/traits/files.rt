@@ -1,6 +1,7 @@
 // Files that are loaded and saved by name.
 ghost use Rattle.std.specs.Prelude.{◌≡◌, ◌≢◌, ℕ, ◌<◌, ◌≤◌, Bool, List, length, Option, Err, IfOk, OnOk, IfSome, vec_len};
 ghost use Rattle.std.specs.Bool.{then_some};
+ghost use Rattle.host_io.specs.Bytes.{TellBytes};
 ghost use Rattle.host_io.specs.Causes.{LoadCause, SaveCause};
 ghost use Rattle.shared_terms.specs.Counts.{next_count};
 
@@ -67,4 +68,7 @@ pub trait Files {
         ensures cause { SaveCause (write_faults self.old) (write_faults self.new) name.now result }
         ensures reads { read_faults self.new ≡ read_faults self.old }
         ensures counted { calls self.new ≡ next_count (calls self.old) };
+
+    // What files tell are bytes.
+    ghost tells_bytes: { (files : Self) → TellBytes (held files) };
 }

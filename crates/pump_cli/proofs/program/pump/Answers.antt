@@ -1,16 +1,49 @@
+use Rattle.std.proofs.Common.{sym, ◌∙◌}
 use Rattle.pump_line.specs.Told.{texts_of}
+use Rattle.pump_cli.specs.Codes.{status_of_cut}
+use Rattle.pump_cli.proofs.AnswerLemmas.{due_status}
+use Rattle.pump_cli.proofs.CauseLemmas.{out_run, spent_run}
+use Rattle.pump_cli.proofs.ListLemmas.{listed_back}
 use Rattle.pump_cli.proofs.LoadLemmas.{load_due}
 use Rattle.pump_cli.proofs.SafeRunLemmas.{safe_runs}
 use Rattle.pump_cli.proofs.program.pump.Goals as goal
 
 pub returns-in-Ok-clause-safe : goal.returns-in-Ok-clause-safe
-returns-in-Ok-clause-safe g c tells = safe_runs (texts_of c.args.words.now.items) _ _ tells
+returns-in-Ok-clause-safe g c held left tells = safe_runs (texts_of c.args.words.now.items) held left tells
 
 pub returns-in-Err-clause-safe : goal.returns-in-Err-clause-safe
-returns-in-Err-clause-safe g c tells = safe_runs (texts_of c.args.words.now.items) _ _ tells
+returns-in-Err-clause-safe g c held left tells = safe_runs (texts_of c.args.words.now.items) held left tells
+
+pub returns-in-Ok-clause-safe_here : goal.returns-in-Ok-clause-safe_here
+returns-in-Ok-clause-safe_here g c = safe_runs (texts_of c.args.words.now.items) _ _ (g.met.F.Files.tells_bytes c.args.files.now)
+
+pub returns-in-Err-clause-safe_here : goal.returns-in-Err-clause-safe_here
+returns-in-Err-clause-safe_here g c = safe_runs (texts_of c.args.words.now.items) _ _ (g.met.F.Files.tells_bytes c.args.files.now)
 
 pub returns-in-Ok-clause-loads : goal.returns-in-Ok-clause-loads
 returns-in-Ok-clause-loads g c task is = load_due (texts_of c.args.words.now.items) _ _ task is
 
 pub returns-in-Err-clause-loads : goal.returns-in-Err-clause-loads
 returns-in-Err-clause-loads g c task is = load_due (texts_of c.args.words.now.items) _ _ task is
+
+pub returns-in-Ok-clause-lists : goal.returns-in-Ok-clause-lists
+returns-in-Ok-clause-lists g c = listed_back (texts_of c.args.words.now.items)
+
+pub returns-in-Err-clause-lists : goal.returns-in-Err-clause-lists
+returns-in-Err-clause-lists g c = listed_back (texts_of c.args.words.now.items)
+
+pub returns-in-Ok-clause-spent : goal.returns-in-Ok-clause-spent
+returns-in-Ok-clause-spent g c is =
+    spent_run (texts_of c.args.words.now.items) _ _ (due_status _ _ c.in-Ok.status _ _ _ is c.in-Ok.ensures tt)
+
+pub returns-in-Ok-clause-tags_out : goal.returns-in-Ok-clause-tags_out
+returns-in-Ok-clause-tags_out g c is =
+    out_run (texts_of c.args.words.now.items) _ _ (due_status _ _ c.in-Ok.status _ _ _ is c.in-Ok.ensures tt)
+
+pub returns-in-Err-clause-spent : goal.returns-in-Err-clause-spent
+returns-in-Err-clause-spent g c is =
+    spent_run (texts_of c.args.words.now.items) _ _ (due_status _ _ (status_of_cut c.in-Err.cut) _ _ _ (sym c.status.ensures ∙ is) c.in-Err.ensures tt)
+
+pub returns-in-Err-clause-tags_out : goal.returns-in-Err-clause-tags_out
+returns-in-Err-clause-tags_out g c is =
+    out_run (texts_of c.args.words.now.items) _ _ (due_status _ _ (status_of_cut c.in-Err.cut) _ _ _ (sym c.status.ensures ∙ is) c.in-Err.ensures tt)

@@ -1,4 +1,4 @@
-use Rattle.std.proofs.Common.{Err, ap}
+use Rattle.std.proofs.Common.{Err, inl, inr, refl}
 use Rattle.pump_shell.specs.declared.ends.SessionCut.TheVariants.{Memory}
 use Rattle.pump_shell.proofs.ToldLemmas.{long_told, made_cut, made_end, made_puts, over_end, over_puts, unmade_puts}
 use Rattle.pump_shell.proofs.session.run_from.Goals as goal
@@ -38,3 +38,15 @@ pub returns-clause-puts : goal.returns-clause-puts
 returns-clause-puts g c =
     made_cut g.L.E.P.Tag.PartialEq.eq g.L.E.P.Policy.model c.args.limit (g.L.Loader.start c.args.loader) c.in-Ok.ensures.within c.in-Ok.session c.in-Ok.ensures.ok
     (g.S.Source.left c.args.input.now) _ _ c.in-Err.cut c.from.result c.in-Err.ensures.puts
+
+pub returns-in-Err-TagsOut-clause-over : goal.returns-in-Err-TagsOut-clause-over
+returns-in-Err-TagsOut-clause-over g c over = record { ends = inl refl; unread = refl; silent = refl }
+
+pub returns-in-Err-Memory-clause-over : goal.returns-in-Err-Memory-clause-over
+returns-in-Err-Memory-clause-over g c over = record { ends = inr refl; unread = refl; silent = refl }
+
+pub returns-in-Ok-obey_input-clause-over : goal.returns-in-Ok-obey_input-clause-over
+returns-in-Ok-obey_input-clause-over g c over = absurd (let within = c.in-Ok.ensures.within in cc)
+
+pub returns-clause-over : goal.returns-clause-over
+returns-clause-over g c over = absurd (let within = c.in-Ok.ensures.within in cc)

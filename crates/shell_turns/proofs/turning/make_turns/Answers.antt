@@ -5,7 +5,7 @@ use Rattle.engine_trait.specs.Standing.{step}
 use Rattle.shell_turns.specs.Order.{order_of}
 use Rattle.shell_turns.specs.Told.{counted_harts, is_last}
 use Rattle.shell_turns.specs.Turns.{step_pieces}
-use Rattle.shell_turns.proofs.PutLemmas.{done, puts_as, puts_nothing, puts_on}
+use Rattle.shell_turns.proofs.PutLemmas.{done, puts_as, puts_cut_as, puts_nothing, puts_on}
 use Rattle.shell_turns.proofs.TurnLemmas.{finishes, way_begins, way_cut, way_ends, way_goes_on, way_lasts, way_stands, way_stops}
 use Rattle.shell_turns.proofs.turning.make_turns.Goals as goal
 
@@ -35,17 +35,21 @@ returns-in_err-end-clause-puts g c =
     (g.K.Sink.taken c.args.out.now) (g.K.Sink.taken c.loop.out) (g.K.Sink.taken c.make_turn.new.out) _ _ c.in_err-end.field-0.0 p.0
     c.loop.invariant.puts c.in_err-end.ensures.puts)
 
-pub returns-in_err-end-clause-stands : goal.returns-in_err-end-clause-stands
-returns-in_err-end-clause-stands g c =
+pub returns-in_err-end-clause-cut : goal.returns-in_err-end-clause-cut
+returns-in_err-end-clause-cut g c =
     let eq = g.E.P.Tag.PartialEq.eq in
     let m = g.E.P.Policy.model in
     let start = g.E.Engine.standing c.args.engine.now in
     let here = g.E.Engine.standing c.loop.engine in
+    let stepped = step eq m here c.loop.feed c.in-Some.h in
     let p = err_from_is_err_and c.from_residual.result c.from_residual.ensures.1 in
-    rw p.1
+    rw (p.1, p.2)
     (way_stands eq m c.args.breaks.now (order_of c.args.order) start c.args.feed.now c.loop.counter c.loop.invariant.pieces c.loop.invariant.harts
     (order_of c.loop.order) here c.loop.feed c.loop.invariant.way c.in-Some.h (order_of c.in-Some.others) (search rules) c.args.budget c.loop-test.true
-    (g.E.Engine.standing c.make_turn.new.engine) c.make_turn.new.feed c.in_err-end.ensures.stands)
+    (g.E.Engine.standing c.make_turn.new.engine) c.make_turn.new.feed
+    (g.K.Sink.taken c.args.out.now) (g.K.Sink.taken c.loop.out) (g.K.Sink.taken c.make_turn.new.out) c.in_err-end.field-0.0 c.loop.invariant.puts
+    (puts_cut_as _ (Unit {0}) _ _ (step_pieces c.args.breaks.now c.in-Some.h stepped) c.in_err-end.field-0.0 c.in_err-end.field-0.0 c.in_err-end.ensures.puts)
+    c.in_err-end.ensures.cut)
 
 pub loop-preserved : goal.loop-preserved
 loop-preserved g c =

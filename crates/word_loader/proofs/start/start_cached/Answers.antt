@@ -9,7 +9,7 @@ pub from_parts-requires : goal.from_parts-requires
 from_parts-requires g c =
     let ram = c.ram-ram.ensures in
     let words = c.in-Ok-words_of.ensures.size in
-    let tags = c.in-Ok.ensures.size in
+    let tags = c.in-Ok-first_words.ensures.size in
     record {
       tagged = omega (arith, words, tags);
       some = omega (arith, words, ram.value, ram.least);
@@ -22,16 +22,16 @@ new-requires g c =
     let policy = c.args.policy in
     let image = c.args.image.now in
     let table = g.T.TagTable.state c.first_words.new.table in
-    let harts = c.in-Ok.parts.0.items in
-    let tags = c.in-Ok.parts.1.items in
+    let harts = c.in-Ok-first_words.parts.0.items in
+    let tags = c.in-Ok-first_words.parts.1.items in
     let entries = c.entries-entries.ensures in
     let has = has_sizes image c.ram-ram.result c.ram-ram.ensures.value c.ram-ram.ensures.least c.ram-ram.ensures.most
     c.entries-entries.result.now entries.value entries.least entries.most entries.places
     c.in-Ok-words_of.words.items c.in-Ok-words_of.ensures.words c.in-Ok-words_of.ensures.size in
     let ram = c.from_parts.ensures ∙ ap (λ memory. ram_in_words memory tags) c.in-Ok-words_of.ensures.words in
     subst (IsPump model) (λ j. pump_start policy harts (sym ram j) table (sym c.in-Ok-made.ensures.empty j))
-    (start_is_pump model policy image table c.in-Ok.ensures.plain harts tags c.in-Ok.ensures.harts c.in-Ok.ensures.words c.args.cache
-    has c.requires.room c.len-count.ensures.sound.within c.requires.cache)
+    (start_is_pump model policy image table c.in-Ok-first_words.ensures.plain harts tags c.in-Ok-first_words.ensures.harts c.in-Ok-first_words.ensures.words c.args.sets c.args.ways
+    has c.requires.room c.len-count.ensures.sound.within c.requires.ways)
 
 pub returns-clause-start : goal.returns-clause-start
 returns-clause-start g c =
@@ -39,16 +39,16 @@ returns-clause-start g c =
     let policy = c.args.policy in
     let image = c.args.image.now in
     let table = g.T.TagTable.state c.first_words.new.table in
-    let harts = c.in-Ok.parts.0.items in
-    let tags = c.in-Ok.parts.1.items in
+    let harts = c.in-Ok-first_words.parts.0.items in
+    let tags = c.in-Ok-first_words.parts.1.items in
     let ram = c.from_parts.ensures ∙ ap (λ memory. ram_in_words memory tags) c.in-Ok-words_of.ensures.words in
     ap (standing_by_words model) (c.new.ensures ∙ (λ j. pump_start policy harts (ram j) table (c.in-Ok-made.ensures.empty j)))
-    ∙ start_is_read model policy image table c.in-Ok.ensures.plain harts tags c.in-Ok.ensures.harts c.in-Ok.ensures.words c.args.cache
-    g.P.Tag.PartialEq.eq c.args.limit c.in-Ok.ensures.seen (c.first_words.ensures.limit ∙ (λ j. (c.made-table.ensures j).limit))
+    ∙ start_is_read model policy image table c.in-Ok-first_words.ensures.plain harts tags c.in-Ok-first_words.ensures.harts c.in-Ok-first_words.ensures.words c.args.sets c.args.ways
+    g.P.Tag.PartialEq.eq c.args.limit c.in-Ok-first_words.ensures.seen (c.first_words.ensures.limit ∙ (λ j. (c.in-Ok.ensures j).limit))
 
 pub returns-clause-within : goal.returns-clause-within
 returns-clause-within g c =
     let table = g.T.TagTable.state c.first_words.new.table in
-    let limit : table.limit ≡ c.args.limit = c.first_words.ensures.limit ∙ (λ j. (c.made-table.ensures j).limit) in
-    let count = ap length c.in-Ok.ensures.seen in
+    let limit : table.limit ≡ c.args.limit = c.first_words.ensures.limit ∙ (λ j. (c.in-Ok.ensures j).limit) in
+    let count = ap length c.in-Ok-first_words.ensures.seen in
     le-ltb c.args.limit _ (omega (arith, limit, count, c.len-count.ensures.sound.within))

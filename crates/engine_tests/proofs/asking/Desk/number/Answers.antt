@@ -9,5 +9,5 @@ invariant_of-self g c =
     let old = (g.T.TagTable.state c.self.inside.tags).tags in
     let new = (g.T.TagTable.state c.intern.new.self).tags in (
       same_words old new c.intern.ensures.extends 0 (slice_get_within old 0 _ c.self.invariant.0) ∙ c.self.invariant.0,
-      rules_grown (g.R.Rules.book c.self.inside.rules) old new c.intern.ensures.extends (g.C.RuleStore.state c.self.inside.store).kept c.self.invariant.1,
+      rules_grown (g.R.Rules.book c.self.inside.rules) old new c.intern.ensures.extends (g.C.RuleStore.state c.self.inside.store).sets c.self.invariant.1,
     )

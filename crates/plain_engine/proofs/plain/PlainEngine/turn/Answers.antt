@@ -28,7 +28,8 @@ returns-then-is_call-clause-step g c has_memory =
 pub returns-then-is_call-clause-memory : goal.returns-then-is_call-clause-memory
 returns-then-is_call-clause-memory g c out =
     gives_up g.P.Tag.PartialEq.eq g.P.Policy.model c.args.self.now c.args.feed.now c.args.h c.is_ready.ensures.uncached (sym c.is_ready.ensures.ready ∙ c.if-not-is_ready.false)
-    c.in-Ok.look c.look_up.new.self c.service.new.self (sym c.prepare.ensures.value ∙ c.in-Ok.is) c.look_up.ensures (c.service.ensures.memory out)
+    c.in-Ok.look c.in-Ok-ask.outs c.look_up.new.self c.service.new.self (sym c.prepare.ensures.value ∙ c.in-Ok.is) c.look_up.ensures (sym c.ask.ensures ∙ c.in-Ok-ask.is)
+    (sym c.is_call.ensures ∙ c.if-is_call.true) (c.service.ensures.unrefused out) (c.service.ensures.memory out)
 
 pub returns-then-is_call-clause-served : goal.returns-then-is_call-clause-served
 returns-then-is_call-clause-served g c out =

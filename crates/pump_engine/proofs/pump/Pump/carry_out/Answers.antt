@@ -1,17 +1,19 @@
-use Rattle.std.proofs.Common.{◌≡◌, ◌<◌, ◌∙◌, All, length, ap, sym, subst, arith, rules}
+use Rattle.std.proofs.Common.{◌≡◌, ◌<◌, ◌∙◌, false, All, length, ap, sym, subst, arith, rules}
 use Rattle.rv_decode.specs.declared.groups.Group.{Group}
 use Rattle.policy_trait.specs.Model.{IsGiven}
 use Rattle.tag_memory.specs.Ram.{IsPlace, ram_bytes}
 use Rattle.monitor_calls.specs.Ends.{job_by}
 use Rattle.shared_terms.specs.Counts.{next_count}
+use Rattle.engine_trait.specs.Accounts.{is_over}
 use Rattle.engine_trait.specs.Turn.{core_served}
+use Rattle.engine_trait.specs.declared.ends.Halt.TheVariants as halt
 use Rattle.miss_handler.specs.Asked.{AreOutWords}
 use Rattle.tag_intern.proofs.TableLemmas.{longer}
-use Rattle.pump_engine.proofs.ServiceLemmas.{IsWritten, cut_back, left, pump_left, serves}
+use Rattle.pump_engine.proofs.ServiceLemmas.{IsWritten, cut_back, left, pump_left, serves, written_fits}
 use Rattle.pump_engine.proofs.StayLemmas.{pump_at}
 use Rattle.pump_engine.proofs.pump.Pump.carry_out.Goals as goal
 use Rattle.pump_engine.specs.Pump.{IsPump, PumpState, pump_of}
-use Rattle.pump_engine.specs.Steps.{Serves}
+use Rattle.pump_engine.specs.Steps.{CarriesOut, Serves, after_halt, first_in}
 
 -- nothing was taken note of, and the tags that were added are cut off
 pub invariant_of-self-then-is_err : goal.invariant_of-self-then-is_err
@@ -25,6 +27,23 @@ invariant_of-self-then-is_err g c =
           c.self.invariant.pump);
       masks_are = subst (λ policy. (group : Group) → c.self.inside.masks group ≡ g.P.Policy.model.ignores policy group) (sym unnoted) c.self.invariant.masks_are;
     }
+
+pub returns-then-is_err-clause-ends : goal.returns-then-is_err-clause-ends
+returns-then-is_err-clause-ends g c =
+    let job = job_by c.args.job.now.plan c.args.job.now.words.items in
+    let p : PumpState g.row.P.Denot g.row.P-Tag.Denot =
+    pump_of c.self.inside.policy c.self.inside.core (g.T.TagTable.state c.self.inside.tags) (g.C.RuleStore.state c.self.inside.store) c.self.inside.turns c.self.inside.halt in
+    let unnoted : c.commit.new.self ≡ c.self.inside.policy = search rules in
+    let table_is = c.cut.ensures ∙ cut_back (g.T.TagTable.state c.self.inside.tags) (g.T.TagTable.state c.intern_job.new.tags) c.len-len.result
+    c.intern_job.ensures.extends c.intern_job.ensures.limit c.len-len.ensures.len in
+    let back : pump_of c.commit.new.self c.self.inside.core (g.T.TagTable.state c.cut.new.self) (g.C.RuleStore.state c.self.inside.store) c.self.inside.turns c.self.inside.halt ≡ p =
+    λ j. pump_of (unnoted j) c.self.inside.core (table_is j) (g.C.RuleStore.state c.self.inside.store) c.self.inside.turns c.self.inside.halt in
+    let fits = written_fits g.P.Tag.PartialEq.eq g.P.Policy.model p c.self.invariant.pump c.args.h c.args.look.now c.args.outs job (g.T.TagTable.state c.intern_job.new.tags)
+    c.in-Ok.ensures.seen c.intern_job.ensures.limit c.intern_job.ensures.within in
+    subst (CarriesOut g.P.Tag.PartialEq.eq g.P.Policy.model c.args.self.now c.args.h c.args.look.now c.args.outs job c.give_up-then-is_err.new.self) (sym c.give_up-then-is_err.ensures.end) (
+      c.give_up-then-is_err.ensures.state ∙ ap (λ q. after_halt q halt.Memory) (back ∙ c.self.view_is),
+      subst (λ (q : PumpState g.row.P.Denot g.row.P-Tag.Denot). is_over (first_in g.P.Tag.PartialEq.eq g.P.Policy.model q c.args.h c.args.look.now c.args.outs job) ≡ false) c.self.view_is fits,
+    )
 
 pub serve-requires-clause-places : goal.serve-requires-clause-places
 serve-requires-clause-places g c =

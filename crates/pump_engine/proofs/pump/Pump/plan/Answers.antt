@@ -1,4 +1,4 @@
-use Rattle.std.proofs.Common.{◌≡◌, ◌∙◌, Ok, IfErr, IfOk, ap, sym, subst}
+use Rattle.std.proofs.Common.{◌≡◌, ◌≤◌, ◌∙◌, Ok, IfErr, IfOk, IsOkAnd, length, ap, sym, subst}
 use Rattle.policy_trait.specs.Maps.{args_by}
 use Rattle.monitor_calls.specs.Ends.{EndsAs, job_by}
 use Rattle.tag_intern.specs.Words.{tag_at}
@@ -32,3 +32,16 @@ returns-clause-err g c =
     (c.map-arguments.ensures ∙ ap (args_by (tag_at c.decoder-decoder.result.plain (g.T.TagTable.state c.decoder-decoder.result.tags.now).tags)) c.arguments.ensures) c.image-pc.ensures in
     subst (λ (q : PumpState g.row.P.Denot g.row.P-Tag.Denot). IfErr c.serve.result (λ end. EndsAs end (service_in g.P.Tag.PartialEq.eq g.P.Policy.model q c.args.h c.args.look.now c.args.outs))) c.self.view_is
     (subst (λ defined. IfErr c.serve.result (λ end. EndsAs end defined)) (sym same) c.serve.ensures.err)
+
+pub returns-clause-memory : goal.returns-clause-memory
+returns-clause-memory g c out =
+    let p : PumpState g.row.P.Denot g.row.P-Tag.Denot =
+    pump_of c.self.inside.policy c.self.inside.core (g.T.TagTable.state c.self.inside.tags) (g.C.RuleStore.state c.self.inside.store) c.self.inside.turns c.self.inside.halt in
+    let same = service_by g.P.Tag.PartialEq.eq g.P.Policy.model p c.args.h c.args.look.now c.args.outs c.decoder-decoder.result.plain (g.T.TagTable.state c.decoder-decoder.result.tags.now)
+    c.ram.result.now c.map-arguments.result c.image-pc.result
+    (c.decoder-decoder.ensures.tags ∙ ap (λ (q : PumpState g.row.P.Denot g.row.P-Tag.Denot). q.table) (sym c.self.view_is))
+    (c.decoder-decoder.ensures.plain ∙ ap (λ (q : PumpState g.row.P.Denot g.row.P-Tag.Denot). g.P.Policy.model.plain q.policy) (sym c.self.view_is))
+    c.ram.ensures
+    (c.map-arguments.ensures ∙ ap (args_by (tag_at c.decoder-decoder.result.plain (g.T.TagTable.state c.decoder-decoder.result.tags.now).tags)) c.arguments.ensures) c.image-pc.ensures in
+    subst (λ (q : PumpState g.row.P.Denot g.row.P-Tag.Denot). IsOkAnd (service_in g.P.Tag.PartialEq.eq g.P.Policy.model q c.args.h c.args.look.now c.args.outs) (λ job. 1 ≤ length job.words)) c.self.view_is
+    (subst (λ defined. IsOkAnd defined (λ job. 1 ≤ length job.words)) (sym same) (c.serve.ensures.memory out))

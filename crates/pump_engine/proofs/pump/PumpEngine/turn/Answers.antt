@@ -3,7 +3,7 @@ use Rattle.std.proofs.lemmas.Bool.{false≢true}
 use Rattle.engine_trait.specs.declared.ends.TurnEnd.TheVariants as ends
 use Rattle.pump_engine.specs.Pump.{standing_by_words}
 use Rattle.pump_engine.specs.Steps.{unanswered_end}
-use Rattle.pump_engine.proofs.EndLemmas.{fails_alone, idles_alone, memory_unanswered, missed_grows, service_gives_up, service_grows, service_turn}
+use Rattle.pump_engine.proofs.EndLemmas.{fails_alone, idles_alone, memory_unanswered, missed_grows, service_gives_up, service_grows, service_there, service_turn}
 use Rattle.pump_engine.proofs.TurnLemmas.{checked_turn, effect_turn, idle_turn, unanswered_gives_up, unanswered_turn}
 use Rattle.pump_engine.proofs.pump.PumpEngine.turn.Goals as goal
 
@@ -36,7 +36,9 @@ returns-in-Err-ask-clause-failure g c why failing stops =
 
 pub returns-in-Err-ask-clause-kept : goal.returns-in-Err-ask-clause-kept
 returns-in-Err-ask-clause-kept g c out =
-    missed_grows g.P.Tag.PartialEq.eq g.P.Policy.model c.args.self.now c.args.h c.in-Ok.look (sym c.prepare.ensures.value ∙ c.in-Ok.is) (λ kept. false≢true (subst IsOk c.in-Err-ask.is (c.ask.ensures.kept kept)))
+    missed_grows g.P.Tag.PartialEq.eq g.P.Policy.model c.args.self.now c.args.h c.in-Ok.look (sym c.prepare.ensures.value ∙ c.in-Ok.is)
+    (c.in-Err-ask.ensures.unanswered.allowed (memory_unanswered _ c.in-Err-ask.end (sym c.end_unanswered.ensures.end ∙ out)))
+    (λ kept. false≢true (subst IsOk c.in-Err-ask.is (c.ask.ensures.kept kept)))
 
 -- ---- a service of the policy
 
@@ -57,7 +59,9 @@ returns-then-is_call-clause-idle g c idles =
     (service_turn g.P.Tag.PartialEq.eq g.P.Policy.model c.args.self.now c.args.feed.now c.args.h (sym c.is_ready.ensures.ready ∙ c.if-not-is_ready.false) c.ask.new.self c.in-Ok.look (sym c.prepare.ensures.value ∙ c.in-Ok.is) c.ask.ensures.stays c.in-Ok-ask.outs c.in-Ok-ask.ensures.allowed (sym c.is_call.ensures ∙ c.if-is_call.true) c.service.new.self c.service.result c.service.ensures.ends (λ is_memory. absurd (cc (is_memory, idles)))) idles
 
 pub returns-then-is_call-clause-kept : goal.returns-then-is_call-clause-kept
-returns-then-is_call-clause-kept g c out = service_grows g.P.Tag.PartialEq.eq g.P.Policy.model c.args.self.now c.args.h c.in-Ok.look (sym c.prepare.ensures.value ∙ c.in-Ok.is) (sym c.is_call.ensures ∙ c.if-is_call.true)
+returns-then-is_call-clause-kept g c out =
+    service_grows g.P.Tag.PartialEq.eq g.P.Policy.model c.args.self.now c.args.h
+    (service_there g.P.Tag.PartialEq.eq g.P.Policy.model c.args.self.now c.args.feed.now c.args.h (sym c.is_ready.ensures.ready ∙ c.if-not-is_ready.false) c.ask.new.self c.in-Ok.look (sym c.prepare.ensures.value ∙ c.in-Ok.is) c.ask.ensures.stays c.in-Ok-ask.outs c.in-Ok-ask.ensures.allowed (sym c.is_call.ensures ∙ c.if-is_call.true) c.service.new.self c.service.result c.service.ensures.ends out)
 
 -- ---- any other instruction
 

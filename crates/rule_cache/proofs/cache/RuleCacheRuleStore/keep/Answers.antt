@@ -1,5 +1,6 @@
-use Rattle.std.proofs.Common.{ap}
+use Rattle.std.proofs.Common.{sym, ap, ◌∙◌}
 use Rattle.rule_cache.specs.Stores.{Rules}
+use Rattle.rule_cache.proofs.OneSetLemmas.{one, one_kept}
 use Rattle.rule_cache.proofs.RuleLemmas.{put_kept}
 use Rattle.rule_cache.proofs.cache.RuleCacheRuleStore.keep.Goals as goal
 
@@ -7,4 +8,7 @@ pub returns-clause-kept : goal.returns-clause-kept
 returns-clause-kept c =
     let before = c.args.self.now in
     let put = put_kept c.args.key before.rules.cap before.rules.entries c.len-length.ensures.valid c.args.words in
-    rw c.in_ok-put.ensures.entries (ap (λ (kept : Rules). record { kept = kept; capacity = before.rules.cap; hits = before.hits; misses = before.misses }) put)
+    rw c.in_ok-put.ensures.entries (
+    ap (λ (kept : Rules). one kept before.rules.cap before.hits before.misses) put
+    ∙ sym (one_kept c.args.key before.rules.entries before.rules.cap before.hits before.misses c.args.words)
+    )

@@ -1,0 +1,157 @@
+-- How a run came to its status: the turns that it made, or the want of tag words.
+use Rattle.std.proofs.Common.{◌≡◌, ℕ, Bool, true, false, List, [], Option, Some, None, Result, Ok, Err, IfSome, ◌==◌, if◌then◌else◌, refl}
+use Rattle.image_format.specs.Picture.{Picture}
+use Rattle.turn_steps.specs.declared.stop.Stop.{Stop}
+use Rattle.turn_steps.specs.declared.stop.Stop.TheVariants as stop
+use Rattle.engine_trait.specs.Accounts.{Account, is_over, plain_account}
+use Rattle.engine_trait.specs.declared.ends.Halt.{Halt}
+use Rattle.engine_trait.specs.declared.ends.Halt.TheVariants as halt
+use Rattle.policy_choice.specs.All.{AllState, AllTag, all, all_eq}
+use Rattle.rounds.specs.Course.{Course, hart_stops}
+use Rattle.rounds.proofs.SpentLemmas.{rounds_have_memory, rounds_spent, turn_is_next}
+use Rattle.pump_loader.specs.Loads.{cached_start_of}
+use Rattle.pump_line.specs.Task.{RunTask, Task, assemble, disassemble, load, run, shell, task_of}
+use Rattle.pump_cli.specs.Endings.{Outcome, has_any, is_of, is_out, status_of, status_of_stops}
+use Rattle.pump_cli.specs.Program.{course_of_run, outcome_of_content, outcome_of_fed, outcome_of_image, outcome_of_input, outcome_of_load, outcome_of_picture, outcome_of_run, outcome_of_words, program, run_of_load, start_of_run, started_account}
+use Rattle.pump_cli.specs.Reading.{content_of, content_read, input_read}
+use Rattle.pump_cli.specs.Runs.{AfterContent, AfterFed, AfterImage, AfterInput, AfterPicture, AfterWords, AnySession, IsOut, IsSpent, TheRun}
+use Rattle.pump_cli.specs.declared.ending.Kind.TheVariants.{Ready}
+use Rattle.pump_cli.specs.declared.refusal.Refusal.{Refusal}
+use Rattle.pump_cli.specs.declared.status.Status.{Status}
+use Rattle.pump_cli.specs.declared.status.Status.TheVariants as statuses
+
+-- ---- statuses of stops
+
+-- the status by whether some hart has a violation, a fault, no stop, or another exit
+abbrev by_kinds : Bool → Bool → Bool → Bool → Status
+by_kinds violated faulted ready exited =
+    if violated then statuses.Violated else
+    if faulted then statuses.Faulted else
+    if ready then statuses.TurnsSpent else
+    if exited then statuses.ExitedNonzero else
+    statuses.Done
+
+kinds_are_not_out : (violated faulted ready exited : Bool) → statuses.TagsOut ≡ by_kinds violated faulted ready exited → ⊥
+kinds_are_not_out true faulted ready exited e = let h : statuses.TagsOut ≡ statuses.Violated = e in cc
+kinds_are_not_out false true ready exited e = let h : statuses.TagsOut ≡ statuses.Faulted = e in cc
+kinds_are_not_out false false true exited e = let h : statuses.TagsOut ≡ statuses.TurnsSpent = e in cc
+kinds_are_not_out false false false true e = let h : statuses.TagsOut ≡ statuses.ExitedNonzero = e in cc
+kinds_are_not_out false false false false e = let h : statuses.TagsOut ≡ statuses.Done = e in cc
+
+spent_is_ready : (violated faulted ready exited : Bool) → statuses.TurnsSpent ≡ by_kinds violated faulted ready exited → ready ≡ true
+spent_is_ready true faulted ready exited e = absurd (let h : statuses.TurnsSpent ≡ statuses.Violated = e in cc)
+spent_is_ready false true ready exited e = absurd (let h : statuses.TurnsSpent ≡ statuses.Faulted = e in cc)
+spent_is_ready false false true exited e = refl
+spent_is_ready false false false true e = absurd (let h : statuses.TurnsSpent ≡ statuses.ExitedNonzero = e in cc)
+spent_is_ready false false false false e = absurd (let h : statuses.TurnsSpent ≡ statuses.Done = e in cc)
+
+out_by : (out : Bool) (stops : List (Option Stop)) → statuses.TagsOut ≡ (if out then statuses.TagsOut else status_of_stops stops) → out ≡ true
+unfolding status_of_stops
+out_by true stops e = refl
+out_by false stops e = absurd (kinds_are_not_out _ _ _ _ e)
+
+-- where a run's turns are spent, its engine is not out and some hart is ready
+record LeftReady (why : Option Halt) (stops : List (Option Stop)) : Type 0 where
+  within : is_out why ≡ false
+  ready : has_any Ready stops ≡ true
+
+spent_by : (why : Option Halt) (stops : List (Option Stop)) (out : Bool) → is_out why ≡ out
+    → statuses.TurnsSpent ≡ (if out then statuses.TagsOut else status_of_stops stops) → LeftReady why stops
+unfolding status_of_stops
+spent_by why stops true is e = absurd (let h : statuses.TurnsSpent ≡ statuses.TagsOut = e in cc)
+spent_by why stops false is e = record { within = is; ready = spent_is_ready _ _ _ _ e }
+
+-- ---- the course of a run
+
+no_halt : (why : Option Halt) → is_out why ≡ false → (why ≡ Some halt.Memory → ⊥) → why ≡ None
+no_halt None within memory = refl
+no_halt (Some halt.TagWords) within memory = absurd (let h : true ≡ false = within in cc)
+no_halt (Some halt.Memory) within memory = absurd (memory refl)
+
+stopped_is_not_ready : (why : Stop) → is_of Ready (Some why) ≡ false
+stopped_is_not_ready (stop.Exit code) = refl
+stopped_is_not_ready (stop.Fault fault) = refl
+stopped_is_not_ready (stop.Violation part why pc) = refl
+
+module _ (task : RunTask) (picture : Picture) where
+  started_by : (over : Bool) (account : Account AllTag) → account.halt ≡ None
+      → (if over then record account { halt = Some halt.TagWords } else account).halt ≡ Some halt.Memory → ⊥
+  started_by true account none = λ e. cc
+  started_by false account none = λ e. let h : account.halt ≡ None = none in cc
+
+  start_by : (keeps_none : Bool)
+      → (started_account (if keeps_none then plain_account else (cached_start_of task.choice task.cache task.tags picture).account)).halt ≡ Some halt.Memory → ⊥
+  start_by true = started_by (is_over {T = AllTag} plain_account) plain_account refl
+  start_by false = started_by (is_over (cached_start_of task.choice task.cache task.tags picture).account) (cached_start_of task.choice task.cache task.tags picture).account refl
+
+  module _ (fed : List ℕ) where
+    abbrev the_course : Course AllState AllTag
+    the_course = course_of_run task picture fed
+
+    abbrev Ended : Status → Type 0
+    Ended status = status ≡ status_of the_course.standing.account.halt (hart_stops the_course.standing.machine.core)
+
+    has_memory : the_course.standing.account.halt ≡ Some halt.Memory → ⊥
+    has_memory = rounds_have_memory all_eq all task.turns 0 (start_of_run task picture) fed (start_by (task.cache == 0))
+
+    spent_left : LeftReady the_course.standing.account.halt (hart_stops the_course.standing.machine.core) → IsSpent task picture fed
+    spent_left left =
+        let next = turn_is_next the_course.standing (is_of Ready) stopped_is_not_ready (no_halt the_course.standing.account.halt left.within has_memory) left.ready in
+        record { turns = rounds_spent all_eq all task.turns 0 (start_of_run task picture) fed next.0 next.1; ready = left.ready }
+
+    run_spent : Ended statuses.TurnsSpent → IsSpent task picture fed
+    run_spent e = spent_left (spent_by the_course.standing.account.halt (hart_stops the_course.standing.machine.core) (is_out the_course.standing.account.halt) refl e)
+
+    run_out : Ended statuses.TagsOut → IsOut task picture fed
+    run_out e = out_by (is_out the_course.standing.account.halt) (hart_stops the_course.standing.machine.core) e
+
+-- ---- the run that the words ask for
+
+module _ (status : Status) (Ran : RunTask → Picture → List ℕ → Type 0) (each : (task : RunTask) (picture : Picture) (fed : List ℕ) → Ended task picture fed status → Ran task picture fed) where
+  abbrev Says : Option Outcome → Type 0
+  Says due = IfSome due (λ outcome. status ≡ outcome.status)
+
+  of_fed : (task : RunTask) (picture : Picture) (fed : Result (List ℕ) Refusal) → status ≡ (outcome_of_fed task picture fed).status
+      → AfterFed Ran AnySession task picture fed
+  unfolding outcome_of_run
+  of_fed task picture (Ok fed) says = each task picture fed says
+  of_fed task picture (Err refusal) says = tt
+
+  of_input : (task : RunTask) (picture : Picture) (input : Option (List ℕ)) → Says (outcome_of_input task picture input) → AfterInput Ran AnySession task picture input
+  of_input task picture None says = tt
+  of_input task picture (Some input) says = of_fed task picture (input_read input) says
+
+  of_picture : (task : Task) (picture : Picture) (input : Option (List ℕ)) → Says (outcome_of_picture task picture input) → AfterPicture Ran AnySession task picture input
+  unfolding outcome_of_load
+  of_picture (run task) picture input says = of_input task picture input says
+  of_picture (shell task) picture None says = tt
+  of_picture (shell task) picture (Some input) says = tt
+  of_picture (assemble task) picture input says = tt
+  of_picture (disassemble task) picture input says = tt
+  of_picture (load task) picture input says = each (run_of_load task) picture [] says
+
+  of_image : (task : Task) (read : Result Picture Refusal) (input : Option (List ℕ)) → Says (outcome_of_image task read input) → AfterImage Ran AnySession task read input
+  of_image task (Ok picture) input says = of_picture task picture input says
+  of_image task (Err refusal) input says = tt
+
+  of_content : (task : Task) (content input : Option (List ℕ)) → Says (outcome_of_content task content input) → AfterContent Ran AnySession task content input
+  of_content task None input says = tt
+  of_content task (Some bytes) input says = of_image task (content_read task bytes) input says
+
+  of_words : (task : Option Task) (held : List ℕ → Option (List ℕ)) (input : Option (List ℕ)) → Says (outcome_of_words task held input) → AfterWords Ran AnySession task held input
+  of_words None held input says = tt
+  of_words (Some task) held input says = of_content task (content_of task held) input says
+
+  of_program : (words : List (List ℕ)) (held : List ℕ → Option (List ℕ)) (input : Option (List ℕ)) → Says (program words held input) → TheRun Ran words held input
+  unfolding program TheRun
+  of_program words held input says = of_words (task_of words) held input says
+
+module _ (words : List (List ℕ)) (held : List ℕ → Option (List ℕ)) (input : Option (List ℕ)) where
+  abbrev Comes : Status → Type 0
+  Comes status = IfSome (program words held input) (λ outcome. status ≡ outcome.status)
+
+  pub spent_run : Comes statuses.TurnsSpent → TheRun IsSpent words held input
+  spent_run says = of_program statuses.TurnsSpent IsSpent run_spent words held input says
+
+  pub out_run : Comes statuses.TagsOut → TheRun IsOut words held input
+  out_run says = of_program statuses.TagsOut IsOut run_out words held input says
