@@ -21,6 +21,7 @@ use Rattle.heap_policy.proofs.TextLemmas.{texts_tell as heap_texts_tell}
 use Rattle.policy_product.specs.Both.{joint_text}
 use Rattle.policy_product.specs.Maybe.{text_in}
 use Rattle.policy_choice.specs.All.{AllState, AllTag, all, choice_state, part_if}
+use Rattle.policy_choice.specs.declared.basis.Basis.{Basis}
 use Rattle.policy_choice.specs.declared.choice.Choice.{Choice}
 use Rattle.choice_texts.specs.Texts.{HasSmallKey, IsComponentOf, IsOnIf, IsStateOf, IsTagOf}
 use Rattle.choice_texts.proofs.BarLemmas.{IsPiece, first_told}
@@ -91,10 +92,10 @@ on_if : {S : Type 0} (chosen : Bool) (s : S) → IsOnIf chosen (part_if chosen s
 on_if true s = refl
 on_if false s = refl
 
-pub starts_so : (choice : Choice) (g : Picture) → IsStateOf choice (choice_state choice g)
-starts_so choice g = record {
-  seal = on_if choice.seal _;
-  comp = on_if choice.comp _;
-  flow = on_if choice.flow _;
-  heap = on_if choice.heap _;
+pub starts_so : (basis : Basis) (g : Picture) → IsStateOf basis.choice (choice_state basis g)
+starts_so basis g = record {
+  seal = on_if basis.choice.seal _;
+  comp = on_if basis.choice.comp _;
+  flow = on_if basis.choice.flow _;
+  heap = on_if basis.choice.heap _;
 }

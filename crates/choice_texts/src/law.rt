@@ -3,6 +3,7 @@
 ghost use Rattle.std.specs.Prelude.{◌≡◌};
 ghost use Rattle.image_format.specs.Picture.{Picture};
 ghost use Rattle.policy_choice.specs.All.{AllState, AllTag, all, choice_state};
+ghost use Rattle.policy_choice.specs.declared.basis.Basis.{Basis};
 ghost use Rattle.policy_choice.specs.declared.choice.Choice.{Choice};
 ghost use Rattle.choice_texts.specs.Texts.{IsStateOf, IsTagOf};
 
@@ -13,5 +14,5 @@ pub fn text_law()
     ensures apart { (choice : Choice) (state : AllState) (x y : AllTag)
         → IsStateOf choice state → IsTagOf choice x → IsTagOf choice y
         → all.text state x ≡ all.text state y → x ≡ y }
-    ensures start { (choice : Choice) (g : Picture) → IsStateOf choice (choice_state choice g) }
+    ensures start { (basis : Basis) (g : Picture) → IsStateOf basis.choice (choice_state basis g) }
 {}

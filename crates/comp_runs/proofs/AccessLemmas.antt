@@ -11,6 +11,7 @@ use Rattle.rv_step.specs.declared.accesses.Width.TheVariants.{Full}
 use Rattle.tag_memory.specs.Hart.{HartState, reg_value}
 use Rattle.tag_memory.specs.Ram.{RamState, ram_bytes, ram_tag}
 use Rattle.turn_steps.specs.Effects.{with_store}
+use Rattle.turn_steps.specs.Looks.{access_tag}
 use Rattle.turn_steps.specs.declared.look.Look.{Look}
 use Rattle.engine_trait.specs.Events.{Touch, touch_of}
 use Rattle.compartment_policy.specs.Compartments.{is_store}
@@ -33,35 +34,35 @@ store_keeps_tags ram place width value tag same = record {
   plain = refl;
 }
 
-module _ {T : Type 0} (hart : HartState T) (ram : RamState T) (look : Look T) (register value : ℕ) where
+module _ {T : Type 0} (hart : HartState T) (ram : RamState T) (look : Look) (register value : ℕ) where
   abbrev KeptBy : T → Access → Type 0
   KeptBy result access = KeepsTags ram (with_store ram access result)
 
   same_ram : KeepsTags ram ram
   same_ram = record { count = refl; tags = refl; plain = refl }
 
-  pub does_keep_tags : (result : T) → (is_store look.group ≡ true → result ≡ look.inputs.tm) → Does hart ram look register value
+  pub does_keep_tags : (result : T) → (is_store look.group ≡ true → result ≡ access_tag ram hart.plain look.effect.access) → Does hart ram look register value
       → KeepsTags ram (with_store ram look.effect.access result)
-  does_keep_tags result left (moves source g a v t) = subst (KeptBy result) (sym a) same_ram
-  does_keep_tags result left (loads place g a v t) = subst (KeptBy result) (sym a) same_ram
-  does_keep_tags result left (loads_part place width signed g a t) = subst (KeptBy result) (sym a) same_ram
-  does_keep_tags result left (stores place source g a t tm r) =
-      subst (KeptBy result) (sym a) (store_keeps_tags ram place Full _ result (left (ap is_store g) ∙ tm))
-  does_keep_tags result left (stores_part place stored width g a tm r) =
-      subst (KeptBy result) (sym a) (store_keeps_tags ram place width stored result (left (ap is_store g) ∙ tm))
+  does_keep_tags result left (moves g a v) = subst (KeptBy result) (sym a) same_ram
+  does_keep_tags result left (loads place g a v) = subst (KeptBy result) (sym a) same_ram
+  does_keep_tags result left (loads_part place width signed g a) = subst (KeptBy result) (sym a) same_ram
+  does_keep_tags result left (stores place g a r) =
+      subst (KeptBy result) (sym a) (store_keeps_tags ram place Full _ result (left (ap is_store g) ∙ ap (access_tag ram hart.plain) a))
+  does_keep_tags result left (stores_part place stored width g a r) =
+      subst (KeptBy result) (sym a) (store_keeps_tags ram place width stored result (left (ap is_store g) ∙ ap (access_tag ram hart.plain) a))
   does_keep_tags result left (computes g a) = subst (KeptBy result) (sym a) same_ram
 
 -- ---- the word that a store writes
 
 -- the instruction stores, and the rule was asked with the tag of that word of memory
-pub record Stores {T : Type 0} (ram : RamState T) (look : Look T) (touch : Touch) : Type 0 where
+pub record Stores {T : Type 0} (hart : HartState T) (ram : RamState T) (look : Look) (touch : Touch) : Type 0 where
   pub is_storing : is_store look.group ≡ true
-  pub tag : look.inputs.tm ≡ ram_tag ram touch.address
+  pub tag : access_tag ram hart.plain look.effect.access ≡ ram_tag ram touch.address
   pub within : touch.address / 4 < length ram.words
 
-module _ {T : Type 0} (hart : HartState T) (ram : RamState T) (look : Look T) (register value : ℕ) (touch : Touch) where
+module _ {T : Type 0} (hart : HartState T) (ram : RamState T) (look : Look) (register value : ℕ) (touch : Touch) where
   abbrev StoresBy : Access → Type 0
-  StoresBy access = EndsWithin (ram_bytes ram) access → touch_of access ≡ Some touch → touch.stores ≡ true → Stores ram look touch
+  StoresBy access = EndsWithin (ram_bytes ram) access → touch_of access ≡ Some touch → touch.stores ≡ true → Stores hart ram look touch
 
   no_access : StoresBy access.None
   no_access ends e storing = absurd cc
@@ -71,7 +72,7 @@ module _ {T : Type 0} (hart : HartState T) (ram : RamState T) (look : Look T) (r
       let not_storing = ap (λ (x : Touch). x.stores) (same_Some (record { address = place; bytes = bytes_of width; stores = false }) touch e) in
       absurd cc
 
-  storing_at : (place : ℕ) (width : Width) (stored : ℕ) → is_store look.group ≡ true → look.inputs.tm ≡ ram_tag ram place
+  storing_at : (place : ℕ) (width : Width) (stored : ℕ) → is_store look.group ≡ true → access_tag ram hart.plain look.effect.access ≡ ram_tag ram place
       → StoresBy (access.Store place width stored)
   storing_at place width stored is tag ends e storing =
       let same = same_Some (record { address = place; bytes = bytes_of width; stores = true }) touch e in
@@ -83,9 +84,11 @@ module _ {T : Type 0} (hart : HartState T) (ram : RamState T) (look : Look T) (r
       }
 
   pub does_store : Does hart ram look register value → StoresBy look.effect.access
-  does_store (moves source g a v t) = subst StoresBy (sym a) no_access
-  does_store (loads place g a v t) = subst StoresBy (sym a) (only_loads place Full false)
-  does_store (loads_part place width signed g a t) = subst StoresBy (sym a) (only_loads place width signed)
-  does_store (stores place source g a t tm r) = subst StoresBy (sym a) (storing_at place Full (reg_value hart source) (ap is_store g) tm)
-  does_store (stores_part place stored width g a tm r) = subst StoresBy (sym a) (storing_at place width stored (ap is_store g) tm)
+  does_store (moves g a v) = subst StoresBy (sym a) no_access
+  does_store (loads place g a v) = subst StoresBy (sym a) (only_loads place Full false)
+  does_store (loads_part place width signed g a) = subst StoresBy (sym a) (only_loads place width signed)
+  does_store (stores place g a r) =
+      subst StoresBy (sym a) (storing_at place Full (reg_value hart look.places.second) (ap is_store g) (ap (access_tag ram hart.plain) a))
+  does_store (stores_part place stored width g a r) =
+      subst StoresBy (sym a) (storing_at place width stored (ap is_store g) (ap (access_tag ram hart.plain) a))
   does_store (computes g a) = subst StoresBy (sym a) no_access

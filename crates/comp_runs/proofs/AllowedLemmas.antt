@@ -9,6 +9,7 @@ use Rattle.tag_memory.specs.Ram.{RamState}
 use Rattle.turn_steps.specs.declared.look.Look.{Look}
 use Rattle.engine_trait.specs.Events.{Event, is_retirement, Touch, touch_of}
 use Rattle.engine_trait.specs.Machine.{CoreState, Machine, hart_at, is_ready_in, with_hart}
+use Rattle.engine_trait.specs.Turn.{rule_inputs}
 use Rattle.compartment_policy.specs.Compartments.{CompartmentState, compartments, is_jump as is_jumping, may_write}
 use Rattle.compartment_policy.specs.declared.tag.CompartmentTag.{CompartmentTag}
 use Rattle.compartment_policy.specs.declared.tag.CompartmentTag.TheVariants.{Pc}
@@ -22,17 +23,17 @@ use Rattle.comp_runs.proofs.RuleLemmas.{Obeys, obeys, same_jump}
 use Rattle.comp_runs.proofs.StandingLemmas.{is_own, last_other, last_own}
 use Rattle.comp_runs.proofs.LineLemmas.{Promises, Stands}
 
-module _ (old : Standing) (s : Machine CompartmentState CompartmentTag) (line : Stands old s) (h : ℕ) (look : Look CompartmentTag)
+module _ (old : Standing) (s : Machine CompartmentState CompartmentTag) (line : Stands old s) (h : ℕ) (look : Look)
     (outs : Outs CompartmentTag) (e : Event CompartmentTag)
     (allows : Allows compartments s h look outs e) where
   -- the word that the turn obeys
   abbrev pub obeyed : Owned
   obeyed = old.owners ((hart_at s.core h).pc / 4)
 
-  pub obeys_rule : Obeys (old.last h).owner (old.last h).jumped obeyed look.group look.inputs.tm outs
+  pub obeys_rule : Obeys (old.last h).owner (old.last h).jumped obeyed look.group (rule_inputs s.core h look).tm outs
   obeys_rule =
-      obeys (old.last h).owner (old.last h).jumped obeyed look.group look.inputs outs (allows.seen.pc_tag ∙ line.pcs h allows.ready)
-      (allows.seen.instruction ∙ (line.words ((hart_at s.core h).pc / 4) allows.seen.there).tag_is) allows.rule
+      obeys (old.last h).owner (old.last h).jumped obeyed look.group (rule_inputs s.core h look) outs (line.pcs h allows.ready)
+      (line.words ((hart_at s.core h).pc / 4) allows.seen.there).tag_is allows.rule
 
   follows_by_right : MayFollow (old.last e.hart).owner (old.last e.hart).jumped (old.owners (e.pc / 4))
   follows_by_right =

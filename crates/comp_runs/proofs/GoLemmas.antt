@@ -21,7 +21,7 @@ use Rattle.comp_runs.proofs.AccessLemmas.{KeepsTags, does_keep_tags, does_store}
 use Rattle.comp_runs.proofs.LineLemmas.{IsKept, Stands, same_owners}
 use Rattle.comp_runs.proofs.AllowedLemmas.{obeyed, obeys_rule, pcs_after, permitted, promised}
 
-module _ (old : Standing) (s : Machine CompartmentState CompartmentTag) (line : Stands old s) (h : ℕ) (look : Look CompartmentTag)
+module _ (old : Standing) (s : Machine CompartmentState CompartmentTag) (line : Stands old s) (h : ℕ) (look : Look)
     (outs : Outs CompartmentTag) (e : Event CompartmentTag)
     (allows : Allows compartments s h look outs e) where
   store_writes : (register value : ℕ) → Does (hart_at s.core h) s.core.ram look register value → service_of e ≡ None → WritesByRight old.owners e

@@ -52,7 +52,7 @@ covered_in_memory range n count inside covered = grind (arith, nat_tests)
 
 -- ---- the turn
 
-module _ (old : Standing) (s : Machine CompartmentState CompartmentTag) (line : Stands old s) (h : ℕ) (look : Look CompartmentTag)
+module _ (old : Standing) (s : Machine CompartmentState CompartmentTag) (line : Stands old s) (h : ℕ) (look : Look)
     (outs : Outs CompartmentTag) (e : Event CompartmentTag)
     (allows : Allows compartments s h look outs e) (p : Plan CompartmentTag) where
   abbrev arguments : Args CompartmentTag

@@ -34,7 +34,7 @@ stopped_not_ready core h why within ready =
     let going = (and_parts (nat_lt h (length core.harts)) (has_no_stop (stop_at (stopping core h why) h)) ready).1 in
     cc
 
-module _ (old : Standing) (s : Machine CompartmentState CompartmentTag) (line : Stands old s) (h : ℕ) (look : Look CompartmentTag)
+module _ (old : Standing) (s : Machine CompartmentState CompartmentTag) (line : Stands old s) (h : ℕ) (look : Look)
     (outs : Outs CompartmentTag) (e : Event CompartmentTag)
     (allows : Allows compartments s h look outs e) where
   pcs_stopped : IsMachine compartments s → (why : Stop) (n : ℕ) → is_ready_in (stopping s.core h why) n ≡ true

@@ -29,7 +29,7 @@ module _ (old : Standing) (s : Machine CompartmentState CompartmentTag) (is : Is
 
 pub comp_keeps : (birth : ℕ → Birth) (entries : List ℕ) → Keeps compartments (CompLine birth entries) (CompTurn birth entries)
 comp_keeps birth entries = record {
-  turn = λ before s h e t is line turn.
+  turn = λ before s h e t is line turn stay.
       let kept = turn_kept (standing_of birth entries before) s is (line_stands birth entries before s line) h e t turn in
       (turn_of_line birth entries before e kept.promises, line_after birth entries before e t kept.stands);
 }

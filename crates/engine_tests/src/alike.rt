@@ -103,7 +103,7 @@ fn is_running<E: Engine>(engine: &E, h: u32) -> bool {
 }
 
 /// Which random program it is, and whether hart 0 and hart 1 are still running after its turns.
-const SEEDS: [(u32, bool, bool); 6] = [
+const SEEDS: &[(u32, bool, bool)] = &[
     (60, true, true),
     (154, true, true),
     (252, true, true),
@@ -113,7 +113,7 @@ const SEEDS: [(u32, bool, bool); 6] = [
 ];
 
 /// How many rules are kept.
-const CACHES: [u32; 3] = [1, 3, 1024];
+const CACHES: &[u32] = &[1, 3, 1024];
 
 /// Makes the turns of both engines. `Err` says what they do not have in common; the result is whether each of the harts is
 /// still running.
@@ -148,11 +148,11 @@ fn run_both(
 
 #[test]
 fn both_engines_run_alike(rt: HostRuntime) -> Result<(), Fail> {
-    for (seed, first, second) in SEEDS {
+    for &(seed, first, second) in SEEDS {
         let words = program(rt.alloc(), seed)?;
         let middle = u32::try_from(words.len() / 2).unwrap_or(0).wrapping_mul(4);
         let image = image_of(rt.alloc(), 1024, &[0, middle], &words)?;
-        for cache in CACHES {
+        for &cache in CACHES {
             let running = run_both(rt.alloc(), &image, cache)?;
             assert_eq!(rt; running, Ok((first, second)), "seed {seed}, cache {cache}");
         }

@@ -84,7 +84,7 @@ fn desk_of<'a>(alloc: Global, rules: Asking<'a, Toy>) -> Result<AskingDesk<'a>, 
 type Row = ((u32, u32, u32), Result<(u32, u32), AskEnd>, u32, u64);
 
 /// Questions in order. The words 0 to 3 are those of the tags 5, 7, 9 and 8.
-const ROWS: [Row; 10] = [
+const ROWS: &[Row] = &[
     // the outputs have the tags 95 and 3
     ((0, 1, 0), Ok((4, 5)), 6, 1),
     // the rule is kept, also for another tag of memory
@@ -111,7 +111,7 @@ fn questions_in_order(rt: HostRuntime) -> Result<(), Fail> {
     for (tag, word) in [(7, 1), (9, 2), (8, 3)] {
         assert!(rt; desk.number(tag) == Some(word));
     }
-    for (at, (words, answer, len, asked)) in ROWS.into_iter().enumerate() {
+    for (at, &(words, answer, len, asked)) in ROWS.iter().enumerate() {
         let answer = answer.map(|(pc, written)| OutWords {
             pc,
             result: written,

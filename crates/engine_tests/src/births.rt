@@ -7,7 +7,7 @@ use tag_loader::{BirthWalk, birth};
 
 /// The words of a file with every list: 64 bytes of memory, the heap region 32 to 48; code 0 to 8; labels 1 at 4 and 2 at 8;
 /// compartment 1 owns the word at 0, which lets in the set 2 and lets write the set 4, and compartment 31 those from 4 to 16.
-const LISTED: [u32; 31] = [
+const LISTED: &[u32] = &[
     0x504D_5550,
     0x0001_0001,
     64,
@@ -43,7 +43,7 @@ const LISTED: [u32; 31] = [
 
 /// An address, the owner there, the sets of those that are let in and let write, whether it is code, its label, and whether
 /// it lies in the heap region.
-const BIRTHS: [(u32, u32, u32, u32, bool, Option<u32>, bool); 8] = [
+const BIRTHS: &[(u32, u32, u32, u32, bool, Option<u32>, bool)] = &[
     (0, 1, 2, 4, true, None, false),
     (4, 31, 0, 0, true, Some(1), false),
     (8, 31, 0, 0, false, Some(2), false),
@@ -57,11 +57,11 @@ const BIRTHS: [(u32, u32, u32, u32, bool, Option<u32>, bool); 8] = [
 #[test]
 fn births_are_what_the_lists_say(rt: HostRuntime) -> Result<(), Fail> {
     let mut bytes = Vec::new(rt.alloc());
-    for word in &LISTED {
+    for word in LISTED {
         bytes.extend_from_slice(&word.to_le_bytes())?;
     }
     let image = read_image(rt.alloc(), &bytes).ok().ok_or("no image")?;
-    for (address, owner, into, write, code, label, heap) in BIRTHS {
+    for &(address, owner, into, write, code, label, heap) in BIRTHS {
         let expected = Birth {
             owner,
             into: CompartmentSet::of_bits(into),
@@ -79,12 +79,12 @@ fn births_are_what_the_lists_say(rt: HostRuntime) -> Result<(), Fail> {
 #[test]
 fn a_walk_tells_of_each_address_what_a_search_tells(rt: HostRuntime) -> Result<(), Fail> {
     let mut bytes = Vec::new(rt.alloc());
-    for word in &LISTED {
+    for word in LISTED {
         bytes.extend_from_slice(&word.to_le_bytes())?;
     }
     let image = read_image(rt.alloc(), &bytes).ok().ok_or("no image")?;
     let mut births = BirthWalk::new(&image);
-    for (address, ..) in BIRTHS {
+    for &(address, ..) in BIRTHS {
         assert!(rt;
             births.run_at(address).value == birth(&image, address),
             "at {address}"

@@ -29,7 +29,7 @@ const THREE_GROUPS: &[u32] = &[
     0x0012_8293,
 ];
 
-const COUNT_ROWS: [CountRow; 4] = [
+const COUNT_ROWS: &[CountRow] = &[
     CountRow {
         words: LOOP,
         turns: 6,

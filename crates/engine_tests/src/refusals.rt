@@ -67,7 +67,7 @@ fn store(is_key: bool, is_foreign: bool, is_code: bool) -> Ins<Tags> {
 }
 
 /// Which of the three parts refuse a store, and the part that is named.
-const REFUSALS: [((bool, bool, bool), Option<Part>); 8] = [
+const REFUSALS: &[((bool, bool, bool), Option<Part>)] = &[
     ((false, false, false), None),
     ((true, false, false), Some(Part::Seal)),
     ((false, true, false), Some(Part::Comp)),
@@ -87,7 +87,7 @@ fn named<T: Drop>(answer: Result<T, Refused>) -> Option<Part> {
 fn the_first_refusing_part_is_named_in_both_nestings(rt: HostRuntime) -> Result<(), Fail> {
     let first = first_two(rt.alloc())?;
     let last = last_two(rt.alloc())?;
-    for ((seal, comp, flow), part) in REFUSALS {
+    for &((seal, comp, flow), part) in REFUSALS {
         let inputs = store(seal, comp, flow);
         let in_last = last.rule(Group::StoreWord, inputs.map(&LastNested));
         let in_first = first.rule(Group::StoreWord, inputs.map(&FirstNested));
@@ -111,7 +111,7 @@ fn arguments<T: Copy>(a0: u32, a1: u32, a2: u32, plain: T) -> Args<T> {
 }
 
 /// A word count of a range to split off, whether sealing holds a1 for a key, and what is refused.
-const LENDINGS: [(u32, bool, Option<(Part, Why)>); 4] = [
+const LENDINGS: &[(u32, bool, Option<(Part, Why)>)] = &[
     (1, false, None),
     (1, true, Some((Part::Seal, Why::Lend))),
     (0, false, Some((Part::Comp, Why::Range))),
@@ -139,7 +139,7 @@ fn lending_is_asked_before_the_plan_in_both_nestings(rt: HostRuntime) -> Result<
         FlowTag::Still,
     );
     let plain = (SealTag::Data, CompartmentTag::Plain, FlowTag::Plain);
-    for (count, is_key, refused) in LENDINGS {
+    for &(count, is_key, refused) in LENDINGS {
         let mut asked = arguments(8, count, 0, plain);
         if is_key {
             asked.t1.0 = SealTag::Key(0);

@@ -48,7 +48,7 @@ const JUMP_TO_KEPT: &[u32] = &[
 /// Gets a byte, and stores it as the next instruction: li a7, 2; ecall; sw a0, 12(x0).
 const STORE_AS_CODE: &[u32] = &[0x0020_0893, 0x0000_0073, 0x00A0_2623];
 
-const TAINT_ROWS: [TaintRow; 7] = [
+const TAINT_ROWS: &[TaintRow] = &[
     TaintRow {
         words: JUMP_TO_INPUT,
         byte: 64,

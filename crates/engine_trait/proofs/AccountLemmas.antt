@@ -56,7 +56,7 @@ module _ {T : Type 0} (eq : T → T → Bool) (a : Account T) (plain : IsUncache
   seeing_never_over tags = ap is_over (seeing_none tags) ∙ never_over
 
 module _ {S T : Type 0} (eq : T → T → Bool) (m : PolicyModel T S) (s : Machine S T) (h : ℕ) where
-  after_rule_none : (found : Result (Look T) Stop) (a : Account T) → IsUncached a → after_rule eq m s h found a ≡ a
+  after_rule_none : (found : Result Look Stop) (a : Account T) → IsUncached a → after_rule eq m s h found a ≡ a
   after_rule_none (Ok look) a plain = rule_kept_none eq a plain (key_of eq m s h look) (rule_answer m s h look)
   after_rule_none (Err why) a plain = refl
 
@@ -65,7 +65,7 @@ module _ {S T : Type 0} (eq : T → T → Bool) (m : PolicyModel T S) (s : Machi
   after_service_none (Ok None) a plain = refl
   after_service_none (Err why) a plain = refl
 
-  look_missed : (found : Result (Look T) Stop) (a : Account T) → IsUncached a → (n : ℕ) × (after_look eq m s h found a ≡ record a { misses = n })
+  look_missed : (found : Result Look Stop) (a : Account T) → IsUncached a → (n : ℕ) × (after_look eq m s h found a ≡ record a { misses = n })
   look_missed (Ok look) a plain = (next_count a.misses, looked_up_missed eq a plain (key_of eq m s h look))
   look_missed (Err why) a plain = (a.misses, refl)
 
@@ -80,11 +80,11 @@ module _ {S T : Type 0} (eq : T → T → Bool) (m : PolicyModel T S) (s : Machi
       ∙ ap (λ c. turned (after_service eq m s h (job_at m s h) c) a.turns) (after_rule_none (preparation m s h) b plain)
       ∙ ap (λ c. turned c a.turns) (after_service_none (job_at m s h) b plain)
 
-  pub look_counted_missed : (a : Account T) (look : Look T) → IsUncached a → preparation m s h ≡ Ok look → look_counted eq m s h a ≡ record a { misses = next_count a.misses }
+  pub look_counted_missed : (a : Account T) (look : Look) → IsUncached a → preparation m s h ≡ Ok look → look_counted eq m s h a ≡ record a { misses = next_count a.misses }
   unfolding look_counted
   look_counted_missed a look plain looked = ap (λ found. after_look eq m s h found a) looked ∙ looked_up_missed eq a plain (key_of eq m s h look)
 
-  pub rule_counted_missed : (a : Account T) (look : Look T) → IsUncached a → preparation m s h ≡ Ok look → rule_counted eq m s h a ≡ record a { misses = next_count a.misses }
+  pub rule_counted_missed : (a : Account T) (look : Look) → IsUncached a → preparation m s h ≡ Ok look → rule_counted eq m s h a ≡ record a { misses = next_count a.misses }
   unfolding rule_counted
   rule_counted_missed a look plain looked =
       let missed = look_counted_missed a look plain looked in
@@ -95,7 +95,7 @@ module _ {S T : Type 0} (eq : T → T → Bool) (m : PolicyModel T S) (s : Machi
   unfolding look_counted
   look_counted_none a why looked = ap (λ found. after_look eq m s h found a) looked
 
-  pub accounted_missed : (a : Account T) (look : Look T) → IsUncached a → preparation m s h ≡ Ok look
+  pub accounted_missed : (a : Account T) (look : Look) → IsUncached a → preparation m s h ≡ Ok look
       → account_after_turn eq m s h a ≡ record a { misses = next_count a.misses; turns = next_count a.turns }
   accounted_missed a look plain looked =
       settled_account a (record a { misses = next_count a.misses }) (record { ways = plain.ways; seen = plain.seen; sets = plain.sets })
@@ -131,11 +131,11 @@ rule_kept_halt eq key (Ok outs) a = seeing_halt eq (outs.pc ∷ outs.result ∷ 
 rule_kept_halt eq key (Err why) a = refl
 
 module _ {S T : Type 0} (eq : T → T → Bool) (m : PolicyModel T S) (s : Machine S T) (h : ℕ) where
-  after_look_halt : (found : Result (Look T) Stop) (a : Account T) → (after_look eq m s h found a).halt ≡ a.halt
+  after_look_halt : (found : Result Look Stop) (a : Account T) → (after_look eq m s h found a).halt ≡ a.halt
   after_look_halt (Ok look) a = looked_up_halt eq (key_of eq m s h look) a
   after_look_halt (Err why) a = refl
 
-  after_rule_halt : (found : Result (Look T) Stop) (a : Account T) → (after_rule eq m s h found a).halt ≡ a.halt
+  after_rule_halt : (found : Result Look Stop) (a : Account T) → (after_rule eq m s h found a).halt ≡ a.halt
   after_rule_halt (Ok look) a = rule_kept_halt eq (key_of eq m s h look) (rule_answer m s h look) a
   after_rule_halt (Err why) a = refl
 

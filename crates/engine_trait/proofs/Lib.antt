@@ -4,3 +4,4 @@ pub mod MapLemmas
 pub mod MirrorLemmas
 pub mod StepLemmas
 pub mod TurnLemmas
+pub mod ValueLemmas

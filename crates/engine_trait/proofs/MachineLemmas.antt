@@ -16,6 +16,7 @@ use Rattle.tag_memory.specs.Ram.{IsRamOf, RamState, ram_bytes, ram_tag, ram_word
 use Rattle.monitor_calls.proofs.JobLemmas.{job_given}
 use Rattle.monitor_calls.specs.Service.{Job}
 use Rattle.turn_steps.specs.Effects.{Carried, IsSound}
+use Rattle.turn_steps.specs.Feeds.{Tape}
 use Rattle.turn_steps.specs.Looks.{is_call, look_result}
 use Rattle.turn_steps.specs.Services.{args_on}
 use Rattle.turn_steps.specs.declared.effects.Done.{Done}
@@ -96,7 +97,7 @@ module _ {S T : Type 0} (m : PolicyModel T S) (s : Machine S T) (is : IsMachine 
   pub stopped_stays : (h : ℕ) (why : Stop) → StaysMachine m s (stopped_at s h why)
   stopped_stays h why = machine_stays s.policy (stopping s.core h why) refl refl (stopping_stays (m.plain s.policy) s.core s.core h why core_stays)
 
-  pub effected_stays : (feed : List ℕ) (h : ℕ) (look : Look T) (outs : Outs T) → h < length s.core.harts → IsSound (ram_bytes s.core.ram) look.effect
+  pub effected_stays : (feed : Tape) (h : ℕ) (look : Look) (outs : Outs T) → h < length s.core.harts → IsSound (ram_bytes s.core.ram) look.effect
       → StaysMachine m s (record s { core = core_effected s.core feed h look outs })
   unfolding carried_at core_effected
   effected_stays feed h look outs there sound =
@@ -121,7 +122,7 @@ module _ {S T : Type 0} (m : PolicyModel T S) (s : Machine S T) (is : IsMachine 
 -- ---- the turn
 
 -- what is looked at was looked at, and its service is offered
-pub record Prepares {S T : Type 0} (m : PolicyModel T S) (s : Machine S T) (h : ℕ) (look : Look T) : Type 0 where
+pub record Prepares {S T : Type 0} (m : PolicyModel T S) (s : Machine S T) (h : ℕ) (look : Look) : Type 0 where
   pub looked_is : look_result (hart_at s.core h) s.core.ram ≡ Ok look
   pub offered_is : is_offered m s look ≡ true
 
@@ -133,30 +134,30 @@ plans true (Err end) pc service job e = absurd cc
 plans false given pc service job e = absurd cc
 
 module _ {S T : Type 0} (m : PolicyModel T S) (s : Machine S T) (h : ℕ) where
-  offers : (test : Bool) (found look : Look T) (why : Stop) → is_offered m s found ≡ test → (if test then Ok found else Err why) ≡ Ok look → (found ≡ look) × (is_offered m s found ≡ true)
+  offers : (test : Bool) (found look : Look) (why : Stop) → is_offered m s found ≡ test → (if test then Ok found else Err why) ≡ Ok look → (found ≡ look) × (is_offered m s found ≡ true)
   offers true found look why is e = (cc, is)
   offers false found look why is e = absurd cc
 
-  prepares : (found : Result (Look T) Fault) (look : Look T) → (or_fault found >>= service_look m s) ≡ Ok look → (found ≡ Ok look) × (is_offered m s look ≡ true)
+  prepares : (found : Result Look Fault) (look : Look) → (or_fault found >>= service_look m s) ≡ Ok look → (found ≡ Ok look) × (is_offered m s look ≡ true)
   prepares (Ok found) look e =
       let parts = offers (is_offered m s found) found look _ refl e in
       (ap (λ l. Ok l) parts.0, subst (λ l. is_offered m s l ≡ true) parts.0 parts.1)
   prepares (Err fault) look e = absurd cc
 
-  pub prepared_is : (look : Look T) → preparation m s h ≡ Ok look → Prepares m s h look
+  pub prepared_is : (look : Look) → preparation m s h ≡ Ok look → Prepares m s h look
   unfolding preparation
   prepared_is look e = let parts = prepares (look_result (hart_at s.core h) s.core.ram) look e in record { looked_is = parts.0; offered_is = parts.1 }
 
   -- ---- a call of a policy's service that nothing refuses
 
-  pub known_call : (look : Look T) → Prepares m s h look → is_call look.group ≡ true → m.knows s.policy look.service ≡ true
+  pub known_call : (look : Look) → Prepares m s h look → is_call look.group ≡ true → m.knows s.policy look.service ≡ true
   known_call look found call = sym (ap (λ is_so. not is_so || m.knows s.policy look.service) call) ∙ found.offered_is
 
-  pub can_plan : IsMachine m s → (look : Look T) → Prepares m s h look → is_call look.group ≡ true
+  pub can_plan : IsMachine m s → (look : Look) → Prepares m s h look → is_call look.group ≡ true
       → CanPlan m s.policy look.service (args_on (hart_at s.core h) s.core.ram)
   can_plan is look found call = record { known = known_call look found call; room = is.room }
 
-  planned_given : (holds : S → Type 0) → KeepsLaws m holds → IsMachine m s → (look : Look T) (outs : Outs T) (job : Job T) → Prepares m s h look
+  planned_given : (holds : S → Type 0) → KeepsLaws m holds → IsMachine m s → (look : Look) (outs : Outs T) (job : Job T) → Prepares m s h look
       → turn_job m s h look outs ≡ Ok (Some job) → IsGiven m s.policy job.plan
   unfolding turn_job service_on
   planned_given holds laws is look outs job found e =
@@ -171,7 +172,7 @@ pub record Keeps {S T : Type 0} (m : PolicyModel T S) (holds : S → Type 0) (s 
   pub stays : StaysMachine m s n
   pub valid : holds n.policy
 
-module _ {S T : Type 0} (m : PolicyModel T S) (holds : S → Type 0) (laws : KeepsLaws m holds) (s : Machine S T) (valid : holds s.policy) (is : IsMachine m s) (feed : List ℕ) (h : ℕ) where
+module _ {S T : Type 0} (m : PolicyModel T S) (holds : S → Type 0) (laws : KeepsLaws m holds) (s : Machine S T) (valid : holds s.policy) (is : IsMachine m s) (feed : Tape) (h : ℕ) where
   abbrev KeepsBy : Result (Turned S T) Stop → Type 0
   KeepsBy r = Keeps m holds s (settlement m s feed h r).machine
 
@@ -181,7 +182,7 @@ module _ {S T : Type 0} (m : PolicyModel T S) (holds : S → Type 0) (laws : Kee
   there : is_ready_in s.core h ≡ true → h < length s.core.harts
   there ready = ltb-true h (length s.core.harts) (and_parts _ (has_no_stop (stop_at s.core h)) ready).0
 
-  module _ (ready : is_ready_in s.core h ≡ true) (look : Look T) (found : Prepares m s h look) where
+  module _ (ready : is_ready_in s.core h ≡ true) (look : Look) (found : Prepares m s h look) where
     sound_look : IsSound (ram_bytes s.core.ram) look.effect
     sound_look = looked_is_sound (hart_at s.core h) s.core.ram look (hart_is m s is h (there ready)).shape found.looked_is
 
@@ -202,7 +203,7 @@ module _ {S T : Type 0} (m : PolicyModel T S) (holds : S → Type 0) (laws : Kee
     allowed_keeps (Ok outs) = planned_keeps outs (turn_job m s h look outs) refl
     allowed_keeps (Err why) = stop_keeps why
 
-  prepared_keeps : is_ready_in s.core h ≡ true → (found : Result (Look T) Stop) → preparation m s h ≡ found → KeepsBy (found >>= allowed_turn m s feed h)
+  prepared_keeps : is_ready_in s.core h ≡ true → (found : Result Look Stop) → preparation m s h ≡ found → KeepsBy (found >>= allowed_turn m s feed h)
   prepared_keeps ready (Ok look) e = allowed_keeps ready look (prepared_is m s h look e) (rule_answer m s h look)
   prepared_keeps ready (Err why) e = stop_keeps why
 

@@ -4,7 +4,7 @@ use Rattle.std.proofs.Math.ListN.{get_or-map}
 use Rattle.std.proofs.lemmas.List.{map-set}
 use Rattle.std.proofs.lemmas.Simd.{map-map}
 use Rattle.rv_decode.specs.Groups.{a0}
-use Rattle.policy_trait.specs.Maps.{answer_by, args_by, outs_by}
+use Rattle.policy_trait.specs.Maps.{answer_by, args_by, ins_by, outs_by}
 use Rattle.policy_trait.specs.declared.rules.Outs.{Outs}
 use Rattle.policy_trait.specs.declared.services.Answer.{Answer}
 use Rattle.tag_memory.specs.Hart.{HartState, fresh_hart, moved_to, with_reg, with_reg_tag}
@@ -12,16 +12,18 @@ use Rattle.tag_memory.specs.Maps.{hart_by, ram_by}
 use Rattle.tag_memory.specs.Ram.{RamState, with_ram_tag, with_ram_word}
 use Rattle.tag_memory.proofs.MapLemmas.{reg_tag_by, with_ram_tag_by, with_reg_by, with_reg_tag_by}
 use Rattle.turn_steps.specs.Effects.{Carried, effect_result}
-use Rattle.turn_steps.specs.Maps.{carry_by, look_by}
+use Rattle.turn_steps.specs.Looks.{inputs_on}
+use Rattle.turn_steps.specs.Maps.{carry_by}
+use Rattle.turn_steps.specs.Feeds.{Tape}
 use Rattle.turn_steps.specs.Services.{args_on, with_answer, with_words}
 use Rattle.turn_steps.specs.declared.effects.Done.{Done}
 use Rattle.turn_steps.specs.declared.effects.Done.TheVariants as done
 use Rattle.turn_steps.specs.declared.look.Look.{Look}
 use Rattle.turn_steps.specs.declared.stop.Stop.TheVariants as stop
-use Rattle.turn_steps.proofs.MapLemmas.{carried_out_by}
+use Rattle.turn_steps.proofs.MapLemmas.{asked_by, carried_out_by}
 use Rattle.engine_trait.specs.Machine.{CoreState, hart_at, stopping, with_hart}
 use Rattle.engine_trait.specs.Maps.{core_by, words_by}
-use Rattle.engine_trait.specs.Turn.{carried_at, core_effected, core_ended, core_served}
+use Rattle.engine_trait.specs.Turn.{carried_at, core_effected, core_ended, core_served, rule_inputs}
 
 -- ---- two changes of each tag in a row are one
 
@@ -56,20 +58,25 @@ module _ {T U : Type 0} (f : T → U) where
   core_ended_by core h carried (done.Exited code) =
       ap (λ (c : CoreState U). stopping c h (stop.Exit code)) (with_hart_by core h carried.hart carried.ram)
 
-  module _ (core : CoreState T) (feed : List ℕ) (h : ℕ) (look : Look T) (outs : Outs T) where
-    pub carried_at_by : carried_at (core_by f core) feed h (look_by f look) (outs_by f outs) ≡ carry_by f (carried_at core feed h look outs)
+  module _ (core : CoreState T) (feed : Tape) (h : ℕ) (look : Look) (outs : Outs T) where
+    pub carried_at_by : carried_at (core_by f core) feed h look (outs_by f outs) ≡ carry_by f (carried_at core feed h look outs)
     unfolding carried_at
     carried_at_by =
-        ap (λ hart. effect_result hart (ram_by f core.ram) feed (look_by f look) (outs_by f outs)) (hart_at_by core h)
+        ap (λ hart. effect_result hart (ram_by f core.ram) feed look (outs_by f outs)) (hart_at_by core h)
         ∙ carried_out_by f (hart_at core h) core.ram feed look outs
 
-    pub core_effected_by : core_effected (core_by f core) feed h (look_by f look) (outs_by f outs) ≡ core_by f (core_effected core feed h look outs)
+    pub core_effected_by : core_effected (core_by f core) feed h look (outs_by f outs) ≡ core_by f (core_effected core feed h look outs)
     unfolding core_effected
     core_effected_by =
         ap (λ (c : Carried U). core_ended (core_by f core) h c c.done) carried_at_by
         ∙ core_ended_by core h (carried_at core feed h look outs) (carried_at core feed h look outs).done
 
-  -- ---- what a service is asked with
+  -- ---- what a rule and a service are asked with
+
+  pub rule_inputs_by : (core : CoreState T) (h : ℕ) (look : Look) → rule_inputs (core_by f core) h look ≡ ins_by f (rule_inputs core h look)
+  rule_inputs_by core h look =
+      ap (λ (hart : HartState U). inputs_on hart (ram_by f core.ram) look.places look.effect.access) (hart_at_by core h)
+      ∙ asked_by f (hart_at core h) core.ram look.places look.effect.access
 
   pub args_on_by : (hart : HartState T) (ram : RamState T) → args_on (hart_by f hart) (ram_by f ram) ≡ args_by f (args_on hart ram)
   args_on_by hart ram = λ j. record (args_by f (args_on hart ram)) {

@@ -1,19 +1,18 @@
 -- The turn of a machine with changed tags, under a policy that mirrors the machine's.
-use Rattle.std.proofs.Common.{◌≡◌, ℕ, Bool, true, false, ◌||◌, not, nat_lt, List, Option, None, Result, Ok, Err, refl, ap, sym, subst, ◌∙◌, ◌&&◌, if◌then◌else◌}
+use Rattle.std.proofs.Common.{◌≡◌, ℕ, Bool, true, false, ◌||◌, not, nat_lt, Option, None, Result, Ok, Err, refl, ap, sym, subst, ◌∙◌, ◌&&◌, if◌then◌else◌}
 use Rattle.std.proofs.lemmas.List.{length-map}
-use Rattle.policy_trait.specs.Maps.{ins_by, ok_by, outs_by}
+use Rattle.policy_trait.specs.Maps.{ok_by, outs_by}
 use Rattle.policy_trait.specs.Mirrors.{Mirrors}
 use Rattle.policy_trait.specs.Model.{PolicyModel}
 use Rattle.shared_terms.specs.Steps.{◌>>=◌}
 use Rattle.policy_trait.specs.declared.rules.Outs.{Outs}
 use Rattle.policy_trait.specs.declared.rules.Refused.{Refused}
 use Rattle.monitor_calls.specs.Service.{Job}
-use Rattle.rv_step.specs.declared.faults.Fault.{Fault}
 use Rattle.rv_step.specs.declared.faults.Fault.TheVariants.{NoService}
 use Rattle.tag_memory.specs.Hart.{HartState}
 use Rattle.tag_memory.specs.Maps.{hart_by, ram_by}
+use Rattle.turn_steps.specs.Feeds.{Tape}
 use Rattle.turn_steps.specs.Looks.{is_call, look_result}
-use Rattle.turn_steps.specs.Maps.{look_by}
 use Rattle.turn_steps.specs.declared.look.Look.{Look}
 use Rattle.turn_steps.specs.declared.stop.Stop.{Stop}
 use Rattle.turn_steps.specs.declared.stop.Stop.TheVariants as stop
@@ -23,10 +22,10 @@ use Rattle.engine_trait.specs.Machine.{CoreState, Machine, has_no_stop, hart_at,
 use Rattle.engine_trait.specs.Maps.{core_by, machine_by, turned_by}
 use Rattle.engine_trait.specs.Mirrored.{IsMirrored, StepsMirrored}
 use Rattle.engine_trait.specs.Standing.{Standing, Stepped, idle, is_ready, is_running, made_step, step}
-use Rattle.engine_trait.specs.Turn.{Turned, rule_answer, attempt, turn_effect, end_of, is_offered, service_look, or_fault, or_violation, preparation, settlement, turn_by, turn_of}
+use Rattle.engine_trait.specs.Turn.{Turned, rule_answer, attempt, turn_effect, end_of, or_fault, or_violation, preparation, rule_inputs, service_look, settlement, turn_by, turn_of}
 use Rattle.engine_trait.specs.declared.ends.Halt.{Halt}
 use Rattle.engine_trait.proofs.AccountLemmas.{accounted_halt}
-use Rattle.engine_trait.proofs.MapLemmas.{carried_at_by, core_effected_by, hart_at_by}
+use Rattle.engine_trait.proofs.MapLemmas.{carried_at_by, core_effected_by, hart_at_by, rule_inputs_by}
 use Rattle.engine_trait.proofs.StepLemmas.{plain_stays, plain_step, step_idle}
 use Rattle.engine_trait.proofs.TurnLemmas.{allowed_turn, planned_own, planned_turn}
 
@@ -39,6 +38,12 @@ both_by : {A B C D E : Type 0} (turn : A → B) (change : C → D) (first : Resu
 both_by turn change (Ok x) changed_first rest changed is each = ap (λ r. r >>= changed) is ∙ each x refl
 both_by turn change (Err e) changed_first rest changed is each = ap (λ r. r >>= changed) is
 
+-- the first step gives what doesn't change
+then_by : {A B C E : Type 0} (change : B → C) (first : Result A E) (rest : A → Result B E) (changed : A → Result C E)
+    → ((x : A) → first ≡ Ok x → changed x ≡ ok_by change (rest x)) → (first >>= changed) ≡ ok_by change (first >>= rest)
+then_by change (Ok x) rest changed each = each x refl
+then_by change (Err e) rest changed each = refl
+
 -- ---- the core
 
 module _ {T U : Type 0} (f : T → U) where
@@ -48,27 +53,27 @@ module _ {T U : Type 0} (f : T → U) where
 -- ---- a policy that offers no service
 
 module _ {S T : Type 0} (m : PolicyModel T S) (s : Machine S T) (none : (k : ℕ) → m.knows s.policy k ≡ false) where
-  abbrev found : Look T → Result (Look T) Stop
+  abbrev found : Look → Result Look Stop
   found look = Ok look
 
-  own_if : (call known : Bool) (look given : Look T) (fault : Stop) → known ≡ false → is_call look.group ≡ call
+  own_if : (call known : Bool) (look given : Look) (fault : Stop) → known ≡ false → is_call look.group ≡ call
       → (if not call || known then found look else Err fault) ≡ Ok given → is_call given.group ≡ false
   own_if true known look given fault unknown is e = absurd cc
   own_if false known look given fault unknown is e = cc
 
-  offered_own : (look given : Look T) → service_look m s look ≡ Ok given → is_call given.group ≡ false
+  offered_own : (look given : Look) → service_look m s look ≡ Ok given → is_call given.group ≡ false
   offered_own look given e = own_if (is_call look.group) (m.knows s.policy look.service) look given (stop.Fault (NoService look.service)) (none look.service) refl e
 
-  first_own : (first : Result (Look T) Stop) (look : Look T) → (first >>= service_look m s) ≡ Ok look → is_call look.group ≡ false
+  first_own : (first : Result Look Stop) (look : Look) → (first >>= service_look m s) ≡ Ok look → is_call look.group ≡ false
   first_own (Ok found) look e = offered_own found look e
   first_own (Err why) look e = absurd cc
 
   -- a turn that comes to its rule calls no service of the policy
-  pub prepared_own : (h : ℕ) (look : Look T) → preparation m s h ≡ Ok look → is_call look.group ≡ false
+  pub prepared_own : (h : ℕ) (look : Look) → preparation m s h ≡ Ok look → is_call look.group ≡ false
   unfolding preparation
   prepared_own h look e = first_own (or_fault (look_result (hart_at s.core h) s.core.ram)) look e
 
-module _ {S T : Type 0} (m : PolicyModel T S) (s : Machine S T) (feed : List ℕ) (h : ℕ) (none : (k : ℕ) → m.knows s.policy k ≡ false) where
+module _ {S T : Type 0} (m : PolicyModel T S) (s : Machine S T) (feed : Tape) (h : ℕ) (none : (k : ℕ) → m.knows s.policy k ≡ false) where
   abbrev KeepsPolicy : Result (Turned S T) Stop → Type 0
   KeepsPolicy result = (settlement m s feed h result).machine.policy ≡ s.policy
 
@@ -95,66 +100,58 @@ module _ {S T : Type 0} (m : PolicyModel T S) (s : Machine S T) (feed : List ℕ
 
 -- ---- the turn
 
-or_fault_by : {A B : Type 0} (change : A → B) (r : Result A Fault) → or_fault (ok_by change r) ≡ ok_by change (or_fault r)
-or_fault_by change (Ok x) = refl
-or_fault_by change (Err fault) = refl
-
 or_violation_by : {A B : Type 0} (change : A → B) (pc : ℕ) (r : Result A Refused) → or_violation pc (ok_by change r) ≡ ok_by change (or_violation pc r)
 or_violation_by change pc (Ok x) = refl
 or_violation_by change pc (Err refused) = refl
-
-if_by : {A B E : Type 0} (change : A → B) (test : Bool) (x : A) (e : E) → (if test then Ok (change x) else Err e) ≡ ok_by change (if test then Ok x else Err e)
-if_by change true x e = refl
-if_by change false x e = refl
 
 module _ {S T U V : Type 0} (f : T → U) (m : PolicyModel T S) (n : PolicyModel U V) (s : Machine S T) (t : V) (mirrors : Mirrors f m s.policy n t) where
   abbrev mirror : Machine V U
   mirror = machine_by f t s
 
-  offered_by : (look : Look T) → service_look n mirror (look_by f look) ≡ ok_by (look_by f) (service_look m s look)
+  offered_by : (look : Look) → service_look n mirror look ≡ service_look m s look
   offered_by look =
-      ap (λ (known : Bool). if not (is_call look.group) || known then Ok (look_by f look) else Err (stop.Fault (NoService look.service)))
+      ap (λ (known : Bool). if not (is_call look.group) || known then Ok look else Err (stop.Fault (NoService look.service)))
       (mirrors.mirror_offers_none look.service ∙ sym (mirrors.offers_none look.service))
-      ∙ if_by (look_by f) (is_offered m s look) look (stop.Fault (NoService look.service))
 
-  prepared_by : (h : ℕ) → preparation n mirror h ≡ ok_by (look_by f) (preparation m s h)
+  -- no tag decides the checks
+  prepared_by : (h : ℕ) → preparation n mirror h ≡ preparation m s h
   unfolding preparation
   prepared_by h =
-      both_by (look_by f) (look_by f) (or_fault (look_result (hart_at s.core h) s.core.ram)) (or_fault (look_result (hart_at mirror.core h) mirror.core.ram)) (service_look m s) (service_look n mirror)
-      (ap or_fault (ap (λ hart. look_result hart (ram_by f s.core.ram)) (hart_at_by f s.core h) ∙ looked_by f (hart_at s.core h) s.core.ram)
-      ∙ or_fault_by (look_by f) (look_result (hart_at s.core h) s.core.ram))
-      (λ look is. offered_by look)
+      ap (λ (hart : HartState U). or_fault (look_result hart (ram_by f s.core.ram)) >>= service_look n mirror) (hart_at_by f s.core h)
+      ∙ ap (λ found. or_fault found >>= service_look n mirror) (looked_by f (hart_at s.core h) s.core.ram)
+      ∙ ap (λ (offered : Look → Result Look Stop). or_fault (look_result (hart_at s.core h) s.core.ram) >>= offered) (λ j look. offered_by look j)
 
-  allowed_by : (h : ℕ) (look : Look T) → rule_answer n mirror h (look_by f look) ≡ ok_by (outs_by f) (rule_answer m s h look)
+  allowed_by : (h : ℕ) (look : Look) → rule_answer n mirror h look ≡ ok_by (outs_by f) (rule_answer m s h look)
   unfolding rule_answer
   allowed_by h look =
-      ap (λ (hart : HartState U). or_violation hart.pc (n.rule t look.group (ins_by f look.inputs))) (hart_at_by f s.core h)
-      ∙ ap (or_violation (hart_at s.core h).pc) (mirrors.rule look.group look.inputs)
-      ∙ or_violation_by (outs_by f) (hart_at s.core h).pc (m.rule s.policy look.group look.inputs)
+      (λ j. or_violation (hart_at_by f s.core h j).pc (n.rule t look.group (rule_inputs_by f s.core h look j)))
+      ∙ ap (or_violation (hart_at s.core h).pc) (mirrors.rule look.group (rule_inputs s.core h look))
+      ∙ or_violation_by (outs_by f) (hart_at s.core h).pc (m.rule s.policy look.group (rule_inputs s.core h look))
 
-  module _ (feed : List ℕ) (h : ℕ) where
-    effected_by : (look : Look T) (outs : Outs T) → turn_effect n mirror feed h (look_by f look) (outs_by f outs) None ≡ turned_by f t (turn_effect m s feed h look outs None)
+  module _ (feed : Tape) (h : ℕ) where
+    effected_by : (look : Look) (outs : Outs T) → turn_effect n mirror feed h look (outs_by f outs) None ≡ turned_by f t (turn_effect m s feed h look outs None)
     effected_by look outs = λ j. record {
       machine = record { policy = t; core = core_effected_by f s.core feed h look outs j };
       feed = (carried_at_by f s.core feed h look outs j).feed;
       ended = end_of (carried_at_by f s.core feed h look outs j).done;
     }
 
-    abbrev ends_by : Look T → Outs T → Option (Job U) → Result (Turned V U) Stop
-    ends_by look outs job = Ok (turn_effect n mirror feed h (look_by f look) (outs_by f outs) job)
+    abbrev ends_by : Look → Outs T → Option (Job U) → Result (Turned V U) Stop
+    ends_by look outs job = Ok (turn_effect n mirror feed h look (outs_by f outs) job)
 
-    planned_by : (look : Look T) (outs : Outs T) → is_call look.group ≡ false
-        → planned_turn n mirror feed h (look_by f look) (outs_by f outs) ≡ ok_by (turned_by f t) (planned_turn m s feed h look outs)
+    planned_by : (look : Look) (outs : Outs T) → is_call look.group ≡ false
+        → planned_turn n mirror feed h look (outs_by f outs) ≡ ok_by (turned_by f t) (planned_turn m s feed h look outs)
     planned_by look outs own =
-        ap (λ job. job >>= ends_by look outs) (planned_own n mirror h (look_by f look) (outs_by f outs) own)
+        ap (λ job. job >>= ends_by look outs) (planned_own n mirror h look (outs_by f outs) own)
         ∙ ap (λ turned. Ok turned) (effected_by look outs)
         ∙ sym (ap (λ job. ok_by (turned_by f t) (job >>= λ j. Ok (turn_effect m s feed h look outs j))) (planned_own m s h look outs own))
 
     attempt_by : attempt n mirror feed h ≡ ok_by (turned_by f t) (attempt m s feed h)
     unfolding attempt
     attempt_by =
-        both_by (look_by f) (turned_by f t) (preparation m s h) (preparation n mirror h) (allowed_turn m s feed h) (allowed_turn n mirror feed h) (prepared_by h) λ look look-is.
-        both_by (outs_by f) (turned_by f t) (rule_answer m s h look) (rule_answer n mirror h (look_by f look)) (planned_turn m s feed h look) (planned_turn n mirror feed h (look_by f look))
+        ap (λ found. found >>= allowed_turn n mirror feed h) (prepared_by h)
+        ∙ then_by (turned_by f t) (preparation m s h) (allowed_turn m s feed h) (allowed_turn n mirror feed h) λ look look-is.
+        both_by (outs_by f) (turned_by f t) (rule_answer m s h look) (rule_answer n mirror h look) (planned_turn m s feed h look) (planned_turn n mirror feed h look)
         (allowed_by h look) λ outs outs-is.
         planned_by look outs (prepared_own m s mirrors.offers_none h look look-is)
 
@@ -173,7 +170,7 @@ module _ {S T U V : Type 0} (f : T → U) (m : PolicyModel T S) (n : PolicyModel
 -- ---- the step
 
 module _ {S T U V : Type 0} (same_tag : T → T → Bool) (same_mirror : U → U → Bool) (f : T → U) (m : PolicyModel T S) (n : PolicyModel U V)
-    (e : Standing S T) (d : Standing V U) (feed : List ℕ) (h : ℕ) (mirrored : IsMirrored f m n e d) where
+    (e : Standing S T) (d : Standing V U) (feed : Tape) (h : ℕ) (mirrored : IsMirrored f m n e d) where
   turn_is : turn_of n d.machine feed h ≡ turned_by f d.machine.policy (turn_of m e.machine feed h)
   turn_is =
       ap (λ (core : CoreState U). turn_of n (record { policy = d.machine.policy; core = core }) feed h) mirrored.core

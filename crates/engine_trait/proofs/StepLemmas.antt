@@ -1,7 +1,8 @@
 -- How a step ends.
-use Rattle.std.proofs.Common.{◌≡◌, ℕ, Bool, true, false, List, Option, Some, None, ◌≢◌, refl, ap, sym, ◌∙◌, subst, ◌&&◌}
+use Rattle.std.proofs.Common.{◌≡◌, ℕ, Bool, true, false, Option, Some, None, ◌≢◌, refl, ap, sym, ◌∙◌, subst, ◌&&◌}
 use Rattle.std.proofs.lemmas.Bool.{false≢true}
 use Rattle.policy_trait.specs.Model.{PolicyModel}
+use Rattle.turn_steps.specs.Feeds.{Tape}
 use Rattle.engine_trait.specs.Accounts.{IsUncached, account_after_turn, is_over}
 use Rattle.shared_terms.specs.Counts.{next_count}
 use Rattle.engine_trait.specs.EngineLaws.{FollowsTurn, RunsOut, StaysIdle, is_made}
@@ -50,7 +51,7 @@ is_want ends.TagsOut = false
 
 -- ---- a step
 
-module _ {S T : Type 0} (eq : T → T → Bool) (m : PolicyModel T S) (e : Standing S T) (feed : List ℕ) (h : ℕ) where
+module _ {S T : Type 0} (eq : T → T → Bool) (m : PolicyModel T S) (e : Standing S T) (feed : Tape) (h : ℕ) where
   pub step_idle : is_ready e h ≡ false → step eq m e feed h ≡ idle eq m e feed h
   unfolding step
   step_idle waits = ap (λ ready. step_by eq m e feed h ready (is_over (account_after_turn eq m e.machine h e.account))) waits

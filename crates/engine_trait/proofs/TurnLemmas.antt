@@ -1,10 +1,11 @@
 -- The turn that ends at each of its steps.
-use Rattle.std.proofs.Common.{◌≡◌, ℕ, ◌≤◌, Bool, true, false, List, Option, Some, None, Result, Ok, Err, length, refl, ap, ◌∙◌, ◌&&◌, if◌then◌else◌}
+use Rattle.std.proofs.Common.{◌≡◌, ℕ, ◌≤◌, Bool, true, false, Option, Some, None, Result, Ok, Err, length, refl, ap, ◌∙◌, ◌&&◌, if◌then◌else◌}
 use Rattle.std.proofs.lemmas.Bool.{le-ltb}
 use Rattle.policy_trait.specs.Model.{PolicyModel}
 use Rattle.shared_terms.specs.Steps.{◌>>=◌}
 use Rattle.policy_trait.specs.declared.rules.Outs.{Outs}
 use Rattle.monitor_calls.specs.Service.{Job}
+use Rattle.turn_steps.specs.Feeds.{Tape}
 use Rattle.turn_steps.specs.Looks.{is_call}
 use Rattle.turn_steps.specs.declared.effects.Done.{Done}
 use Rattle.turn_steps.specs.declared.effects.Done.TheVariants as done
@@ -20,24 +21,24 @@ pub absent_waits : {T : Type 0} (core : CoreState T) (h : ℕ) → length core.h
 absent_waits core h past = ap (λ is_there. is_there && has_no_stop (stop_at core h)) (le-ltb h (length core.harts) past)
 
 -- what a service will do, where the turn comes to it
-pub job_ruled : {S T : Type 0} (m : PolicyModel T S) (s : Machine S T) (h : ℕ) (look : Look T) (outs : Outs T) → preparation m s h ≡ Ok look → rule_answer m s h look ≡ Ok outs
+pub job_ruled : {S T : Type 0} (m : PolicyModel T S) (s : Machine S T) (h : ℕ) (look : Look) (outs : Outs T) → preparation m s h ≡ Ok look → rule_answer m s h look ≡ Ok outs
     → job_at m s h ≡ turn_job m s h look outs
 unfolding job_at
 job_ruled m s h look outs looked ruled =
     ap (λ found. found >>= λ l. rule_answer m s h l >>= λ o. turn_job m s h l o) looked ∙ ap (λ answer. answer >>= λ o. turn_job m s h look o) ruled
 
 -- the answer of the rule, where the turn comes to it
-pub rule_looked : {S T : Type 0} (m : PolicyModel T S) (s : Machine S T) (h : ℕ) (look : Look T) → preparation m s h ≡ Ok look → rule_at m s h ≡ rule_answer m s h look
+pub rule_looked : {S T : Type 0} (m : PolicyModel T S) (s : Machine S T) (h : ℕ) (look : Look) → preparation m s h ≡ Ok look → rule_at m s h ≡ rule_answer m s h look
 unfolding rule_at
 rule_looked m s h look looked = ap (λ found. found >>= rule_answer m s h) looked
 
 -- an instruction that calls no service has no work of one
-pub planned_own : {S T : Type 0} (m : PolicyModel T S) (s : Machine S T) (h : ℕ) (look : Look T) (outs : Outs T) → is_call look.group ≡ false → turn_job m s h look outs ≡ Ok None
+pub planned_own : {S T : Type 0} (m : PolicyModel T S) (s : Machine S T) (h : ℕ) (look : Look) (outs : Outs T) → is_call look.group ≡ false → turn_job m s h look outs ≡ Ok None
 unfolding turn_job
 planned_own m s h look outs own =
     ap (λ call. if call then or_unserved (hart_at s.core h).pc look.service (service_on m s h look outs) else Ok None) own
 
-module _ {S T : Type 0} (m : PolicyModel T S) (s : Machine S T) (feed : List ℕ) (h : ℕ) where
+module _ {S T : Type 0} (m : PolicyModel T S) (s : Machine S T) (feed : Tape) (h : ℕ) where
   -- ---- what the event of a turn tells
 
   hart_by : (ready : Bool) → (event_by m s feed h ready).hart ≡ h
@@ -68,21 +69,21 @@ module _ {S T : Type 0} (m : PolicyModel T S) (s : Machine S T) (feed : List ℕ
 
   -- ---- a ready hart
 
-  abbrev pub planned_turn : Look T → Outs T → Result (Turned S T) Stop
+  abbrev pub planned_turn : Look → Outs T → Result (Turned S T) Stop
   planned_turn look outs = turn_job m s h look outs >>= λ job. Ok (turn_effect m s feed h look outs job)
 
-  abbrev pub allowed_turn : Look T → Result (Turned S T) Stop
+  abbrev pub allowed_turn : Look → Result (Turned S T) Stop
   allowed_turn look = rule_answer m s h look >>= planned_turn look
 
   pub turn_ready : is_ready_in s.core h ≡ true → turn_of m s feed h ≡ settlement m s feed h (attempt m s feed h)
   unfolding turn_of
   turn_ready ready = ap (λ is_ready. turn_by m s feed h is_ready) ready
 
-  attempt_prepared : (look : Look T) → preparation m s h ≡ Ok look → attempt m s feed h ≡ allowed_turn look
+  attempt_prepared : (look : Look) → preparation m s h ≡ Ok look → attempt m s feed h ≡ allowed_turn look
   unfolding attempt
   attempt_prepared look looked = ap (λ found. found >>= allowed_turn) looked
 
-  attempt_allowed : (look : Look T) (outs : Outs T) → preparation m s h ≡ Ok look → rule_answer m s h look ≡ Ok outs → attempt m s feed h ≡ planned_turn look outs
+  attempt_allowed : (look : Look) (outs : Outs T) → preparation m s h ≡ Ok look → rule_answer m s h look ≡ Ok outs → attempt m s feed h ≡ planned_turn look outs
   attempt_allowed look outs looked ruled = attempt_prepared look looked ∙ ap (λ answer. answer >>= planned_turn look) ruled
 
   attempt_stopped : (why : Stop) → preparation m s h ≡ Err why → attempt m s feed h ≡ Err why
@@ -92,12 +93,12 @@ module _ {S T : Type 0} (m : PolicyModel T S) (s : Machine S T) (feed : List ℕ
   pub turn_checked : (why : Stop) → is_ready_in s.core h ≡ true → preparation m s h ≡ Err why → turn_of m s feed h ≡ settlement m s feed h (Err why)
   turn_checked why ready looked = turn_ready ready ∙ ap (settlement m s feed h) (attempt_stopped why looked)
 
-  pub turn_refused : (look : Look T) (why : Stop) → is_ready_in s.core h ≡ true → preparation m s h ≡ Ok look → rule_answer m s h look ≡ Err why
+  pub turn_refused : (look : Look) (why : Stop) → is_ready_in s.core h ≡ true → preparation m s h ≡ Ok look → rule_answer m s h look ≡ Err why
       → turn_of m s feed h ≡ settlement m s feed h (Err why)
   turn_refused look why ready looked ruled =
       turn_ready ready ∙ ap (settlement m s feed h) (attempt_prepared look looked ∙ ap (λ answer. answer >>= planned_turn look) ruled)
 
-  pub turn_ruled : (look : Look T) (outs : Outs T) → is_ready_in s.core h ≡ true → preparation m s h ≡ Ok look → rule_answer m s h look ≡ Ok outs
+  pub turn_ruled : (look : Look) (outs : Outs T) → is_ready_in s.core h ≡ true → preparation m s h ≡ Ok look → rule_answer m s h look ≡ Ok outs
       → turn_of m s feed h ≡ settlement m s feed h (planned_turn look outs)
   turn_ruled look outs ready looked ruled = turn_ready ready ∙ ap (settlement m s feed h) (attempt_allowed look outs looked ruled)
 
@@ -108,7 +109,7 @@ module _ {S T : Type 0} (m : PolicyModel T S) (s : Machine S T) (feed : List ℕ
   ended_made done.Broke = refl
   ended_made (done.Exited code) = refl
 
-  effected_made : (look : Look T) (outs : Outs T) (job : Option (Job T)) → is_made (turn_effect m s feed h look outs job).ended ≡ true
+  effected_made : (look : Look) (outs : Outs T) (job : Option (Job T)) → is_made (turn_effect m s feed h look outs job).ended ≡ true
   effected_made look outs (Some job) = refl
   effected_made look outs None = ended_made (carried_at s.core feed h look outs).done
 

@@ -13,7 +13,7 @@ use Rattle.turn_steps.specs.declared.look.Look.{Look}
 use Rattle.turn_steps.specs.declared.stop.Stop.{Stop}
 use Rattle.shared_terms.specs.Counts.{next_count}
 use Rattle.engine_trait.specs.Machine.{Machine}
-use Rattle.engine_trait.specs.Turn.{rule_answer, job_at, preparation}
+use Rattle.engine_trait.specs.Turn.{job_at, preparation, rule_answer, rule_inputs}
 use Rattle.engine_trait.specs.declared.ends.Counts.{Counts}
 use Rattle.engine_trait.specs.declared.ends.Halt.{Halt}
 
@@ -150,16 +150,16 @@ first_written job = take 1 (written_tags job)
 
 module _ {S T : Type 0} (eq : T → T → Bool) (m : PolicyModel T S) (s : Machine S T) (h : ℕ) where
   -- the key that the rule of a look is kept under
-  abbrev pub key_of : Look T → Key T
-  key_of look = record { group = look.group; inputs = masked_inputs (m.ignores s.policy look.group) (m.plain s.policy) look.inputs }
+  abbrev pub key_of : Look → Key T
+  key_of look = record { group = look.group; inputs = masked_inputs (m.ignores s.policy look.group) (m.plain s.policy) (rule_inputs s.core h look) }
 
   -- each turn that comes to its rule looks it up once
-  abbrev pub after_look : Result (Look T) Stop → Account T → Account T
+  abbrev pub after_look : Result Look Stop → Account T → Account T
   after_look (Ok look) account = looked_up eq (key_of look) account
   after_look (Err why) account = account
 
   -- its rule is kept where it is allowed
-  abbrev pub after_rule : Result (Look T) Stop → Account T → Account T
+  abbrev pub after_rule : Result Look Stop → Account T → Account T
   after_rule (Ok look) account = rule_kept eq (key_of look) (rule_answer m s h look) account
   after_rule (Err why) account = account
 

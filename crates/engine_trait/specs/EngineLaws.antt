@@ -1,8 +1,9 @@
 -- What every turn and every step keep, and how a step ends.
-use Rattle.std.specs.Prelude.{◌≡◌, ℕ, ◌%◌, Bool, true, false, List, None, length}
+use Rattle.std.specs.Prelude.{◌≡◌, ℕ, ◌%◌, Bool, true, false, None, length}
 use Rattle.policy_trait.specs.Model.{PolicyModel}
 use Rattle.tag_memory.specs.Hart.{reg_tag, reg_value}
 use Rattle.tag_memory.specs.Ram.{ram_bytes}
+use Rattle.turn_steps.specs.Feeds.{Tape}
 use Rattle.engine_trait.specs.Accounts.{account_after_turn, is_over}
 use Rattle.shared_terms.specs.Counts.{next_count}
 use Rattle.engine_trait.specs.Machine.{IsMachine, Machine, hart_at}
@@ -33,7 +34,7 @@ is_made ends.Idle = false
 is_made ends.TagsOut = false
 is_made ends.Memory = false
 
-module _ {S T : Type 0} (eq : T → T → Bool) (m : PolicyModel T S) (e : Standing S T) (feed : List ℕ) (h : ℕ) where
+module _ {S T : Type 0} (eq : T → T → Bool) (m : PolicyModel T S) (e : Standing S T) (feed : Tape) (h : ℕ) where
   -- the step is the machine's turn, it is counted, and the engine runs on
   pub record FollowsTurn (f : Stepped S T) : Type 0 where
     pub ready : is_ready e h ≡ true

@@ -1,5 +1,5 @@
 -- What a turn shows of itself.
-use Rattle.std.specs.Prelude.{ℕ, ◌/◌, Bool, true, false, List, Option, Some, None, Result, Ok, Err, slice_index, if◌then◌else◌}
+use Rattle.std.specs.Prelude.{ℕ, ◌/◌, Bool, true, false, Option, Some, None, Result, Ok, Err, slice_index, if◌then◌else◌}
 use Rattle.rv_decode.specs.declared.groups.Group.{Group}
 use Rattle.rv_step.specs.Accesses.{bytes_of}
 use Rattle.rv_step.specs.declared.accesses.Access.{Access}
@@ -10,13 +10,14 @@ use Rattle.policy_trait.specs.declared.services.Answer.{Answer}
 use Rattle.policy_trait.specs.declared.services.Args.{Args}
 use Rattle.policy_trait.specs.declared.services.Words.{Words}
 use Rattle.monitor_calls.specs.Service.{Job}
+use Rattle.turn_steps.specs.Feeds.{Tape}
 use Rattle.turn_steps.specs.Looks.{is_call}
 use Rattle.turn_steps.specs.Services.{args_on}
 use Rattle.turn_steps.specs.declared.look.Look.{Look}
 use Rattle.turn_steps.specs.declared.stop.Stop.{Stop}
 use Rattle.turn_steps.specs.declared.stop.Stop.TheVariants as stop
-use Rattle.engine_trait.specs.Machine.{Machine, hart_at, is_ready_in}
-use Rattle.engine_trait.specs.Turn.{job_at, preparation, turn_of}
+use Rattle.engine_trait.specs.Machine.{CoreState, Machine, hart_at, is_ready_in}
+use Rattle.engine_trait.specs.Turn.{job_at, preparation, rule_inputs, turn_of}
 use Rattle.engine_trait.specs.declared.ends.TurnEnd.{TurnEnd}
 use Rattle.engine_trait.specs.declared.ends.TurnEnd.TheVariants as ends
 
@@ -76,17 +77,17 @@ touch_of (access.Load addr width signed) = Some (record { address = addr; bytes 
 touch_of (access.Store addr width value) = Some (record { address = addr; bytes = bytes_of width; stores = true })
 
 -- what the rule was asked with, where the checks passed
-abbrev pub asked_in : {T : Type 0} → Result (Look T) Stop → Option (Asked T)
-asked_in (Ok look) = Some (record { group = look.group; inputs = look.inputs })
-asked_in (Err why) = None
+abbrev pub asked_in : {T : Type 0} → CoreState T → ℕ → Result Look Stop → Option (Asked T)
+asked_in core h (Ok look) = Some (record { group = look.group; inputs = rule_inputs core h look })
+asked_in core h (Err why) = None
 
 -- what the instruction touches, where the checks passed
-abbrev pub touched_in : {T : Type 0} → Result (Look T) Stop → Option Touch
+abbrev pub touched_in : Result Look Stop → Option Touch
 touched_in (Ok look) = touch_of look.effect.access
 touched_in (Err why) = None
 
 -- the policy's service that was called, where the checks passed
-abbrev pub called_in : {T : Type 0} → Args T → Result (Look T) Stop → Option (Call T)
+abbrev pub called_in : {T : Type 0} → Args T → Result Look Stop → Option (Call T)
 called_in arguments (Ok look) = if is_call look.group then Some (record { number = look.service; arguments = arguments }) else None
 called_in arguments (Err why) = None
 
@@ -96,7 +97,7 @@ work_in (Ok (Some job)) = Some (record { range = job.plan.range; zero = job.plan
 work_in (Ok None) = None
 work_in (Err why) = None
 
-module _ {S T : Type 0} (m : PolicyModel T S) (s : Machine S T) (feed : List ℕ) (h : ℕ) where
+module _ {S T : Type 0} (m : PolicyModel T S) (s : Machine S T) (feed : Tape) (h : ℕ) where
   -- the event of a hart that is ready, or of one that is not, which asked for nothing
   abbrev pub event_by : Bool → Event T
   event_by true = record {
@@ -104,7 +105,7 @@ module _ {S T : Type 0} (m : PolicyModel T S) (s : Machine S T) (feed : List ℕ
     pc = (hart_at s.core h).pc;
     word = slice_index s.core.ram.words ((hart_at s.core h).pc / 4);
     ended = (turn_of m s feed h).ended;
-    asked = asked_in (preparation m s h);
+    asked = asked_in s.core h (preparation m s h);
     access = touched_in (preparation m s h);
     call = called_in (args_on (hart_at s.core h) s.core.ram) (preparation m s h);
     work = work_in (job_at m s h);

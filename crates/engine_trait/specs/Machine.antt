@@ -4,6 +4,7 @@ use Rattle.std.specs.Prelude.{◌≡◌, ℕ, ◌≤◌, Bool, true, false, ◌&
 use Rattle.policy_trait.specs.Model.{PolicyModel}
 use Rattle.tag_memory.specs.Hart.{HartState, IsHartOf, fresh_hart}
 use Rattle.tag_memory.specs.Ram.{IsRamOf, RamState, ram_bytes}
+use Rattle.turn_steps.specs.Values.{HartHasWords, RamHasWords}
 use Rattle.turn_steps.specs.declared.stop.Stop.{Stop}
 
 -- harts, their stops, and memory
@@ -18,6 +19,11 @@ pub record IsCore {T : Type 0} (core : CoreState T) : Type 0 where
   pub some : 1 ≤ length core.harts
   pub few : length core.harts ≤ 8
   pub stops : length core.stops ≡ 8
+
+-- every value is a word: each register's, and each place of memory's
+pub record HasWords {T : Type 0} (core : CoreState T) : Type 0 where
+  pub harts : All HartHasWords core.harts
+  pub ram : RamHasWords core.ram
 
 -- the policy's value, and the harts and memory that run under it
 pub record Machine (S T : Type 0) : Type 0 where

@@ -1,5 +1,5 @@
 -- An engine as its callers see it, and one step of it: the turn of a hart with what it leaves of the account.
-use Rattle.std.specs.Prelude.{◌≡◌, ◌⊎◌, ℕ, Bool, true, false, ◌&&◌, List, Option, Some, None, Ok, IsOk}
+use Rattle.std.specs.Prelude.{◌≡◌, ◌⊎◌, ℕ, Bool, true, false, ◌&&◌, Option, Some, None, Ok, IsOk}
 use Rattle.policy_trait.specs.Model.{PolicyModel}
 use Rattle.monitor_calls.specs.Service.{Job}
 use Rattle.engine_trait.specs.Accounts.{Account, account_after_turn, before_out, first_written, is_over, look_counted, rule_counted, seeing}
@@ -7,6 +7,7 @@ use Rattle.engine_trait.specs.Machine.{Machine, is_ready_in}
 use Rattle.engine_trait.specs.Turn.{job_at, rule_at, stopped_at, turn_of}
 use Rattle.engine_trait.specs.declared.ends.Halt.{Halt}
 use Rattle.engine_trait.specs.declared.ends.Halt.TheVariants as halt
+use Rattle.turn_steps.specs.Feeds.{Tape}
 use Rattle.turn_steps.specs.declared.stop.Stop.{Stop}
 use Rattle.turn_steps.specs.declared.stop.Stop.TheVariants as stop
 use Rattle.engine_trait.specs.declared.ends.TurnEnd.{TurnEnd}
@@ -20,7 +21,7 @@ pub record Standing (S T : Type 0) : Type 0 where
 -- after a step: the standing, the feed, and how the turn ended
 pub record Stepped (S T : Type 0) : Type 0 where
   pub standing : Standing S T
-  pub feed : List ℕ
+  pub feed : Tape
   pub ended : TurnEnd
 
 -- whether nothing stopped the engine as a whole
@@ -49,7 +50,7 @@ module _ {S T : Type 0} (eq : T → T → Bool) (m : PolicyModel T S) (e : Stand
     pub fits : is_over (seeing eq (first_written job) (rule_counted eq m e.machine h e.account)) ≡ false
     pub left : account ≡ wanting (rule_counted eq m e.machine h e.account)
 
-module _ {S T : Type 0} (eq : T → T → Bool) (m : PolicyModel T S) (e : Standing S T) (feed : List ℕ) (h : ℕ) where
+module _ {S T : Type 0} (eq : T → T → Bool) (m : PolicyModel T S) (e : Standing S T) (feed : Tape) (h : ℕ) where
   -- the turn is made: it is the machine's, and it is counted
   abbrev pub made_step : Stepped S T
   made_step = record {
@@ -83,7 +84,7 @@ module _ {S T : Type 0} (eq : T → T → Bool) (m : PolicyModel T S) (e : Stand
 
   -- Memory ran out in a turn whose rule allows, and not where tag words had run out: the engine is stopped, the turn is not
   -- counted, and nothing else changes.
-  pub record GivesUp (f : Standing S T) (fed : List ℕ) : Type 0 where
+  pub record GivesUp (f : Standing S T) (fed : Tape) : Type 0 where
     pub ready : is_ready e h ≡ true
     pub allowed : IsOk (rule_at m e.machine h)
     pub machine : f.machine ≡ e.machine
@@ -97,11 +98,11 @@ IsFailure (stop.Fault fault) = Unit {0}
 IsFailure (stop.Violation part why pc) = Unit {0}
 
 -- hart h has that stop, and nothing else of the machine and of the feed changed
-pub record StopsOnly {S T : Type 0} (e : Standing S T) (feed : List ℕ) (h : ℕ) (why : Stop) (f : Standing S T) (fed : List ℕ) : Type 0 where
+pub record StopsOnly {S T : Type 0} (e : Standing S T) (feed : Tape) (h : ℕ) (why : Stop) (f : Standing S T) (fed : Tape) : Type 0 where
   pub machine : f.machine ≡ stopped_at e.machine h why
   pub unfed : fed ≡ feed
 
 -- nothing changed
-pub record Unchanged {S T : Type 0} (e : Standing S T) (feed : List ℕ) (f : Standing S T) (fed : List ℕ) : Type 0 where
+pub record Unchanged {S T : Type 0} (e : Standing S T) (feed : Tape) (f : Standing S T) (fed : Tape) : Type 0 where
   pub same : f ≡ e
   pub unfed : fed ≡ feed

@@ -4,6 +4,7 @@ use Rattle.rv_step.specs.declared.faults.Fault.{Fault}
 use Rattle.rv_step.specs.declared.faults.Fault.TheVariants.{NoService, Spent}
 use Rattle.policy_trait.specs.Model.{PolicyModel}
 use Rattle.shared_terms.specs.Steps.{◌>>=◌}
+use Rattle.policy_trait.specs.declared.rules.Ins.{Ins}
 use Rattle.policy_trait.specs.declared.rules.Outs.{Outs}
 use Rattle.policy_trait.specs.declared.rules.Refused.{Refused}
 use Rattle.policy_trait.specs.declared.services.Answer.{Answer}
@@ -13,7 +14,8 @@ use Rattle.tag_memory.specs.Hart.{moved_to}
 use Rattle.tag_memory.specs.Ram.{ram_tag, ram_word}
 use Rattle.monitor_calls.specs.Service.{Job, service_job}
 use Rattle.turn_steps.specs.Effects.{Carried, effect_result}
-use Rattle.turn_steps.specs.Looks.{is_call, look_result}
+use Rattle.turn_steps.specs.Feeds.{Tape}
+use Rattle.turn_steps.specs.Looks.{inputs_on, is_call, look_result}
 use Rattle.turn_steps.specs.Services.{args_on, with_answer, with_words}
 use Rattle.turn_steps.specs.declared.effects.Done.{Done}
 use Rattle.turn_steps.specs.declared.effects.Done.TheVariants as done
@@ -27,7 +29,7 @@ use Rattle.engine_trait.specs.declared.ends.TurnEnd.TheVariants as ends
 -- after a turn: the machine, the feed, and how the turn ended
 pub record Turned (S T : Type 0) : Type 0 where
   pub machine : Machine S T
-  pub feed : List ℕ
+  pub feed : Tape
   pub ended : TurnEnd
 
 -- a fault as a stop
@@ -80,11 +82,11 @@ end_of done.Broke = ends.Break
 end_of (done.Exited code) = ends.Stopped (stop.Exit code)
 
 -- what the instruction leaves of the hart, of memory and of the feed
-unfoldable pub carried_at : {T : Type 0} → CoreState T → List ℕ → ℕ → Look T → Outs T → Carried T
+unfoldable pub carried_at : {T : Type 0} → CoreState T → Tape → ℕ → Look → Outs T → Carried T
 carried_at core feed h look outs = effect_result (hart_at core h) core.ram feed look outs
 
 -- the core after that instruction
-unfoldable pub core_effected : {T : Type 0} → CoreState T → List ℕ → ℕ → Look T → Outs T → CoreState T
+unfoldable pub core_effected : {T : Type 0} → CoreState T → Tape → ℕ → Look → Outs T → CoreState T
 core_effected core feed h look outs = core_ended core h (carried_at core feed h look outs) (carried_at core feed h look outs).done
 
 -- the machine with that hart stopped
@@ -93,34 +95,38 @@ stopped_at s h why = record s { core = stopping s.core h why }
 
 -- ---- the steps
 
+-- the five tags that the rule of what a hart looks at is asked with, as the core stands
+abbrev pub rule_inputs : {T : Type 0} → CoreState T → ℕ → Look → Ins T
+rule_inputs core h look = inputs_on (hart_at core h) core.ram look.places look.effect.access
+
 module _ {S T : Type 0} (m : PolicyModel T S) (s : Machine S T) where
   -- a call of a service other than exit, put and get is one of the policy's
-  abbrev pub is_offered : Look T → Bool
+  abbrev pub is_offered : Look → Bool
   is_offered look = not (is_call look.group) || m.knows s.policy look.service
 
   -- the look, or the fault of a call of a service that the policy doesn't know
-  abbrev pub service_look : Look T → Result (Look T) Stop
+  abbrev pub service_look : Look → Result Look Stop
   service_look look = if is_offered look then Ok look else Err (stop.Fault (NoService look.service))
 
   -- fetch, decode, alignment and range of the access, alignment of the jump; then the service's number
-  unfoldable pub preparation : ℕ → Result (Look T) Stop
+  unfoldable pub preparation : ℕ → Result Look Stop
   preparation h = or_fault (look_result (hart_at s.core h) s.core.ram) >>= service_look
 
   -- the rule
-  unfoldable pub rule_answer : ℕ → Look T → Result (Outs T) Stop
-  rule_answer h look = or_violation (hart_at s.core h).pc (m.rule s.policy look.group look.inputs)
+  unfoldable pub rule_answer : ℕ → Look → Result (Outs T) Stop
+  rule_answer h look = or_violation (hart_at s.core h).pc (m.rule s.policy look.group (rule_inputs s.core h look))
 
   -- the answer of the rule, where the turn comes to one
   unfoldable pub rule_at : ℕ → Result (Outs T) Stop
   rule_at h = preparation h >>= rule_answer h
 
   -- what the policy's service that is called will do: its plan, and the words of the plan's range
-  unfoldable pub service_on : ℕ → Look T → Outs T → Result (Job T) PlanEnd
+  unfoldable pub service_on : ℕ → Look → Outs T → Result (Job T) PlanEnd
   service_on h look outs =
       service_job m s.policy (ram_word s.core.ram) (ram_tag s.core.ram) look.service (args_on (hart_at s.core h) s.core.ram) outs.pc
 
   -- the policy's service, where the instruction calls one
-  unfoldable pub turn_job : ℕ → Look T → Outs T → Result (Option (Job T)) Stop
+  unfoldable pub turn_job : ℕ → Look → Outs T → Result (Option (Job T)) Stop
   turn_job h look outs =
       if is_call look.group then or_unserved (hart_at s.core h).pc look.service (service_on h look outs) else Ok None
 
@@ -135,9 +141,9 @@ module _ {S T : Type 0} (m : PolicyModel T S) (s : Machine S T) where
   abbrev pub is_served : ℕ → Bool
   is_served h = is_job (job_at h)
 
-module _ {S T : Type 0} (m : PolicyModel T S) (s : Machine S T) (feed : List ℕ) (h : ℕ) where
+module _ {S T : Type 0} (m : PolicyModel T S) (s : Machine S T) (feed : Tape) (h : ℕ) where
   -- the effect: that of the service, of which the policy takes note, or that of the instruction
-  abbrev pub turn_effect : Look T → Outs T → Option (Job T) → Turned S T
+  abbrev pub turn_effect : Look → Outs T → Option (Job T) → Turned S T
   turn_effect look outs (Some job) = record {
     machine = record {
       policy = m.commit s.policy job.plan;

@@ -1,6 +1,6 @@
 //! The core of an engine: harts, their stops, and memory.
 
-ghost use Rattle.std.specs.Prelude.{◌≡◌, ◌≢◌, ◌%◌, ◌<◌, ◌≤◌, false, IfOk, length};
+ghost use Rattle.std.specs.Prelude.{◌≡◌, ◌≢◌, ◌+◌, ◌%◌, ◌<◌, ◌≤◌, false, IfOk, OnOk, length};
 ghost use Rattle.std.specs.List.{All};
 ghost use Rattle.tag_memory.specs.Ram.{IsPlace, ram_bytes};
 ghost use Rattle.turn_steps.specs.Effects.{IsSound};
@@ -8,15 +8,15 @@ ghost use Rattle.turn_steps.specs.Looks.{is_call, look_result};
 ghost use Rattle.turn_steps.specs.Services.{args_on};
 ghost use Rattle.engine_trait.specs.Machine.{CoreState, fresh_core, hart_at, stop_at, stopping};
 ghost use Rattle.engine_trait.specs.Standing.{IsFailure};
-ghost use Rattle.engine_trait.specs.Turn.{carried_at, core_effected, core_served, end_of, violation};
+ghost use Rattle.engine_trait.specs.Turn.{carried_at, core_effected, core_served, end_of, rule_inputs, violation};
 
 use crate::ends::TurnEnd;
-use policy_trait::{Answer, Args, Outs, Refused};
+use policy_trait::{Answer, Args, Ins, Outs, Refused};
 use rv_step::Fault;
 use std::marker::Model;
 use tag_memory::{Hart, Ram};
 use turn_steps::{
-    Done, Feed, Look, Stop, answer_to, arguments_of, carry_out, look_ahead, write_words,
+    Done, Feed, Look, Stop, answer_to, arguments_of, carry_out, inputs_of, look_ahead, write_words,
 };
 
 /// The most harts of a machine.
@@ -90,18 +90,31 @@ impl<T: Copy> Core<T> {
 
     /// What the hart is about to do, or the first of the checks that fails.
     #[inline(always)]
-    pub fn look(&self, h: u32) -> Result<Look<T>, Fault>
+    pub fn look(&self, h: u32) -> Result<Look, Fault>
         requires { h < length self.now.harts }
         ensures value { result ≡ look_result (hart_at self.now h) self.now.ram }
+        ensures within { OnOk result ((hart_at self.now h).pc + 4 ≤ ram_bytes self.now.ram) }
         ensures safe { IfOk result (λ look. IsSound (ram_bytes self.now.ram) look.effect) }
     {
         look_ahead(&self.harts[h as usize], &self.ram)
     }
 
+    /// The five tags that the rule of what this hart looks at is asked with. Its pc and its access are in memory, as those of a
+    /// look are that this hart gave.
+    #[inline(always)]
+    pub fn inputs(&self, h: u32, look: &Look) -> Ins<T>
+        requires hart { h < length self.now.harts }
+        requires within { (hart_at self.now h).pc + 4 ≤ ram_bytes self.now.ram }
+        requires safe { IsSound (ram_bytes self.now.ram) look.now.effect }
+        ensures { result ≡ rule_inputs self.now h look.now }
+    {
+        inputs_of(&self.harts[h as usize], &self.ram, look)
+    }
+
     /// Carries out an instruction that the checks and the rule allowed.
     #[inline(always)]
     #[tactic(auto, unfolding(crate::specs::Turn::core_effected, crate::specs::Turn::carried_at))]
-    pub fn effect(&mut self, h: u32, feed: &mut Feed, look: &Look<T>, outs: Outs<T>) -> TurnEnd
+    pub fn effect(&mut self, h: u32, feed: &mut Feed, look: &Look, outs: Outs<T>) -> TurnEnd
         requires hart { h < length self.old.harts }
         requires own { is_call look.now.group ≡ false }
         requires safe { IsSound (ram_bytes self.old.ram) look.now.effect }

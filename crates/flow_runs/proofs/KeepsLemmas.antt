@@ -17,6 +17,7 @@ use Rattle.tag_memory.specs.Ram.{RamState, ram_bytes, ram_tag, ram_word}
 use Rattle.monitor_calls.specs.Service.{retagged_range}
 use Rattle.turn_steps.proofs.KeptLemmas.{words_bytes}
 use Rattle.turn_steps.specs.Effects.{with_store, with_tagged}
+use Rattle.turn_steps.specs.Looks.{access_tag}
 use Rattle.turn_steps.specs.Services.{with_answer, with_words}
 use Rattle.turn_steps.specs.declared.look.Look.{Look}
 use Rattle.turn_steps.specs.declared.stop.Stop.TheVariants as stop
@@ -60,7 +61,7 @@ module _ (birth : ℕ → Birth) (words : List ℕ) (edges : List (ℕ × ℕ)) 
   has_stop : h < length s.core.harts → h < length s.core.stops
   has_stop lt = omega (arith, is.core.few, is.core.stops)
 
-  module _ (look : Look FlowTag) (outs : Outs FlowTag) (allows : Allows flow s h look outs e) where
+  module _ (look : Look) (outs : Outs FlowTag) (allows : Allows flow s h look outs e) where
     promised : FlowTurn birth words edges before e
     promised = does_as_promised birth words edges before s h is line look outs e allows
 
@@ -77,12 +78,16 @@ module _ (birth : ℕ → Birth) (words : List ℕ) (edges : List (ℕ × ℕ)) 
 
     -- ---- an instruction
 
+    -- the tag of the word that is accessed
+    abbrev word : FlowTag
+    word = access_tag s.core.ram (hart_at s.core h).plain look.effect.access
+
     -- a store's word was data, and the result is data
-    store_is : (g : Group) → look.group ≡ g → effect_of g ≡ effect_of group.StoreWord → (look.inputs.tm ≡ Data) × (outs.result ≡ Data)
+    store_is : (g : Group) → look.group ≡ g → effect_of g ≡ effect_of group.StoreWord → (word ≡ Data) × (outs.result ≡ Data)
     store_is g grouped stores_so =
         let known = entered birth words edges before s h is line look outs e allows in
-        let given = store_outs known.label look.inputs.tm outs
-        (ap (λ effect. outs_by effect known.label look.inputs.tm) (sym (ap effect_of grouped ∙ stores_so)) ∙ known.outs_are) in
+        let given = store_outs known.label word outs
+        (ap (λ effect. outs_by effect known.label word) (sym (ap effect_of grouped ∙ stores_so)) ∙ known.outs_are) in
         (given.0, ap (λ (o : Outs FlowTag). o.result) (sym given.1))
 
     after_store : (place : ℕ) (width : Width) (value : ℕ) → ram_tag s.core.ram place ≡ Data → outs.result ≡ Data
@@ -92,23 +97,26 @@ module _ (birth : ℕ → Birth) (words : List ℕ) (edges : List (ℕ × ℕ)) 
         (image_stays birth words s.core.ram (with_store s.core.ram (access.Store place width value) Data) unstored
         (length-set s.core.ram.words _ _) (store_stays s.core.ram place width value is.ram.shape old))
 
+    word_is : {access : Access} → look.effect.access ≡ access → word ≡ access_tag s.core.ram (hart_at s.core h).plain access
+    word_is accessed = ap (access_tag s.core.ram (hart_at s.core h).plain) accessed
+
     by_access : (access : Access) → look.effect.access ≡ access → Image (with_store s.core.ram access outs.result)
         → Image (with_store s.core.ram look.effect.access outs.result)
     by_access access accessed image = subst (λ (a : Access). Image (with_store s.core.ram a outs.result)) (sym accessed) image
 
     image_after : (register value : ℕ) → Does (hart_at s.core h) s.core.ram look register value
         → Image (with_store s.core.ram look.effect.access outs.result)
-    image_after register value (moves source grouped accessed moved tag) = by_access access.None accessed unstored
+    image_after register value (moves grouped accessed moved) = by_access access.None accessed unstored
     image_after register value (computes computing accessed) = by_access access.None accessed unstored
-    image_after register value (loads place grouped accessed loaded tag) = by_access (access.Load place Full false) accessed unstored
-    image_after register value (loads_part place width signed grouped accessed tag) = by_access (access.Load place width signed) accessed unstored
-    image_after register value (stores place source grouped accessed stored tag no_register) =
+    image_after register value (loads place grouped accessed loaded) = by_access (access.Load place Full false) accessed unstored
+    image_after register value (loads_part place width signed grouped accessed) = by_access (access.Load place width signed) accessed unstored
+    image_after register value (stores place grouped accessed no_register) =
         let known = store_is group.StoreWord grouped refl in
-        let stored_value : ℕ = reg_value (hart_at s.core h) source in
-        by_access (access.Store place Full stored_value) accessed (after_store place Full stored_value (sym tag ∙ known.0) known.1)
-    image_after register value (stores_part place stored width grouped accessed tag no_register) =
+        let stored_value : ℕ = reg_value (hart_at s.core h) look.places.second in
+        by_access (access.Store place Full stored_value) accessed (after_store place Full stored_value (sym (word_is accessed) ∙ known.0) known.1)
+    image_after register value (stores_part place stored width grouped accessed no_register) =
         let known = store_is group.StorePart grouped refl in
-        by_access (access.Store place width stored) accessed (after_store place width stored (sym tag ∙ known.0) known.1)
+        by_access (access.Store place width stored) accessed (after_store place width stored (sym (word_is accessed) ∙ known.0) known.1)
 
     after_instruction : (register value : ℕ) → Does (hart_at s.core h) s.core.ram look register value
         → Kept (after_step flow s h look outs register value)
@@ -150,4 +158,4 @@ module _ (birth : ℕ → Birth) (words : List ℕ) (edges : List (ℕ × ℕ)) 
       subst Kept (sym same) (after_call look outs allows p given (record { ranged = ranged; retagged = retagged }))
 
 pub turns_keep : (birth : ℕ → Birth) (words : List ℕ) (edges : List (ℕ × ℕ)) → Keeps flow (FlowLine birth words edges) (FlowTurn birth words edges)
-turns_keep birth words edges = record { turn = λ before s h e t is line turn. after_turn birth words edges before s h e is line t turn }
+turns_keep birth words edges = record { turn = λ before s h e t is line turn stay. after_turn birth words edges before s h e is line t turn }

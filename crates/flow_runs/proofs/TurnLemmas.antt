@@ -4,11 +4,13 @@ use Rattle.std.specs.List.{Contains}
 use Rattle.std.proofs.lemmas.Bool.Decides.{nat_tests}
 use Rattle.std.proofs.lemmas.Map.Views.{Contains-from_any}
 use Rattle.policy_trait.specs.declared.birth.Birth.{Birth}
+use Rattle.policy_trait.specs.declared.rules.Ins.{Ins}
 use Rattle.policy_trait.specs.declared.rules.Outs.{Outs}
 use Rattle.tag_memory.specs.Hart.{IsHartOf, fresh_hart}
 use Rattle.turn_steps.specs.declared.look.Look.{Look}
 use Rattle.engine_trait.specs.Events.{Event, is_retirement}
 use Rattle.engine_trait.specs.Machine.{IsMachine, Machine, hart_at}
+use Rattle.engine_trait.specs.Turn.{rule_inputs}
 use Rattle.part_turns.specs.Moments.{is_jalr}
 use Rattle.part_turns.specs.Turns.{Allows, is_jalr_group}
 use Rattle.flow_policy.specs.Flow.{flow, may_enter}
@@ -54,10 +56,13 @@ enters edges None None may = absurd cc
 -- ---- a retired turn
 
 module _ (birth : ℕ → Birth) (words : List ℕ) (edges : List (ℕ × ℕ)) (before : List (Event FlowTag)) (s : Machine (List (ℕ × ℕ)) FlowTag) (h : ℕ)
-    (is : IsMachine flow s) (line : FlowLine birth words edges before s) (look : Look FlowTag) (outs : Outs FlowTag) (e : Event FlowTag)
+    (is : IsMachine flow s) (line : FlowLine birth words edges before s) (look : Look) (outs : Outs FlowTag) (e : Event FlowTag)
     (allows : Allows flow s h look outs e) where
-  pub entered : Entered s.policy look.group look.inputs.pc look.inputs.ci look.inputs.tm outs
-  entered = rule_enters s.policy look.group look.inputs outs allows.rule
+  abbrev inputs : Ins FlowTag
+  inputs = rule_inputs s.core h look
+
+  pub entered : Entered s.policy look.group inputs.pc inputs.ci inputs.tm outs
+  entered = rule_enters s.policy look.group inputs outs allows.rule
 
   -- the pc is that of a word, which lies in memory
   place : 4 * ((hart_at s.core h).pc / 4) ≡ (hart_at s.core h).pc
@@ -74,7 +79,7 @@ module _ (birth : ℕ → Birth) (words : List ℕ) (edges : List (ℕ × ℕ)) 
   born =
       let n : ℕ = (hart_at s.core h).pc / 4 in
       let at : ((birth (4 * n)).code ≡ true) × ((birth (4 * n)).label ≡ entered.label) =
-      born_code (birth (4 * n)).code (birth (4 * n)).label entered.label (sym (line.tags n within) ∙ sym allows.seen.instruction ∙ entered.code) in
+      born_code (birth (4 * n)).code (birth (4 * n)).label entered.label (sym (line.tags n within) ∙ entered.code) in
       subst (λ (a : ℕ). ((birth a).code ≡ true) × ((birth a).label ≡ entered.label)) (place ∙ sym allows.pc) at
 
   is_code : IsCode birth words edges (visit_of e)
@@ -92,20 +97,19 @@ module _ (birth : ℕ → Birth) (words : List ℕ) (edges : List (ℕ × ℕ)) 
 
   has_label : is_jalr e.word ≡ true → HasLabel birth words edges (visit_of e)
   has_label jalr =
-      let found = jalr_label look.group entered.label look.inputs.tm outs (sym jumps ∙ jalr) entered.outs_are in
+      let found = jalr_label look.group entered.label inputs.tm outs (sym jumps ∙ jalr) entered.outs_are in
       (found.0, born.1 ∙ found.1)
 
   -- the rule let the pc enter, and the pc's tag is that of the hart's last retired turn
   may_come : (x : Visit) → last_of (walk_of h before) ≡ Some x → is_jalr x.word ≡ true
       → may_enter edges (from_label (birth x.address).label) entered.label ≡ true
   may_come x last jalr =
-      let from : look.inputs.pc ≡ from_label (birth x.address).label =
-      allows.seen.pc_tag
-      ∙ line.pcs h allows.ready
+      let from : inputs.pc ≡ from_label (birth x.address).label =
+      line.pcs h allows.ready
       ∙ ap (pc_after birth words edges) last
       ∙ ap (λ (b : Bool). if b then from_label (birth x.address).label else Still) jalr in
       ap (λ (tag : FlowTag). may_enter edges tag entered.label) (sym from)
-      ∙ ap (λ (list : List (ℕ × ℕ)). may_enter list look.inputs.pc entered.label) (sym line.listed)
+      ∙ ap (λ (list : List (ℕ × ℕ)). may_enter list inputs.pc entered.label) (sym line.listed)
       ∙ entered.may
 
   is_listed : (x : Visit) → last_of (walk_of h before) ≡ Some x → is_jalr x.word ≡ true → IsListed birth words edges x (visit_of e)
@@ -129,7 +133,7 @@ module _ (birth : ℕ → Birth) (words : List ℕ) (edges : List (ℕ × ℕ)) 
   -- and then the pc's tag is that of a hart whose last retired turn was this one
   pub next_pc : outs.pc ≡ pc_after birth words edges (Some (visit_of e))
   next_pc =
-      pc_is look.group entered.label look.inputs.tm outs entered.outs_are
+      pc_is look.group entered.label inputs.tm outs entered.outs_are
       ∙ ap (λ (b : Bool). if b then from_label entered.label else Still) (sym jumps)
       ∙ ap (λ (label : Option ℕ). if is_jalr e.word then from_label label else Still) (sym born.1)
 

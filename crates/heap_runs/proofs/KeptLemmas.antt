@@ -9,17 +9,20 @@ use Rattle.rv_step.specs.declared.accesses.Access.{Access}
 use Rattle.rv_step.specs.declared.accesses.Access.TheVariants as access
 use Rattle.rv_step.specs.declared.accesses.Width.{Width}
 use Rattle.rv_step.specs.declared.accesses.Width.TheVariants.{Full}
+use Rattle.policy_trait.specs.declared.rules.Ins.{Ins}
 use Rattle.policy_trait.specs.declared.rules.Outs.{Outs}
-use Rattle.tag_memory.specs.Hart.{HartState, IsHart, reg_tag, reg_value}
+use Rattle.tag_memory.specs.Hart.{HartState, IsHart, reg_value}
 use Rattle.tag_memory.specs.Ram.{IsRam, RamState, ram_tag, ram_word}
 use Rattle.turn_steps.specs.Effects.{with_store}
+use Rattle.turn_steps.specs.Looks.{access_tag}
 use Rattle.turn_steps.specs.declared.look.Look.{Look}
 use Rattle.engine_trait.specs.Events.{Event}
 use Rattle.engine_trait.specs.Machine.{CoreState, Machine, hart_at}
+use Rattle.engine_trait.specs.Turn.{rule_inputs}
 use Rattle.heap_policy.specs.Heap.{HeapState, effect_of, heap, uses_word}
 use Rattle.heap_policy.specs.declared.tag.HeapTag.{HeapTag}
 use Rattle.heap_policy.specs.declared.tag.HeapTag.TheVariants.{Val}
-use Rattle.part_turns.specs.Turns.{Does, IsSeen, after_step, computes, loads, loads_part, moves, stores, stores_part}
+use Rattle.part_turns.specs.Turns.{Does, after_step, computes, loads, loads_part, moves, stores, stores_part}
 use Rattle.part_turns.proofs.PlaceLemmas.{each_hart, each_register, each_stored, nth_tag, store_plain, store_tag, store_tag_other}
 use Rattle.heap_runs.specs.BlockBook.{block_book}
 use Rattle.heap_runs.specs.HeapLine.{HeapLine, IsBelow, IsHartBelow}
@@ -60,44 +63,46 @@ module _ (base top : ℕ) (events : List (Event HeapTag)) (s : Machine HeapState
 
   -- ---- an instruction
 
-  module _ (h : ℕ) (look : Look HeapTag) (outs : Outs HeapTag) (ram_is : IsRam s.core.ram)
-      (seen : IsSeen (hart_at s.core h) s.core.ram look) (allowed : IsRow look outs.result) where
+  module _ (h : ℕ) (look : Look) (outs : Outs HeapTag) (ram_is : IsRam s.core.ram)
+      (allowed : IsRow look.group (rule_inputs s.core h look) outs.result) where
     abbrev hart : HartState HeapTag
     hart = hart_at s.core h
 
     abbrev ram : RamState HeapTag
     ram = s.core.ram
 
+    abbrev inputs : Ins HeapTag
+    inputs = rule_inputs s.core h look
+
     -- memory after an access
     abbrev ram_after : Access → RamState HeapTag
     ram_after made = with_store ram made outs.result
 
     -- the word that is accessed
-    word_below : (place : ℕ) → look.inputs.tm ≡ ram_tag ram place → IsBelow next look.inputs.tm
+    word_is : {made : Access} → look.effect.access ≡ made → inputs.tm ≡ access_tag ram hart.plain made
+    word_is is = ap (access_tag ram hart.plain) is
+
+    word_below : (place : ℕ) → inputs.tm ≡ ram_tag ram place → IsBelow next inputs.tm
     word_below place is = subst (IsBelow next) (sym is) (line.words (place / 4))
 
     unused : (g : Group) → look.group ≡ g → uses_word (effect_of g) ≡ false → uses_word (effect_of look.group) ≡ true
-        → IsBelow next look.inputs.tm
+        → IsBelow next inputs.tm
     unused g is none used = absurd (let same = ap (λ (g : Group). uses_word (effect_of g)) is in cc)
 
     used_below : (register value : ℕ) → Does hart ram look register value → uses_word (effect_of look.group) ≡ true
-        → IsBelow next look.inputs.tm
-    used_below register value (moves source is none same tag) used = unused group.Move is refl used
-    used_below register value (loads place is made same tag) used = word_below place tag
-    used_below register value (loads_part place width signed is made tag) used = word_below place tag
-    used_below register value (stores place source is made stored old none) used = word_below place old
-    used_below register value (stores_part place stored width is made old none) used = word_below place old
+        → IsBelow next inputs.tm
+    used_below register value (moves is none same) used = unused group.Move is refl used
+    used_below register value (loads place is made same) used = word_below place (word_is made)
+    used_below register value (loads_part place width signed is made) used = word_below place (word_is made)
+    used_below register value (stores place is made none) used = word_below place (word_is made)
+    used_below register value (stores_part place stored width is made none) used = word_below place (word_is made)
     used_below register value (computes is none) used = unused look.group refl (no_word look.group is) used
-
-    -- a register's tag
-    register_below : (tag : HeapTag) → (r : ℕ) × (tag ≡ reg_tag hart r) → IsBelow next tag
-    register_below tag of = subst (IsBelow next) (sym of.1) ((line.harts h).registers of.0)
 
     module _ (register value : ℕ) (does : Does hart ram look register value) where
       below : IsBelow next outs.result
       below =
-          result_below next look.group look.inputs.t1 look.inputs.t2 look.inputs.tm
-          (register_below look.inputs.t1 seen.first) (register_below look.inputs.t2 seen.second)
+          result_below next look.group inputs.t1 inputs.t2 inputs.tm
+          ((line.harts h).registers look.places.first) ((line.harts h).registers look.places.second)
           (used_below register value does) outs.result (allowed.row look.group refl)
 
       -- ---- what is stored
@@ -121,10 +126,10 @@ module _ (base top : ℕ) (events : List (Event HeapTag)) (s : Machine HeapState
         below = each_stored (λ word tag. IsBelow next tag) ram place width value outs.result ram_is below line.words;
       }
 
-      storing : (place : ℕ) (width : Width) (value : ℕ) → look.effect.access ≡ access.Store place width value → look.inputs.tm ≡ ram_tag ram place
-          → IsStored look.inputs.t1 look.inputs.tm outs.result → StaysMemory next ram (ram_after look.effect.access)
+      storing : (place : ℕ) (width : Width) (value : ℕ) → look.effect.access ≡ access.Store place width value → inputs.tm ≡ ram_tag ram place
+          → IsStored inputs.t1 inputs.tm outs.result → StaysMemory next ram (ram_after look.effect.access)
       storing place width value is old stored =
-          let kind = holding_kept stored.content look.inputs.tm outs.result stored.holds in
+          let kind = holding_kept stored.content inputs.tm outs.result stored.holds in
           subst (λ (made : Access). StaysMemory next ram (ram_after made)) (sym is)
           (stored_memory place width value (subst (λ (tag : HeapTag). IsKept tag outs.result) old kind))
 
@@ -135,13 +140,13 @@ module _ (base top : ℕ) (events : List (Event HeapTag)) (s : Machine HeapState
           (subst (StaysMemory next ram) (sym same) same_memory)
 
       memory_by : Does hart ram look register value → StaysMemory next ram (ram_after look.effect.access)
-      memory_by (moves source is none same tag) = untouched access.None none refl
-      memory_by (loads place is made same tag) = untouched (access.Load place Full false) made refl
-      memory_by (loads_part place width signed is made tag) = untouched (access.Load place width signed) made refl
-      memory_by (stores place source is made stored old none) =
-          storing place Full (reg_value hart source) made old (stores_is look outs.result allowed is)
-      memory_by (stores_part place stored width is made old none) =
-          storing place width stored made old (stores_part_is look outs.result allowed is)
+      memory_by (moves is none same) = untouched access.None none refl
+      memory_by (loads place is made same) = untouched (access.Load place Full false) made refl
+      memory_by (loads_part place width signed is made) = untouched (access.Load place width signed) made refl
+      memory_by (stores place is made none) =
+          storing place Full (reg_value hart look.places.second) made (word_is made) (stores_is look.group inputs outs.result allowed is)
+      memory_by (stores_part place stored width is made none) =
+          storing place width stored made (word_is made) (stores_part_is look.group inputs outs.result allowed is)
       memory_by (computes is none) = untouched access.None none refl
 
       -- ---- the line

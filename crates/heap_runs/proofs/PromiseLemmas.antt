@@ -11,16 +11,19 @@ use Rattle.rv_step.specs.declared.accesses.Access.{Access}
 use Rattle.rv_step.specs.declared.accesses.Access.TheVariants as access
 use Rattle.rv_step.specs.declared.accesses.Width.{Width}
 use Rattle.rv_step.specs.declared.accesses.Width.TheVariants.{Byte, Half, Full}
+use Rattle.policy_trait.specs.declared.rules.Ins.{Ins}
 use Rattle.policy_trait.specs.declared.rules.Outs.{Outs}
 use Rattle.policy_trait.specs.declared.services.Answer.{Answer}
 use Rattle.tag_memory.specs.Hart.{reg_value}
 use Rattle.tag_memory.specs.Ram.{ram_bytes, ram_tag}
+use Rattle.turn_steps.specs.Looks.{access_tag}
 use Rattle.turn_steps.specs.declared.look.Look.{Look}
 use Rattle.engine_trait.specs.Events.{Asked, Event, Touch, is_retirement, touch_of}
 use Rattle.engine_trait.specs.Machine.{Machine, hart_at}
+use Rattle.engine_trait.specs.Turn.{rule_inputs}
 use Rattle.live_blocks.specs.Space.{IsWithin, end_of}
 use Rattle.live_blocks.specs.declared.block.Block.{Block}
-use Rattle.heap_policy.specs.Heap.{HeapState, heap, is_reached, is_static}
+use Rattle.heap_policy.specs.Heap.{HeapState, heap, is_reached}
 use Rattle.heap_policy.specs.declared.tag.Content.{Content}
 use Rattle.heap_policy.specs.declared.tag.HeapTag.{HeapTag}
 use Rattle.heap_policy.specs.declared.tag.HeapTag.TheVariants.{Val, Ptr, Static, Cell, Free}
@@ -140,18 +143,24 @@ module _ (base top : ℕ) (events : List (Event HeapTag)) (s : Machine HeapState
 
   -- ---- an allowed instruction
 
-  module _ (h : ℕ) (look : Look HeapTag) (outs : Outs HeapTag) (e : Event HeapTag) (allows : Allows heap s h look outs e) where
+  module _ (h : ℕ) (look : Look) (outs : Outs HeapTag) (e : Event HeapTag) (allows : Allows heap s h look outs e) where
     abbrev made : Access
     made = look.effect.access
 
+    abbrev inputs : Ins HeapTag
+    inputs = rule_inputs s.core h look
+
     -- the tags of the address and of the word there
     abbrev first : HeapTag
-    first = look.inputs.t1
+    first = inputs.t1
 
     abbrev word : HeapTag
-    word = look.inputs.tm
+    word = inputs.tm
 
-    row : IsRow look outs.result
+    word_is : {access : Access} → made ≡ access → word ≡ access_tag s.core.ram (hart_at s.core h).plain access
+    word_is is = ap (access_tag s.core.ram (hart_at s.core h).plain) is
+
+    row : IsRow look.group inputs outs.result
     row = row_is s h look outs e allows
 
     -- a static word is none of the heap
@@ -160,7 +169,7 @@ module _ (base top : ℕ) (events : List (Event HeapTag)) (s : Machine HeapState
         let at = (hart_at s.core h).pc in
         let same : is_in_heap base top (4 * (at / 4)) ≡ true = let w = in_heap_word at in let p = allows.pc in cc in
         not_both (find (is_in_block (4 * (at / 4))) s.policy.space.live) (ram_tag s.core.ram at)
-        (static_is (ram_tag s.core.ram at) (subst (λ (tag : HeapTag). is_static tag ≡ true) allows.seen.instruction row.static))
+        (static_is (ram_tag s.core.ram at) row.static)
         (line.cells (at / 4) allows.seen.there same))
 
     promised : ((x : Service HeapTag) (answer : Answer HeapTag) (number : ℕ) → service_of e ≡ Some x → x.number ≡ 48 → x.answer ≡ Some answer
@@ -179,7 +188,7 @@ module _ (base top : ℕ) (events : List (Event HeapTag)) (s : Machine HeapState
 
         tag_is : (asked : Asked HeapTag) → e.asked ≡ Some asked → first ≡ asked.inputs.t1
         tag_is asked asks = ap (λ (a : Asked HeapTag). a.inputs.t1)
-            (same_Some (record { group = look.group; inputs = look.inputs }) asked (let is = allows.asked in cc))
+            (same_Some (record { group = look.group; inputs = inputs }) asked (let is = allows.asked in cc))
 
     -- the access of what it does
     touches_there : (place : ℕ) (width : Width) (is_store : Bool) → place % bytes_of width ≡ 0 → place + bytes_of width ≤ ram_bytes s.core.ram
@@ -202,14 +211,14 @@ module _ (base top : ℕ) (events : List (Event HeapTag)) (s : Machine HeapState
         (subst (EndsWithin (ram_bytes s.core.ram)) is allows.seen.in_memory) tag reached)
 
     does_safe : (register value : ℕ) → Does (hart_at s.core h) s.core.ram look register value → Safe made first
-    does_safe register value (moves source is none same tag) = no_touch made first none
-    does_safe register value (loads place is made_is same tag) = load_safe place Full false made_is tag (loads_reach look outs.result row is)
-    does_safe register value (loads_part place width signed is made_is tag) =
-        load_safe place width signed made_is tag (loads_part_reach look outs.result row is)
-    does_safe register value (stores place source is made_is stored old none) =
-        store_safe place Full (reg_value (hart_at s.core h) source) made_is old (stores_is look outs.result row is).reached
-    does_safe register value (stores_part place stored width is made_is old none) =
-        store_safe place width stored made_is old (stores_part_is look outs.result row is).reached
+    does_safe register value (moves is none same) = no_touch made first none
+    does_safe register value (loads place is made_is same) = load_safe place Full false made_is (word_is made_is) (loads_reach look.group inputs outs.result row is)
+    does_safe register value (loads_part place width signed is made_is) =
+        load_safe place width signed made_is (word_is made_is) (loads_part_reach look.group inputs outs.result row is)
+    does_safe register value (stores place is made_is none) =
+        store_safe place Full (reg_value (hart_at s.core h) look.places.second) made_is (word_is made_is) (stores_is look.group inputs outs.result row is).reached
+    does_safe register value (stores_part place stored width is made_is none) =
+        store_safe place width stored made_is (word_is made_is) (stores_part_is look.group inputs outs.result row is).reached
     does_safe register value (computes is none) = no_touch made first none
 
     -- ---- the turn

@@ -4,10 +4,12 @@ use Rattle.std.specs.Option.{option_and_then}
 use Rattle.std.proofs.lemmas.Option.{same_Some}
 use Rattle.rv_decode.specs.declared.groups.Group.{Group}
 use Rattle.rv_decode.specs.declared.groups.Group.TheVariants as group
+use Rattle.policy_trait.specs.declared.rules.Ins.{Ins}
 use Rattle.policy_trait.specs.declared.rules.Outs.{Outs}
 use Rattle.turn_steps.specs.declared.look.Look.{Look}
 use Rattle.engine_trait.specs.Events.{Event}
 use Rattle.engine_trait.specs.Machine.{Machine}
+use Rattle.engine_trait.specs.Turn.{rule_inputs}
 use Rattle.heap_policy.specs.Heap.{HeapState, content_of, outs_or_refusal, difference, effect_of, heap, word_content, holding, is_reached, is_static, is_val, load_content, result_by, tag_after_store, sum, tag_of, uses_word, val_where}
 use Rattle.heap_policy.specs.declared.tag.Content.{Content}
 use Rattle.heap_policy.specs.declared.tag.Content.TheVariants as contents
@@ -175,9 +177,9 @@ stores_by first word result None e = absurd cc
 -- ---- an allowed rule
 
 -- the instruction is static, and the row of its group has the result
-pub record IsRow (look : Look HeapTag) (result : HeapTag) : Type 0 where
-  pub static : is_static look.inputs.ci ≡ true
-  pub row : (g : Group) → look.group ≡ g → result_by (effect_of g) look.inputs.t1 look.inputs.t2 look.inputs.tm ≡ Some result
+pub record IsRow (called : Group) (x : Ins HeapTag) (result : HeapTag) : Type 0 where
+  pub static : is_static x.ci ≡ true
+  pub row : (g : Group) → called ≡ g → result_by (effect_of g) x.t1 x.t2 x.tm ≡ Some result
 
 decided_by : (g : Group) (static : Bool) (row : Option HeapTag) (outs : Outs HeapTag) → outs_or_refusal g (if static then row else None) ≡ Ok outs
     → (static ≡ true) × (row ≡ Some outs.result)
@@ -191,26 +193,27 @@ plain_by : (g : Group) (row : Option HeapTag) (outs : Outs HeapTag) → outs_or_
 plain_by g (Some tag) outs e = sym (ap (λ (o : Outs HeapTag). o.pc) (ok_is (record { pc = Val; result = tag }) outs e))
 plain_by g None outs e = absurd cc
 
-pub pc_is : (s : Machine HeapState HeapTag) (h : ℕ) (look : Look HeapTag) (outs : Outs HeapTag) (e : Event HeapTag)
+pub pc_is : (s : Machine HeapState HeapTag) (h : ℕ) (look : Look) (outs : Outs HeapTag) (e : Event HeapTag)
     → Allows heap s h look outs e → outs.pc ≡ Val
 pc_is s h look outs e allows = plain_by look.group _ outs allows.rule
 
-pub row_is : (s : Machine HeapState HeapTag) (h : ℕ) (look : Look HeapTag) (outs : Outs HeapTag) (e : Event HeapTag)
-    → Allows heap s h look outs e → IsRow look outs.result
+pub row_is : (s : Machine HeapState HeapTag) (h : ℕ) (look : Look) (outs : Outs HeapTag) (e : Event HeapTag)
+    → Allows heap s h look outs e → IsRow look.group (rule_inputs s.core h look) outs.result
 row_is s h look outs e allows =
-    let row_of = λ (g : Group). result_by (effect_of g) look.inputs.t1 look.inputs.t2 look.inputs.tm in
-    let parts = decided_by look.group (is_static look.inputs.ci) (row_of look.group) outs allows.rule in
+    let x : Ins HeapTag = rule_inputs s.core h look in
+    let row_of = λ (g : Group). result_by (effect_of g) x.t1 x.t2 x.tm in
+    let parts = decided_by look.group (is_static x.ci) (row_of look.group) outs allows.rule in
     record { static = parts.0; row = λ g is. subst (λ (g : Group). row_of g ≡ Some outs.result) is parts.1 }
 
-module _ (look : Look HeapTag) (result : HeapTag) (allowed : IsRow look result) where
-  pub loads_reach : look.group ≡ group.LoadWord → is_reached look.inputs.t1 look.inputs.tm ≡ true
-  loads_reach is = loads_by look.inputs.t1 look.inputs.tm result (load_content look.inputs.t1 look.inputs.tm) refl (allowed.row group.LoadWord is)
+module _ (called : Group) (x : Ins HeapTag) (result : HeapTag) (allowed : IsRow called x result) where
+  pub loads_reach : called ≡ group.LoadWord → is_reached x.t1 x.tm ≡ true
+  loads_reach is = loads_by x.t1 x.tm result (load_content x.t1 x.tm) refl (allowed.row group.LoadWord is)
 
-  pub loads_part_reach : look.group ≡ group.LoadPart → is_reached look.inputs.t1 look.inputs.tm ≡ true
-  loads_part_reach is = val_where_some (is_reached look.inputs.t1 look.inputs.tm) result (allowed.row group.LoadPart is)
+  pub loads_part_reach : called ≡ group.LoadPart → is_reached x.t1 x.tm ≡ true
+  loads_part_reach is = val_where_some (is_reached x.t1 x.tm) result (allowed.row group.LoadPart is)
 
-  pub stores_is : look.group ≡ group.StoreWord → IsStored look.inputs.t1 look.inputs.tm result
-  stores_is is = stores_by look.inputs.t1 look.inputs.tm result (content_of look.inputs.t2) (allowed.row group.StoreWord is)
+  pub stores_is : called ≡ group.StoreWord → IsStored x.t1 x.tm result
+  stores_is is = stores_by x.t1 x.tm result (content_of x.t2) (allowed.row group.StoreWord is)
 
-  pub stores_part_is : look.group ≡ group.StorePart → IsStored look.inputs.t1 look.inputs.tm result
-  stores_part_is is = stored_is look.inputs.t1 look.inputs.tm result contents.Val (allowed.row group.StorePart is)
+  pub stores_part_is : called ≡ group.StorePart → IsStored x.t1 x.tm result
+  stores_part_is is = stored_is x.t1 x.tm result contents.Val (allowed.row group.StorePart is)

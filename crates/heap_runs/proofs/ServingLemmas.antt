@@ -47,7 +47,7 @@ number_is x y e = cc
 
 -- a turn of hart h in a state of which the line holds: its rule allows the call, and these words are written
 module _ (base top : ℕ) (before : List (Event HeapTag)) (s : Machine HeapState HeapTag) (is : IsMachine heap s)
-    (line : HeapLine base top before s) (h : ℕ) (look : Look HeapTag) (outs : Outs HeapTag) (words : List (ℕ × ℕ × HeapTag))
+    (line : HeapLine base top before s) (h : ℕ) (look : Look) (outs : Outs HeapTag) (words : List (ℕ × ℕ × HeapTag))
     (e : Event HeapTag) (allows : Allows heap s h look outs e) (no_access : look.effect.access ≡ access.None)
     (hart_is : IsHart (hart_at s.core h)) where
   abbrev later : List (Event HeapTag)

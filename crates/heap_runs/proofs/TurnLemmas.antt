@@ -61,7 +61,7 @@ module _ (base top : ℕ) (before : List (Event HeapTag)) (s : Machine HeapState
   )
   turned t (goes look outs register value allows none does same) = subst Turned (sym same) (
     goes_promised base top before s line h look outs e allows register value none does,
-    goes_line base top before s line h look outs is.ram.shape allows.seen (row_is s h look outs e allows) register value does
+    goes_line base top before s line h look outs is.ram.shape (row_is s h look outs e allows) register value does
         later (book_by before e None none) (sound_hart allows.ready) (pc_is s h look outs e allows),
   )
   turned t (serves look outs p words allows group no_access told planned ranged retagged same) = subst Turned (sym same)
@@ -69,4 +69,4 @@ module _ (base top : ℕ) (before : List (Event HeapTag)) (s : Machine HeapState
       (record { told = told; left = each_served heap s.policy p s.core.ram is.ram.shape words ranged retagged }))
 
 pub keeps : (base top : ℕ) → Keeps heap (HeapLine base top) (λ before event. HeapTurn base top (block_book before) event)
-keeps base top = record { turn = λ before s h e t is line turns. turned base top before s h e is line t turns }
+keeps base top = record { turn = λ before s h e t is line turns stay. turned base top before s h e is line t turns }

@@ -6,7 +6,7 @@ use std::alloc::{AllocError, Global};
 use std::test::Fail;
 
 /// Lines, each with what it is read as: a command with its operands, or the number of its refusal.
-const LINES: [(&[u8], &str); 69] = [
+const LINES: &[(&[u8], &str)] = &[
     (b"", "Blank"),
     (b"   ", "Blank"),
     (b"step 3 12", "Step(3, 12)"),
@@ -95,7 +95,7 @@ fn told(alloc: Global, read: &Result<Command, BadCommand>) -> Result<String, All
 
 #[test]
 fn each_line_is_read(rt: HostRuntime) -> Result<(), Fail> {
-    for (line, want) in LINES {
+    for &(line, want) in LINES {
         let read = told(rt.alloc(), &read_command(line))?;
         assert_eq!(rt; read.as_str(), want, "{line:?}");
     }
@@ -128,7 +128,7 @@ fn operands_fill_a_line(rt: HostRuntime) -> Result<(), Fail> {
 }
 
 /// Streams, each with what is read of its lines, one after another.
-const STREAMS: [(&[u8], &str); 9] = [
+const STREAMS: &[(&[u8], &str)] = &[
     (b"", ""),
     (b"\n", "Blank;"),
     (b"pc 0\nrun 5\n", "Pc(0);Run(5);"),
@@ -161,7 +161,7 @@ fn stream_told(alloc: Global, lines: &mut Lines, stream: &[u8]) -> Result<String
 fn each_stream_is_read(rt: HostRuntime) -> Result<(), Fail> {
     stream_law();
     let mut lines = Lines::new();
-    for (stream, want) in STREAMS {
+    for &(stream, want) in STREAMS {
         let read = stream_told(rt.alloc(), &mut lines, stream)?;
         assert_eq!(rt; read.as_str(), want, "{stream:?}");
     }

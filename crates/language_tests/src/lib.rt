@@ -1,8 +1,10 @@
-//! Tests of the languages that are read: the assembler's sources and the shell's commands.
+//! Tests of the languages that are read: the assembler's sources, the shell's commands, and rows.
 #![tactic(auto)]
 
 mod answers;
 #[cfg(test)]
 mod commands;
+#[cfg(test)]
+mod rows;
 #[cfg(test)]
 mod sources;

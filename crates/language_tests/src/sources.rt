@@ -9,7 +9,7 @@ use std::test::Fail;
 type Row = (&'static [u8], &'static str);
 
 /// Forms of registers and of numbers.
-const REGISTER_FORMS: [Row; 24] = [
+const REGISTER_FORMS: &[Row] = &[
     (b"", ""),
     (b"\n \t \r\n# nop\n\n", ""),
     (b"add x1, x2, x3", "1 Add x1 x2 x3"),
@@ -37,7 +37,7 @@ const REGISTER_FORMS: [Row; 24] = [
 ];
 
 /// The other forms.
-const OTHER_FORMS: [Row; 24] = [
+const OTHER_FORMS: &[Row] = &[
     (b"lh x1, -4(x2)", "1 Lh x1 -4(x2)"),
     (b"lw x1, 0x10(x2)", "1 Lw x1 16(x2)"),
     (b"lbu x1, 0(x2)", "1 Lbu x1 0(x2)"),
@@ -65,7 +65,7 @@ const OTHER_FORMS: [Row; 24] = [
 ];
 
 /// Directives.
-const DIRECTIVES: [Row; 12] = [
+const DIRECTIVES: &[Row] = &[
     (b".harts 2", "1 .harts 2"),
     (b".ram 65536", "1 .ram 65536"),
     (b".heap 61440, 4096", "1 .heap 61440 4096"),
@@ -81,7 +81,7 @@ const DIRECTIVES: [Row; 12] = [
 ];
 
 /// Registers by what they are for.
-const REGISTERS: [Row; 11] = [
+const REGISTERS: &[Row] = &[
     (b"add zero, ra, sp", "1 Add x0 x1 x2"),
     (b"add gp, tp, t0", "1 Add x3 x4 x5"),
     (b"add t1, t2, s0", "1 Add x6 x7 x8"),
@@ -96,7 +96,7 @@ const REGISTERS: [Row; 11] = [
 ];
 
 /// Blanks, comments and ends of lines; names.
-const ENDS_AND_NAMES: [Row; 12] = [
+const ENDS_AND_NAMES: &[Row] = &[
     (b" \tadd\t x1 ,x2,\tx3 \t", "1 Add x1 x2 x3"),
     (b"lw x1 , 4(x2) ", "1 Lw x1 4(x2)"),
     (b"nop# comment: it, (too) # .walk", "1 Addi x0 x0 0"),
@@ -112,7 +112,7 @@ const ENDS_AND_NAMES: [Row; 12] = [
 ];
 
 /// Numbers: leading zeros are free, and digits of hexadecimal numbers have either case. Ranges aren't asked here.
-const NUMBERS: [Row; 17] = [
+const NUMBERS: &[Row] = &[
     (b".word -2147483648", "1 .word -2147483648"),
     (b".word 4294967295", "1 .word 4294967295"),
     (b".word 0xffffFFFF", "1 .word 4294967295"),
@@ -133,7 +133,7 @@ const NUMBERS: [Row; 17] = [
 ];
 
 /// The first line with an error decides; bytes, in comments too.
-const BYTE_ERRORS: [Row; 14] = [
+const BYTE_ERRORS: &[Row] = &[
     (b"walk\nnop\x01", "line 1 mnemonic"),
     (b"nop\n\naddi x1, x1, q\n.walk", "line 3 number"),
     (b"# one\r\n\r\nadd x1\r\nwalk", "line 3 operand"),
@@ -151,7 +151,7 @@ const BYTE_ERRORS: [Row; 14] = [
 ];
 
 /// Words that are none, and bad names.
-const WORD_ERRORS: [Row; 18] = [
+const WORD_ERRORS: &[Row] = &[
     (b"walk", "line 1 mnemonic"),
     (b"nop,", "line 1 mnemonic"),
     (b"a: b: nop", "line 1 mnemonic"),
@@ -173,7 +173,7 @@ const WORD_ERRORS: [Row; 18] = [
 ];
 
 /// Words with a dot that are none.
-const DOT_ERRORS: [Row; 9] = [
+const DOT_ERRORS: &[Row] = &[
     (b".walk", "line 1 directive"),
     (b".word,", "line 1 directive"),
     (b".", "line 1 directive"),
@@ -186,7 +186,7 @@ const DOT_ERRORS: [Row; 9] = [
 ];
 
 /// A wrong count of operands, or an empty one.
-const COUNT_ERRORS: [Row; 24] = [
+const COUNT_ERRORS: &[Row] = &[
     (b"add", "line 1 operand"),
     (b"add x1, x2", "line 1 operand"),
     (b"add x1, x2, x3, x4", "line 1 operand"),
@@ -214,7 +214,7 @@ const COUNT_ERRORS: [Row; 24] = [
 ];
 
 /// No form of a number and a register in parentheses; neither a number in range nor a name.
-const PLACE_ERRORS: [Row; 15] = [
+const PLACE_ERRORS: &[Row] = &[
     (b"lw x1, 4", "line 1 operand"),
     (b"lw x99, 4", "line 1 operand"),
     (b"lw x1, 4(x2", "line 1 operand"),
@@ -233,7 +233,7 @@ const PLACE_ERRORS: [Row; 15] = [
 ];
 
 /// Operand by operand: registers.
-const REGISTER_ERRORS: [Row; 13] = [
+const REGISTER_ERRORS: &[Row] = &[
     (b"add x32, x1, x2", "line 1 register"),
     (b"add x1, x01, x2", "line 1 register"),
     (b"add X1, x1, x2", "line 1 register"),
@@ -250,7 +250,7 @@ const REGISTER_ERRORS: [Row; 13] = [
 ];
 
 /// Operand by operand: numbers.
-const NUMBER_ERRORS: [Row; 20] = [
+const NUMBER_ERRORS: &[Row] = &[
     (b"addi x1, x1, q", "line 1 number"),
     (b"addi x1, x1, 1 2", "line 1 number"),
     (b"lw x1, 4 (x2)", "line 1 number"),
@@ -468,65 +468,65 @@ fn check<R: Abort + AllocGlobal>(rt: &R, rows: &[Row]) -> Result<(), Fail> {
 
 #[test]
 fn forms_of_registers_are_read(rt: HostRuntime) -> Result<(), Fail> {
-    check(&rt, &REGISTER_FORMS)
+    check(&rt, REGISTER_FORMS)
 }
 
 #[test]
 fn other_forms_are_read(rt: HostRuntime) -> Result<(), Fail> {
-    check(&rt, &OTHER_FORMS)
+    check(&rt, OTHER_FORMS)
 }
 
 #[test]
 fn directives_are_read(rt: HostRuntime) -> Result<(), Fail> {
-    check(&rt, &DIRECTIVES)
+    check(&rt, DIRECTIVES)
 }
 
 #[test]
 fn registers_are_read(rt: HostRuntime) -> Result<(), Fail> {
-    check(&rt, &REGISTERS)
+    check(&rt, REGISTERS)
 }
 
 #[test]
 fn ends_of_lines_and_names_are_read(rt: HostRuntime) -> Result<(), Fail> {
-    check(&rt, &ENDS_AND_NAMES)
+    check(&rt, ENDS_AND_NAMES)
 }
 
 #[test]
 fn numbers_are_read(rt: HostRuntime) -> Result<(), Fail> {
-    check(&rt, &NUMBERS)
+    check(&rt, NUMBERS)
 }
 
 #[test]
 fn bytes_that_are_not_allowed_are_told(rt: HostRuntime) -> Result<(), Fail> {
-    check(&rt, &BYTE_ERRORS)
+    check(&rt, BYTE_ERRORS)
 }
 
 #[test]
 fn unknown_words_are_told(rt: HostRuntime) -> Result<(), Fail> {
-    check(&rt, &WORD_ERRORS)
+    check(&rt, WORD_ERRORS)
 }
 
 #[test]
 fn unknown_directives_are_told(rt: HostRuntime) -> Result<(), Fail> {
-    check(&rt, &DOT_ERRORS)
+    check(&rt, DOT_ERRORS)
 }
 
 #[test]
 fn counts_of_operands_are_told(rt: HostRuntime) -> Result<(), Fail> {
-    check(&rt, &COUNT_ERRORS)
+    check(&rt, COUNT_ERRORS)
 }
 
 #[test]
 fn operands_without_their_form_are_told(rt: HostRuntime) -> Result<(), Fail> {
-    check(&rt, &PLACE_ERRORS)
+    check(&rt, PLACE_ERRORS)
 }
 
 #[test]
 fn bad_registers_are_told(rt: HostRuntime) -> Result<(), Fail> {
-    check(&rt, &REGISTER_ERRORS)
+    check(&rt, REGISTER_ERRORS)
 }
 
 #[test]
 fn bad_numbers_are_told(rt: HostRuntime) -> Result<(), Fail> {
-    check(&rt, &NUMBER_ERRORS)
+    check(&rt, NUMBER_ERRORS)
 }

@@ -5,13 +5,12 @@ ghost use Rattle.host_io.specs.Held.{files_of, AreNamesDistinct};
 use crate::doubles::{Broken, Full};
 use host_io::{
     Failed, Files, LoadFile, MemFiles, MemSink, MemSource, PutEnd, ReadEnd, SaveFile, Sink, Source,
-    StdFiles, StdSink, StdSource, SureFiles, SureSink, SureSource, read_to_end,
+    StdSink, StdSource, SureFiles, SureSink, SureSource, read_to_end,
 };
 use std::alloc::{AllocError, Global};
 use std::io::{Read, Write};
 use std::process::Abort;
 use std::test::Fail;
-use std::{env, fs, io, process};
 
 // The second put of a piece that has bytes fails.
 #[test]
@@ -110,7 +109,7 @@ fn check_read_to_end<S: Source>(
 }
 
 // How many bytes an input has, the limit, and whether it is within.
-const READINGS: [(usize, usize, bool); 9] = [
+const READINGS: &[(usize, usize, bool)] = &[
     (0, 0, true),
     (0, 10, true),
     (1, 0, false),
@@ -124,7 +123,7 @@ const READINGS: [(usize, usize, bool); 9] = [
 
 #[test]
 fn inputs_are_read_within_the_limit(rt: HostRuntime) -> Result<(), Fail> {
-    for (length, limit, within) in READINGS {
+    for &(length, limit, within) in READINGS {
         let bytes = input(rt.alloc(), 0, length)?;
         let answer = if within {
             Ok(bytes.as_slice())
@@ -140,12 +139,12 @@ fn inputs_are_read_within_the_limit(rt: HostRuntime) -> Result<(), Fail> {
 }
 
 // The number of the read that fails, of an input of 5,000 bytes, and how many bytes come before.
-const FAILED_READS: [(u64, usize); 3] = [(0, 0), (1, 4_096), (2, 5_000)];
+const FAILED_READS: &[(u64, usize)] = &[(0, 0), (1, 4_096), (2, 5_000)];
 
 // After a failed read the rest is left, and can be read to its end.
 #[test]
 fn failed_reads_leave_the_rest(rt: HostRuntime) -> Result<(), Fail> {
-    for (number, before) in FAILED_READS {
+    for &(number, before) in FAILED_READS {
         let fails = vec![in rt.alloc(); number]?;
         let mut source = MemSource::new(input(rt.alloc(), 0, 5_000)?, fails);
         check_read_to_end(&rt, &mut source, 5_000, Err(ReadEnd::Failed));
@@ -272,16 +271,6 @@ fn std_source_tells_an_error(rt: HostRuntime) -> Result<(), Fail> {
     Ok(())
 }
 
-// The standard input of a test is empty.
-#[test]
-fn standard_input_is_read_to_its_end(rt: HostRuntime) -> Result<(), Fail> {
-    let mut source = StdSource::new(rt.stdin());
-    check_read_to_end(&rt, &mut source, 10, Ok(&[]));
-    check_read_to_end(&rt, &mut source, 0, Ok(&[]));
-    assert_eq!(rt; source.faults(), 0);
-    Ok(())
-}
-
 // A writer that takes nothing of a piece that has bytes is a fault.
 #[test]
 fn std_sink_puts_on_a_writer(rt: HostRuntime) -> Result<(), Fail> {
@@ -295,67 +284,5 @@ fn std_sink_puts_on_a_writer(rt: HostRuntime) -> Result<(), Fail> {
     assert_eq!(rt; err.put(b"a put on standard error\n"), Ok(()));
     assert_eq!(rt; out.faults(), 0);
     assert_eq!(rt; err.faults(), 0);
-    Ok(())
-}
-
-// What is put on a file of the system is read and loaded from there.
-#[test]
-fn std_adapters_share_a_file(rt: HostRuntime) -> Result<(), Fail> {
-    let id = process::id(rt.process());
-    let name = format!(in rt.alloc(); "host_io_test_{id}")?;
-    let path = env::temp_dir(&rt)?.join(rt.alloc(), name.as_str())?;
-    let mut sink = StdSink::new(fs::create(&rt, path.as_path())?);
-    assert_eq!(rt; sink.put(b"ab"), Ok(()));
-    assert_eq!(rt; sink.put(b"c"), Ok(()));
-
-    let mut source = StdSource::new(fs::open(&rt, path.as_path())?);
-    check_reads(
-        &rt,
-        &mut source,
-        &[
-            (Ok(2), "ab"),
-            (Ok(0), ""),
-            (Ok(1), "c-"),
-            (Ok(0), "-"),
-            (Ok(0), "-"),
-        ],
-    )?;
-    assert_eq!(rt; source.faults(), 0);
-    let mut whole = StdSource::new(fs::open(&rt, path.as_path())?);
-    check_read_to_end(&rt, &mut whole, 3, Ok(b"abc"));
-
-    let mut files = StdFiles::new(rt);
-    let loads = [
-        (path.as_str(), 3, Ok("abc")),
-        (path.as_str(), 2, Err(LoadFile::TooLong)),
-        ("no such file", 3, Err(LoadFile::Failed)),
-    ];
-    check_loads(&rt, &mut files, &loads);
-    assert_eq!(rt; files.calls(), 3);
-    assert_eq!(rt; files.read_faults(), 1);
-    assert_eq!(rt; files.write_faults(), 0);
-    fs::remove_file(&rt, path.as_path())?;
-    Ok(())
-}
-
-// A file of the system is made, and then holds what was saved last. A folder can't be saved.
-#[test]
-fn std_files_are_saved(rt: HostRuntime) -> Result<(), Fail> {
-    let id = process::id(rt.process());
-    let name = format!(in rt.alloc(); "host_io_test_saved_{id}")?;
-    let folder = env::temp_dir(&rt)?;
-    let path = folder.join(rt.alloc(), name.as_str())?;
-    let mut files = StdFiles::new(&rt);
-    let saves = [
-        (path.as_str(), "abc", Ok(())),
-        (path.as_str(), "d", Ok(())),
-        (folder.as_str(), "e", Err(SaveFile::Failed)),
-    ];
-    check_saves(&rt, &mut files, &saves);
-    check_loads(&rt, &mut files, &[(path.as_str(), 3, Ok("d"))]);
-    assert_eq!(rt; files.calls(), 4);
-    assert_eq!(rt; files.read_faults(), 0);
-    assert_eq!(rt; files.write_faults(), 1);
-    fs::remove_file(&rt, path.as_path())?;
     Ok(())
 }

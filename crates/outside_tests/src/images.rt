@@ -8,7 +8,7 @@ use std::alloc::{AllocError, Global};
 use std::test::Fail;
 
 /// A program that writes `A` and exits with 0: one hart, 64 bytes of RAM, and six words at 0.
-const HELLO: [u8; 76] = [
+const HELLO: &[u8] = &[
     0x50, 0x55, 0x4D, 0x50, 0x01, 0x00, 0x01, 0x00, // magic, version, harts
     0x40, 0x00, 0x00, 0x00, 0x00, 0x00, 0x00, 0x00, // RAM, heap base
     0x00, 0x00, 0x00, 0x00, 0x00, 0x00, 0x00, 0x00, // heap bytes, entry
@@ -22,7 +22,7 @@ const HELLO: [u8; 76] = [
 ];
 
 /// The words of a file with two harts and every list. The word at place i begins at offset 4 * i.
-const FULL: [u32; 43] = [
+const FULL: &[u32] = &[
     0x504D_5550,
     0x0002_0001,
     64,
@@ -78,7 +78,7 @@ fn bytes_of(alloc: Global, words: &[u32]) -> Result<Vec<u8>, AllocError> {
 
 /// The full file with another word at one place.
 fn full_with(alloc: Global, place: usize, value: u32) -> Result<Vec<u8>, AllocError> {
-    let mut words = Vec::from_slice(alloc, &FULL)?;
+    let mut words = Vec::from_slice(alloc, FULL)?;
     if place < words.len() {
         words[place] = value;
     }
@@ -87,7 +87,7 @@ fn full_with(alloc: Global, place: usize, value: u32) -> Result<Vec<u8>, AllocEr
 
 #[test]
 fn hello_is_read(rt: HostRuntime) -> Result<(), Fail> {
-    let image = read_image(rt.alloc(), &HELLO)
+    let image = read_image(rt.alloc(), HELLO)
         .ok()
         .ok_or("it is the file of an image")?;
     assert_eq!(rt; image.ram(), 64);
@@ -101,7 +101,7 @@ fn hello_is_read(rt: HostRuntime) -> Result<(), Fail> {
 
 #[test]
 fn sizes_and_segments_are_read(rt: HostRuntime) -> Result<(), Fail> {
-    let bytes = bytes_of(rt.alloc(), &FULL)?;
+    let bytes = bytes_of(rt.alloc(), FULL)?;
     let image = read_image(rt.alloc(), &bytes)
         .ok()
         .ok_or("it is the file of an image")?;
@@ -120,7 +120,7 @@ fn sizes_and_segments_are_read(rt: HostRuntime) -> Result<(), Fail> {
     Ok(())
 }
 
-const CODE: [WordRange; 2] = [
+const CODE: &[WordRange] = &[
     WordRange {
         address: 0,
         words: 1,
@@ -131,9 +131,9 @@ const CODE: [WordRange; 2] = [
     },
 ];
 
-const LABELS: [Label; 2] = [Label { address: 4, id: 1 }, Label { address: 8, id: 2 }];
+const LABELS: &[Label] = &[Label { address: 4, id: 1 }, Label { address: 8, id: 2 }];
 
-const EDGES: [Edge; 3] = [
+const EDGES: &[Edge] = &[
     Edge {
         source: 1,
         target: 2,
@@ -148,7 +148,7 @@ const EDGES: [Edge; 3] = [
     },
 ];
 
-const COMPARTMENTS: [CompartmentRange; 2] = [
+const COMPARTMENTS: &[CompartmentRange] = &[
     CompartmentRange {
         range: WordRange {
             address: 0,
@@ -171,14 +171,14 @@ const COMPARTMENTS: [CompartmentRange; 2] = [
 
 #[test]
 fn other_lists_are_read(rt: HostRuntime) -> Result<(), Fail> {
-    let bytes = bytes_of(rt.alloc(), &FULL)?;
+    let bytes = bytes_of(rt.alloc(), FULL)?;
     let image = read_image(rt.alloc(), &bytes)
         .ok()
         .ok_or("it is the file of an image")?;
-    assert_eq!(rt; image.code(), CODE.as_slice());
-    assert_eq!(rt; image.labels(), LABELS.as_slice());
-    assert_eq!(rt; image.edges(), EDGES.as_slice());
-    assert_eq!(rt; image.compartments(), COMPARTMENTS.as_slice());
+    assert_eq!(rt; image.code(), CODE);
+    assert_eq!(rt; image.labels(), LABELS);
+    assert_eq!(rt; image.edges(), EDGES);
+    assert_eq!(rt; image.compartments(), COMPARTMENTS);
     Ok(())
 }
 
@@ -192,20 +192,20 @@ fn is_written_again(alloc: Global, bytes: &[u8]) -> Result<bool, AllocError> {
 
 #[test]
 fn files_are_written_again(rt: HostRuntime) -> Result<(), Fail> {
-    let full = bytes_of(rt.alloc(), &FULL)?;
-    for bytes in [HELLO.as_slice(), &full] {
+    let full = bytes_of(rt.alloc(), FULL)?;
+    for bytes in [HELLO, &full] {
         assert!(rt; is_written_again(rt.alloc(), bytes)?);
     }
     Ok(())
 }
 
 /// Words that are put one after the other, each with its address: two at 0, and one at 12.
-const PUT: [(u32, u32); 3] = [(0, 0x13), (4, 0x73), (12, 0x6F)];
+const PUT: &[(u32, u32)] = &[(0, 0x13), (4, 0x73), (12, 0x6F)];
 
 #[test]
 fn words_are_put_in_segments(rt: HostRuntime) -> Result<(), Fail> {
     let mut segments = Segments::new(rt.alloc());
-    for (address, word) in PUT {
+    for &(address, word) in PUT {
         segments.put_word(address, word)?;
     }
     assert_eq!(rt; segments.count(), 2);
@@ -224,7 +224,7 @@ fn error_of(read: Result<Image, ImageEnd>) -> Option<ImageError> {
 }
 
 /// A word of the full file, another value for it, how many bytes are left of the file, and its error then.
-const DAMAGES: [(usize, u32, usize, ImageError); 41] = [
+const DAMAGES: &[(usize, u32, usize, ImageError)] = &[
     (0, 0x504D_5551, 172, ImageError::Magic),
     (1, 0x0002_0002, 172, ImageError::Version(2)),
     // The sizes.
@@ -277,13 +277,13 @@ const DAMAGES: [(usize, u32, usize, ImageError); 41] = [
 
 #[test]
 fn the_first_error_is_named(rt: HostRuntime) -> Result<(), Fail> {
-    for (place, value, left, error) in &DAMAGES {
+    for (place, value, left, error) in DAMAGES {
         let mut bytes = full_with(rt.alloc(), *place, *value)?;
         bytes.truncate(*left);
         let found = error_of(read_image(rt.alloc(), &bytes));
         assert_eq!(rt; found, Some(*error), "the word at {place} is {value}");
     }
-    let full = bytes_of(rt.alloc(), &FULL)?;
+    let full = bytes_of(rt.alloc(), FULL)?;
     for left in 0..full.len() {
         let found = error_of(read_image(rt.alloc(), &full[..left]));
         assert_eq!(rt; found, Some(ImageError::Short(left)));
@@ -292,7 +292,7 @@ fn the_first_error_is_named(rt: HostRuntime) -> Result<(), Fail> {
 }
 
 /// From where to where bytes of `HELLO` are gone, what stands in their place, and the error then.
-const HELLO_DAMAGES: [(usize, usize, &[u8], ImageError); 23] = [
+const HELLO_DAMAGES: &[(usize, usize, &[u8], ImageError)] = &[
     (0, 1, &[0], ImageError::Magic),
     (4, 5, &[3], ImageError::Version(3)),
     (6, 7, &[9], ImageError::Field(1, 6)),
@@ -340,8 +340,8 @@ fn spliced(
 
 #[test]
 fn damaged_files_are_refused(rt: HostRuntime) -> Result<(), Fail> {
-    for (from, to, put, error) in &HELLO_DAMAGES {
-        let file = spliced(rt.alloc(), &HELLO, *from, *to, put)?;
+    for (from, to, put, error) in HELLO_DAMAGES {
+        let file = spliced(rt.alloc(), HELLO, *from, *to, put)?;
         let found = error_of(read_image(rt.alloc(), &file));
         assert_eq!(rt; found, Some(*error), "from {from} to {to}");
     }
@@ -350,7 +350,7 @@ fn damaged_files_are_refused(rt: HostRuntime) -> Result<(), Fail> {
         assert_eq!(rt; found, Some(ImageError::Short(left)));
     }
     // A second segment that begins where the first does.
-    let counted = spliced(rt.alloc(), &HELLO, 24, 25, &[2])?;
+    let counted = spliced(rt.alloc(), HELLO, 24, 25, &[2])?;
     let row = [0, 0, 0, 0, 1, 0, 0, 0, 0x13, 0, 0, 0];
     let file = spliced(rt.alloc(), &counted, 60, 60, &row)?;
     let found = error_of(read_image(rt.alloc(), &file));
@@ -362,19 +362,19 @@ fn damaged_files_are_refused(rt: HostRuntime) -> Result<(), Fail> {
 fn up_to_eight_harts_are_read(rt: HostRuntime) -> Result<(), Fail> {
     let mut eight = bytes_of(rt.alloc(), &[0x504D_5550, 0x0008_0001, 64, 0, 0])?;
     // The entries, and five lists without rows.
-    eight.extend_from_slice(&[0; 52])?;
+    eight.resize(72, 0)?;
     let image = read_image(rt.alloc(), &eight)
         .ok()
         .ok_or("it is the file of an image")?;
     assert_eq!(rt; image.entries(), [0; 8].as_slice());
     let mut nine = bytes_of(rt.alloc(), &[0x504D_5550, 0x0009_0001, 64, 0, 0])?;
-    nine.extend_from_slice(&[0; 56])?;
+    nine.resize(76, 0)?;
     let found = error_of(read_image(rt.alloc(), &nine));
     assert_eq!(rt; found, Some(ImageError::Field(1, 6)));
     Ok(())
 }
 
-const TEXTS: [(ImageError, &str); 6] = [
+const TEXTS: &[(ImageError, &str)] = &[
     (ImageError::Magic, "magic"),
     (ImageError::Version(3), "version 3"),
     (ImageError::Short(75), "short at 75"),
@@ -385,7 +385,7 @@ const TEXTS: [(ImageError, &str); 6] = [
 
 #[test]
 fn errors_are_told(rt: HostRuntime) -> Result<(), Fail> {
-    for (error, text) in &TEXTS {
+    for (error, text) in TEXTS {
         assert_eq!(rt; format!(in rt.alloc(); "{error}")?.as_str(), *text);
     }
     Ok(())

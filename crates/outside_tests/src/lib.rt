@@ -1,4 +1,4 @@
-//! Tests of what the program meets outside: files, input and output, the image's file, and the words of a command line.
+//! Tests of what the program meets outside: files, input and output, and the image's file.
 #![tactic(auto)]
 
 mod doubles;
@@ -6,5 +6,3 @@ mod doubles;
 mod host;
 #[cfg(test)]
 mod images;
-#[cfg(test)]
-mod words;

@@ -11,7 +11,7 @@ use Rattle.policy_trait.specs.declared.rules.Outs.{Outs}
 use Rattle.tag_memory.specs.Hart.{HartState, fresh_hart, moved_to, reg_value}
 use Rattle.tag_memory.specs.Ram.{RamState}
 use Rattle.turn_steps.specs.Effects.{Carried, carried_by, effect_result, result_value, with_store, with_tagged}
-use Rattle.turn_steps.specs.Feeds.{fed_value}
+use Rattle.turn_steps.specs.Feeds.{Tape, fed_value}
 use Rattle.turn_steps.specs.declared.effects.Done.{Done}
 use Rattle.turn_steps.specs.declared.effects.Done.TheVariants as done
 use Rattle.turn_steps.specs.declared.look.Look.{Look}
@@ -28,16 +28,16 @@ retires done.Broke = refl
 retires (done.Exited code) = refl
 
 -- only loads and stores access memory
-pub no_access : {T : Type 0} (hart : HartState T) (ram : RamState T) (look : Look T) (register value : ℕ) → is_computing look.group ≡ true
+pub no_access : {T : Type 0} (hart : HartState T) (ram : RamState T) (look : Look) (register value : ℕ) → is_computing look.group ≡ true
     → Does hart ram look register value → look.effect.access ≡ access.None
-no_access hart ram look register value computing (moves source move none same tag) = none
-no_access hart ram look register value computing (loads place load loaded same tag) = absurd cc
-no_access hart ram look register value computing (loads_part place width signed load loaded tag) = absurd cc
-no_access hart ram look register value computing (stores place source store stored tag old none) = absurd cc
-no_access hart ram look register value computing (stores_part place stored width store stored_is old none) = absurd cc
+no_access hart ram look register value computing (moves move none same) = none
+no_access hart ram look register value computing (loads place load loaded same) = absurd cc
+no_access hart ram look register value computing (loads_part place width signed load loaded) = absurd cc
+no_access hart ram look register value computing (stores place store stored none) = absurd cc
+no_access hart ram look register value computing (stores_part place stored width store stored_is none) = absurd cc
 no_access hart ram look register value computing (computes is none) = none
 
-module _ {T : Type 0} (core : CoreState T) (h : ℕ) (look : Look T) (outs : Outs T) where
+module _ {T : Type 0} (core : CoreState T) (h : ℕ) (look : Look) (outs : Outs T) where
   abbrev hart : HartState T
   hart = hart_at core h
 
@@ -65,10 +65,10 @@ module _ {T : Type 0} (core : CoreState T) (h : ℕ) (look : Look T) (outs : Out
   abbrev result : ℕ
   result = result_value core.ram look.effect.value look.effect.access
 
-  module _ (feed : List ℕ) (does : Does hart core.ram look look.result result) where
+  module _ (feed : Tape) (does : Does hart core.ram look look.places.result result) where
     -- a group that computes makes no access
     none_if : is_computing look.group ≡ true → look.effect.access ≡ access.None
-    none_if computing = no_access hart core.ram look look.result result computing does
+    none_if computing = no_access hart core.ram look look.places.result result computing does
 
     abbrev carried : Group → Carried T
     carried called = carried_by called hart core.ram feed look outs
@@ -83,9 +83,9 @@ module _ {T : Type 0} (core : CoreState T) (h : ℕ) (look : Look T) (outs : Out
         halts (reg_value hart a0) is (none_if (ap is_computing is))
         (ap (λ (c : CoreState T). stopping c h (stop.Exit (reg_value hart a0))) same_core)
     by_group group.Put is = writes 0 0 (ap is_computing is)
-    by_group group.Get is = writes a0 (fed_value feed) (ap is_computing is)
-    by_group group.Break is = moves_on look.result result does (kept (moved look.result result) (none_if (ap is_computing is)))
-    by_group _ is = moves_on look.result result does refl
+    by_group group.Get is = writes a0 (fed_value feed.left) (ap is_computing is)
+    by_group group.Break is = moves_on look.places.result result does (kept (moved look.places.result result) (none_if (ap is_computing is)))
+    by_group _ is = moves_on look.places.result result does refl
 
     pub leaves : Leaves (core_effected core feed h look outs)
     unfolding core_effected carried_at effect_result

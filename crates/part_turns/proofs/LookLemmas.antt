@@ -4,7 +4,7 @@ use Rattle.std.specs.Prelude.{slice_get}
 use Rattle.std.proofs.lemmas.Bool.{eqb-true}
 use Rattle.std.proofs.lemmas.Option.{get_or_from_slice_get, slice_get_within}
 use Rattle.rv_decode.specs.Decoding.{instr_of_word}
-use Rattle.rv_decode.specs.Groups.{a7, addi_group, group_of, reads_of, service_group}
+use Rattle.rv_decode.specs.Groups.{a7, addi_group, group_of, service_group}
 use Rattle.rv_decode.specs.declared.groups.Group.{Group}
 use Rattle.rv_decode.specs.declared.groups.Group.TheVariants as group
 use Rattle.rv_decode.specs.declared.instructions.Instr.{Instr}
@@ -17,20 +17,15 @@ use Rattle.rv_step.specs.declared.faults.Fault.{Fault}
 use Rattle.rv_step.specs.declared.faults.Fault.TheVariants.{Fetch, Illegal}
 use Rattle.shared_terms.specs.Steps.{◌>>=◌}
 use Rattle.shared_terms.proofs.StepLemmas.{ok_is}
-use Rattle.tag_memory.specs.Hart.{HartState, reg_tag, reg_value}
+use Rattle.tag_memory.specs.Hart.{HartState, reg_value}
 use Rattle.tag_memory.specs.Ram.{RamState, ram_bytes}
 use Rattle.turn_steps.specs.Effects.{result_value}
-use Rattle.turn_steps.specs.Looks.{effect_at, found_or, look_at, look_result, operand_tag, effect_or_fault}
+use Rattle.turn_steps.specs.Looks.{effect_at, found_or, look_at, look_result, effect_or_fault}
 use Rattle.turn_steps.specs.declared.look.Look.{Look}
 use Rattle.part_turns.specs.Moments.{is_jal, is_jal_instr, is_jalr, is_jalr_instr}
 use Rattle.part_turns.specs.Turns.{Does, IsSeen, computes, is_computing, is_jal_group, is_jalr_group, loads, loads_part, moves, stores, stores_part}
 
 -- ---- the groups of ADDI and of ECALL
-
--- the tag of an operand is that of a register, x0 where there is none
-tag_is : {T : Type 0} (hart : HartState T) (operand : Option ℕ) → (r : ℕ) × (operand_tag hart operand ≡ reg_tag hart r)
-tag_is hart None = (0, refl)
-tag_is hart (Some r) = (r, refl)
 
 module _ (P : Group → Type 0) where
   by_addi : P group.Move → P group.AddImm → (is_move : Bool) → P (if is_move then group.Move else group.AddImm)
@@ -63,11 +58,11 @@ jal_is _ service = refl
 -- ---- what an instruction does with values
 
 module _ {T : Type 0} (hart : HartState T) (ram : RamState T) (word : ℕ) where
-  abbrev look_of : Instr → Look T
-  look_of instr = look_at hart ram word instr (effect_at hart instr)
+  abbrev look_of : Instr → Look
+  look_of instr = look_at hart word instr (effect_at hart instr)
 
-  abbrev DoesOf : Look T → Type 0
-  DoesOf look = Does hart ram look look.result (result_value ram look.effect.value look.effect.access)
+  abbrev DoesOf : Look → Type 0
+  DoesOf look = Does hart ram look look.places.result (result_value ram look.effect.value look.effect.access)
 
   -- ADDI with immediate 0
   moved : (rs1 imm : ℕ) → (imm == 0) ≡ true → plus (reg_value hart rs1) imm ≡ reg_value hart rs1 % 2 ^ 32
@@ -76,18 +71,18 @@ module _ {T : Type 0} (hart : HartState T) (ram : RamState T) (word : ℕ) where
       ∙ ap (λ (n : ℕ). n % 2 ^ 32) (let e : reg_value hart rs1 + 0 ≡ reg_value hart rs1 = omega arith in e)
 
   does_addi : (rd rs1 imm : ℕ) (is_move : Bool) → (imm == 0) ≡ is_move → DoesOf (look_of (Addi rd rs1 imm))
-  does_addi rd rs1 imm true is = moves rs1 (ap (λ (test : Bool). if test then group.Move else group.AddImm) is) refl (moved rs1 imm is) refl
+  does_addi rd rs1 imm true is = moves (ap (λ (test : Bool). if test then group.Move else group.AddImm) is) refl (moved rs1 imm is)
   does_addi rd rs1 imm false is = computes (ap (λ (test : Bool). is_computing (if test then group.Move else group.AddImm)) is) refl
 
   does : (instr : Instr) → DoesOf (look_of instr)
-  does (Lw rd rs1 imm) = loads (plus (reg_value hart rs1) imm) refl refl refl refl
-  does (Lb rd rs1 imm) = loads_part (plus (reg_value hart rs1) imm) Byte true refl refl refl
-  does (Lh rd rs1 imm) = loads_part (plus (reg_value hart rs1) imm) Half true refl refl refl
-  does (Lbu rd rs1 imm) = loads_part (plus (reg_value hart rs1) imm) Byte false refl refl refl
-  does (Lhu rd rs1 imm) = loads_part (plus (reg_value hart rs1) imm) Half false refl refl refl
-  does (Sw rs1 rs2 imm) = stores (plus (reg_value hart rs1) imm) rs2 refl refl refl refl refl
-  does (Sb rs1 rs2 imm) = stores_part (plus (reg_value hart rs1) imm) (reg_value hart rs2) Byte refl refl refl refl
-  does (Sh rs1 rs2 imm) = stores_part (plus (reg_value hart rs1) imm) (reg_value hart rs2) Half refl refl refl refl
+  does (Lw rd rs1 imm) = loads (plus (reg_value hart rs1) imm) refl refl refl
+  does (Lb rd rs1 imm) = loads_part (plus (reg_value hart rs1) imm) Byte true refl refl
+  does (Lh rd rs1 imm) = loads_part (plus (reg_value hart rs1) imm) Half true refl refl
+  does (Lbu rd rs1 imm) = loads_part (plus (reg_value hart rs1) imm) Byte false refl refl
+  does (Lhu rd rs1 imm) = loads_part (plus (reg_value hart rs1) imm) Half false refl refl
+  does (Sw rs1 rs2 imm) = stores (plus (reg_value hart rs1) imm) refl refl refl
+  does (Sb rs1 rs2 imm) = stores_part (plus (reg_value hart rs1) imm) (reg_value hart rs2) Byte refl refl refl
+  does (Sh rs1 rs2 imm) = stores_part (plus (reg_value hart rs1) imm) (reg_value hart rs2) Half refl refl refl
   does (Addi rd rs1 imm) = does_addi rd rs1 imm (imm == 0) refl
   does Ecall = computes (of_service (λ g. is_computing g ≡ true) refl refl refl refl (reg_value hart a7)) refl
   does _ = computes refl refl
@@ -102,10 +97,6 @@ module _ {T : Type 0} (hart : HartState T) (ram : RamState T) (word : ℕ) where
         there = slice_get_within ram.words (hart.pc / 4) word there;
         word = sym (get_or_from_slice_get ram.words (hart.pc / 4) word 0 there);
         service = refl;
-        pc_tag = refl;
-        instruction = refl;
-        first = tag_is hart (reads_of instr).t1;
-        second = tag_is hart (reads_of instr).t2;
         jalr = ap is_jalr_instr is ∙ jalr_is instr (reg_value hart a7);
         jal = ap is_jal_instr is ∙ jal_is instr (reg_value hart a7);
         aligned = safe.aligned;
@@ -115,12 +106,12 @@ module _ {T : Type 0} (hart : HartState T) (ram : RamState T) (word : ℕ) where
 -- ---- a look that is given
 
 -- what is looked at was seen, and this is done to it with the result's register and value
-pub record Looks {T : Type 0} (hart : HartState T) (ram : RamState T) (look : Look T) : Type 0 where
+pub record Looks {T : Type 0} (hart : HartState T) (ram : RamState T) (look : Look) : Type 0 where
   pub seen : IsSeen hart ram look
-  pub does : Does hart ram look look.result (result_value ram look.effect.value look.effect.access)
+  pub does : Does hart ram look look.places.result (result_value ram look.effect.value look.effect.access)
 
-module _ {T : Type 0} (hart : HartState T) (ram : RamState T) (look : Look T) where
-  abbrev done : Look T → Result (Look T) Fault
+module _ {T : Type 0} (hart : HartState T) (ram : RamState T) (look : Look) where
+  abbrev done : Look → Result Look Fault
   done given = Ok given
 
   abbrev fetched_at : Option ℕ
@@ -130,8 +121,8 @@ module _ {T : Type 0} (hart : HartState T) (ram : RamState T) (look : Look T) wh
   fault_of instr = first_fault (effect_at hart instr) (ram_bytes ram)
 
   -- the steps of a look from its instruction on
-  abbrev checked : ℕ → Instr → Option Fault → Result (Look T) Fault
-  checked word instr fault = effect_or_fault (effect_at hart instr) fault >>= λ effect. done (look_at hart ram word instr effect)
+  abbrev checked : ℕ → Instr → Option Fault → Result Look Fault
+  checked word instr fault = effect_or_fault (effect_at hart instr) fault >>= λ effect. done (look_at hart word instr effect)
 
   by_fault : (word : ℕ) (instr : Instr) → fetched_at ≡ Some word → instr_of_word word ≡ Some instr
       → (fault : Option Fault) → fault_of instr ≡ fault → checked word instr fault ≡ Ok look → Looks hart ram look

@@ -1,15 +1,22 @@
--- A sound machine is sound as a part of its policy sees it.
-use Rattle.std.proofs.Common.{◌≡◌, ◌≤◌, true, length, map, ap, sym, subst, ◌∙◌, arith}
+-- A sound machine is sound as a part of its policy sees it, and its values are the same.
+use Rattle.std.proofs.Common.{◌≡◌, ℕ, ◌<◌, ◌≤◌, true, length, map, ap, sym, subst, ◌∙◌, arith}
+use Rattle.std.proofs.Math.ListN.{get_or-map}
 use Rattle.std.proofs.lemmas.List.{length-map}
 use Rattle.std.proofs.lemmas.List.Elements.{All-map, All-weaker}
+use Rattle.policy_trait.specs.PolicyLaws.{KeepsLaws}
 use Rattle.policy_trait.specs.Model.{PolicyModel}
 use Rattle.tag_memory.specs.Hart.{HartState, IsHartOf}
 use Rattle.tag_memory.specs.Maps.{hart_by, ram_by}
 use Rattle.tag_memory.specs.Ram.{IsRamOf, RamState, ram_bytes}
-use Rattle.engine_trait.specs.Machine.{CoreState, IsCore, IsMachine, Machine}
+use Rattle.turn_steps.specs.Feeds.{Tape}
+use Rattle.turn_steps.specs.Values.{HartHasWords}
+use Rattle.engine_trait.proofs.ValueLemmas.{turn_words}
+use Rattle.engine_trait.specs.Machine.{CoreState, HasWords, IsCore, IsMachine, Machine}
 use Rattle.engine_trait.specs.Maps.{core_by}
+use Rattle.engine_trait.specs.Turn.{turn_of}
 use Rattle.policy_parts.specs.Part.{IsPart}
 use Rattle.policy_parts.specs.View.{View}
+use Rattle.part_turns.specs.Keeps.{StayWords}
 use Rattle.part_turns.specs.Maps.{seen_by}
 
 module _ {T U : Type 0} (f : T → U) (plain : T) (own : U) (same : f plain ≡ own) where
@@ -43,3 +50,28 @@ seen_sound w m l part s on is =
       ram = ram_sound l.tag (w.plain s.policy) (m.plain (l.value s.policy)) plain s.core.ram is.ram;
       room = omega arith;
     }
+
+-- ---- values
+
+-- a core with each tag changed has words where it had them, and had them where it has
+module _ {T U : Type 0} (f : T → U) (core : CoreState T) where
+  pub words_seen : HasWords core → HasWords (core_by f core)
+  words_seen has = record {
+    harts = All-map (λ (hart : HartState U). HartHasWords hart) (hart_by f) core.harts has.harts;
+    ram = has.ram;
+  }
+
+  words_unseen : HasWords (core_by f core) → HasWords core
+  words_unseen has = record {
+    harts = λ n default below.
+        subst (λ (hart : HartState U). HartHasWords hart) (get_or-map (hart_by f) core.harts n default)
+        (has.harts n (hart_by f default) (subst (λ size. n < size) (sym (length-map core.harts (hart_by f))) below));
+    ram = has.ram;
+  }
+
+-- a turn under the whole policy leaves words where the part sees words
+pub words_stay : {T S U V : Type 0} (w : PolicyModel T S) (l : View T S U V) (holds : S → Type 0) → KeepsLaws w holds
+    → (s : Machine S T) → IsMachine w s → holds s.policy → (feed : Tape) (h : ℕ)
+    → StayWords (seen_by l s) (seen_by l (turn_of w s feed h).machine)
+words_stay w l holds laws s is valid feed h has =
+    words_seen l.tag (turn_of w s feed h).machine.core (turn_words w holds laws s valid is (words_unseen l.tag s.core has) feed h)

@@ -1,8 +1,9 @@
 -- What the turns of a part keep and promise, each run under the whole policy keeps and promises, from any sound machine on
 -- in which the part is on and its line holds.
-use Rattle.std.proofs.Common.{◌≡◌, ℕ, true, List, [], ◌∷◌, ◌++◌, map, ap, sym, subst, ◌∙◌, append_assoc, append-nil}
+use Rattle.std.proofs.Common.{◌≡◌, true, List, [], ◌∷◌, ◌++◌, map, ap, sym, subst, ◌∙◌, append_assoc, append-nil}
 use Rattle.policy_trait.specs.PolicyLaws.{KeepsLaws}
 use Rattle.policy_trait.specs.Model.{PolicyModel}
+use Rattle.turn_steps.specs.Feeds.{Tape, with_fed}
 use Rattle.engine_trait.specs.Events.{Event, event_of}
 use Rattle.engine_trait.specs.Machine.{IsMachine, Machine}
 use Rattle.engine_trait.specs.Runs.{Item, Trace, fed, run_along, turn}
@@ -13,7 +14,7 @@ use Rattle.policy_parts.specs.View.{View}
 use Rattle.part_turns.specs.Keeps.{Keeps, RunKeeps}
 use Rattle.part_turns.specs.Maps.{event_with, seen_by}
 use Rattle.part_turns.specs.Moments.{Moment}
-use Rattle.part_turns.proofs.MachineLemmas.{seen_sound}
+use Rattle.part_turns.proofs.MachineLemmas.{seen_sound, words_stay}
 use Rattle.part_turns.proofs.TurnLemmas.{turn_shown}
 
 -- ---- the moments of a run
@@ -60,19 +61,21 @@ module _ {T S U V : Type 0} (w : PolicyModel T S) (m : PolicyModel U V) (l : Vie
     promises : Promised promise before (seen trace.events)
     kept : line (before ++ seen trace.events) (seen_by l trace.machine)
 
-  keeps_on : (before : List (Event U)) (s : Machine S T) (feed : List ℕ) (items : List Item) → l.is_on s.policy ≡ true → IsMachine w s
+  keeps_on : (before : List (Event U)) (s : Machine S T) (feed : Tape) (items : List Item) → l.is_on s.policy ≡ true → IsMachine w s
       → holds s.policy → line before (seen_by l s) → KeepsOn before (run_along w s feed items)
   keeps_on before s feed [] on is valid held = record {
     promises = none_promised promise before;
     kept = subst (λ (turns : List (Event U)). line turns (seen_by l s)) (sym (append-nil before)) held;
   }
-  keeps_on before s feed (fed byte ∷ items) on is valid held = keeps_on before s (feed ++ byte ∷ []) items on is valid held
+  keeps_on before s feed (fed byte ∷ items) on is valid held = keeps_on before s (with_fed feed (byte ∷ [])) items on is valid held
   keeps_on before s feed (turn h ∷ items) on is valid held =
       let e = event_with l.tag (event_of w s feed h) in
       let next = turn_of w s feed h in
       let shown = turn_shown w m l holds laws part s on feed h in
       let whole = turn_keeps w holds laws s valid is feed h in
-      let now = keeps.turn before (seen_by l s) h e (seen_by l next.machine) (seen_sound w m l part s on is) held (shown.turns is valid) in
+      let now =
+      keeps.turn before (seen_by l s) h e (seen_by l next.machine) (seen_sound w m l part s on is) held (shown.turns is valid)
+      (words_stay w l holds laws s is valid feed h) in
       let trace = run_along w next.machine next.feed items in
       let rest : KeepsOn (before ++ e ∷ []) trace =
       keeps_on (before ++ e ∷ []) next.machine next.feed items shown.stays_on whole.stays.machine whole.valid now.1 in
@@ -81,7 +84,7 @@ module _ {T S U V : Type 0} (w : PolicyModel T S) (m : PolicyModel U V) (l : Vie
         kept = subst (λ (turns : List (Event U)). line turns (seen_by l trace.machine)) (append_assoc before (e ∷ []) (seen trace.events)) rest.kept;
       }
 
-  pub runs_keep : (s : Machine S T) (feed : List ℕ) (items : List Item) → l.is_on s.policy ≡ true → IsMachine w s → holds s.policy
+  pub runs_keep : (s : Machine S T) (feed : Tape) (items : List Item) → l.is_on s.policy ≡ true → IsMachine w s → holds s.policy
       → line [] (seen_by l s) → RunKeeps l line promise (run_along w s feed items)
   runs_keep s feed items on is valid held =
       let run = keeps_on [] s feed items on is valid held in

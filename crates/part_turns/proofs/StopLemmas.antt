@@ -15,7 +15,7 @@ use Rattle.turn_steps.specs.declared.stop.Stop.{Stop}
 use Rattle.turn_steps.specs.declared.stop.Stop.TheVariants as stop
 use Rattle.engine_trait.specs.Events.{is_retiring}
 use Rattle.engine_trait.specs.Machine.{Machine, hart_at}
-use Rattle.engine_trait.specs.Turn.{rule_answer, is_offered, service_look, or_fault, or_unserved, or_violation, turn_job, preparation, service_on, service_stop, violation}
+use Rattle.engine_trait.specs.Turn.{rule_answer, rule_inputs, is_offered, service_look, or_fault, or_unserved, or_violation, turn_job, preparation, service_on, service_stop, violation}
 use Rattle.engine_trait.specs.declared.ends.TurnEnd.TheVariants as ends
 
 -- a turn that stops so does not retire
@@ -34,21 +34,21 @@ violated pc (Ok x) why e = absurd cc
 violated {A} pc (Err refused) why e = stops_as A (violation pc refused) why refl e
 
 module _ {S T : Type 0} (w : PolicyModel T S) (s : Machine S T) (h : ℕ) (why : Stop) where
-  by_offer : (look : Look T) (is_so : Bool) → (if is_so then Ok look else Err (stop.Fault (NoService look.service))) ≡ Err why → StopsUnretired why
+  by_offer : (look : Look) (is_so : Bool) → (if is_so then Ok look else Err (stop.Fault (NoService look.service))) ≡ Err why → StopsUnretired why
   by_offer look true e = absurd cc
-  by_offer look false e = stops_as (Look T) (stop.Fault (NoService look.service)) why refl e
+  by_offer look false e = stops_as Look (stop.Fault (NoService look.service)) why refl e
 
-  by_check : (found : Result (Look T) Fault) → (or_fault found >>= service_look w s) ≡ Err why → StopsUnretired why
+  by_check : (found : Result Look Fault) → (or_fault found >>= service_look w s) ≡ Err why → StopsUnretired why
   by_check (Ok look) e = by_offer look (is_offered w s look) e
-  by_check (Err fault) e = stops_as (Look T) (stop.Fault fault) why refl e
+  by_check (Err fault) e = stops_as Look (stop.Fault fault) why refl e
 
   pub checked_stops : preparation w s h ≡ Err why → StopsUnretired why
   unfolding preparation
   checked_stops e = by_check (look_result (hart_at s.core h) s.core.ram) e
 
-  pub refused_stops : (look : Look T) → rule_answer w s h look ≡ Err why → StopsUnretired why
+  pub refused_stops : (look : Look) → rule_answer w s h look ≡ Err why → StopsUnretired why
   unfolding rule_answer
-  refused_stops look e = violated (hart_at s.core h).pc (w.rule s.policy look.group look.inputs) why e
+  refused_stops look e = violated (hart_at s.core h).pc (w.rule s.policy look.group (rule_inputs s.core h look)) why e
 
   by_end : (pc service : ℕ) (end : PlanEnd) → failed (Option (Job T)) (service_stop pc service end) ≡ Err why → StopsUnretired why
   by_end pc service (plan_end.Refused refused) e = stops_as (Option (Job T)) (violation pc refused) why refl e
@@ -60,6 +60,6 @@ module _ {S T : Type 0} (w : PolicyModel T S) (s : Machine S T) (h : ℕ) (why :
   by_call pc service true (Err end) e = by_end pc service end e
   by_call pc service false given e = absurd cc
 
-  pub unserved_stops : (look : Look T) (outs : Outs T) → turn_job w s h look outs ≡ Err why → StopsUnretired why
+  pub unserved_stops : (look : Look) (outs : Outs T) → turn_job w s h look outs ≡ Err why → StopsUnretired why
   unfolding turn_job
   unserved_stops look outs e = by_call (hart_at s.core h).pc look.service (is_call look.group) (service_on w s h look outs) e

@@ -1,13 +1,14 @@
 -- A turn under a whole policy is, for a part of it that is on, one of those that the part allows.
 use Rattle.std.specs.Option.{ForSome}
-use Rattle.std.proofs.Common.{◌≡◌, ℕ, Bool, true, false, List, Option, Some, None, Result, Ok, Err, option_map, refl, ap, sym, subst, ◌∙◌, if◌then◌else◌}
+use Rattle.std.proofs.Common.{◌≡◌, ℕ, Bool, true, false, Option, Some, None, Result, Ok, Err, option_map, refl, ap, sym, subst, ◌∙◌, if◌then◌else◌}
 use Rattle.rv_decode.specs.declared.groups.Group.{Group}
 use Rattle.rv_decode.specs.declared.groups.Group.TheVariants as group
 use Rattle.rv_step.specs.declared.accesses.Access.TheVariants as access
 use Rattle.policy_trait.specs.PolicyLaws.{IsRange, KeepsLaws}
-use Rattle.policy_trait.specs.Maps.{args_by, ok_by, outs_by, plan_by}
+use Rattle.policy_trait.specs.Maps.{args_by, ins_by, outs_by, plan_by}
 use Rattle.policy_trait.specs.Model.{PolicyModel}
 use Rattle.shared_terms.specs.Steps.{◌>>=◌}
+use Rattle.policy_trait.specs.declared.rules.Ins.{Ins}
 use Rattle.policy_trait.specs.declared.rules.Outs.{Outs}
 use Rattle.policy_trait.specs.declared.rules.Refused.{Refused}
 use Rattle.policy_trait.specs.declared.services.Args.{Args}
@@ -20,8 +21,8 @@ use Rattle.monitor_calls.specs.Ranges.{IsJobOf}
 use Rattle.monitor_calls.specs.Service.{Job, retagged_range}
 use Rattle.monitor_calls.proofs.JobLemmas.{is_job}
 use Rattle.turn_steps.specs.Effects.{result_value}
+use Rattle.turn_steps.specs.Feeds.{Tape}
 use Rattle.turn_steps.specs.Looks.{is_call, look_result}
-use Rattle.turn_steps.specs.Maps.{look_by}
 use Rattle.turn_steps.specs.Services.{args_on}
 use Rattle.turn_steps.specs.declared.look.Look.{Look}
 use Rattle.turn_steps.specs.declared.stop.Stop.{Stop}
@@ -29,11 +30,11 @@ use Rattle.turn_steps.proofs.MapLemmas.{looked_by}
 use Rattle.engine_trait.specs.Events.{Call, Event, asked_in, called_in, event_by, event_of, is_retiring, touched_in, work_in}
 use Rattle.engine_trait.specs.Machine.{CoreState, IsMachine, Machine, hart_at, is_ready_in}
 use Rattle.engine_trait.specs.Maps.{core_by, words_by}
-use Rattle.engine_trait.specs.Turn.{Turned, rule_answer, carried_at, core_effected, turn_effect, job_at, or_violation, turn_job, preparation, service_on, settlement, turn_of}
+use Rattle.engine_trait.specs.Turn.{Turned, rule_answer, carried_at, core_effected, turn_effect, job_at, or_violation, turn_job, preparation, rule_inputs, service_on, settlement, turn_of}
 use Rattle.engine_trait.specs.declared.ends.TurnEnd.{TurnEnd}
 use Rattle.engine_trait.specs.declared.ends.TurnEnd.TheVariants as ends
 use Rattle.engine_trait.proofs.MachineLemmas.{Prepares, can_plan, known_call, plans, prepared_is}
-use Rattle.engine_trait.proofs.MapLemmas.{args_on_by, core_effected_by, core_served_by, hart_at_by}
+use Rattle.engine_trait.proofs.MapLemmas.{args_on_by, core_effected_by, core_served_by, hart_at_by, rule_inputs_by}
 use Rattle.engine_trait.proofs.MirrorLemmas.{ready_by}
 use Rattle.engine_trait.proofs.TurnLemmas.{event_idle, job_ruled, turn_checked, turn_idle, turn_refused, turn_ruled}
 use Rattle.policy_parts.specs.Part.{IsPart, Planned, beside_others}
@@ -69,7 +70,7 @@ module _ {T S U V : Type 0} (w : PolicyModel T S) (m : PolicyModel U V) (l : Vie
     pub stays_on : l.is_on left.policy ≡ true
 
 module _ {T S U V : Type 0} (w : PolicyModel T S) (m : PolicyModel U V) (l : View T S U V) (holds : S → Type 0) (laws : KeepsLaws w holds)
-    (part : IsPart w m l) (s : Machine S T) (on : l.is_on s.policy ≡ true) (feed : List ℕ) (h : ℕ) where
+    (part : IsPart w m l) (s : Machine S T) (on : l.is_on s.policy ≡ true) (feed : Tape) (h : ℕ) where
   abbrev own : Machine V U
   own = seen_by l s
 
@@ -86,13 +87,13 @@ module _ {T S U V : Type 0} (w : PolicyModel T S) (m : PolicyModel U V) (l : Vie
   arguments = args_on hart s.core.ram
 
   -- the event of a ready hart
-  abbrev event_as : TurnEnd → Result (Look T) Stop → Result (Option (Job T)) Stop → Event T
+  abbrev event_as : TurnEnd → Result Look Stop → Result (Option (Job T)) Stop → Event T
   event_as ended found job = record {
     hart = h;
     pc = hart.pc;
     word = ram_word s.core.ram hart.pc;
     ended = ended;
-    asked = asked_in found;
+    asked = asked_in s.core h found;
     access = touched_in found;
     call = called_in arguments found;
     work = work_in job;
@@ -102,7 +103,7 @@ module _ {T S U V : Type 0} (w : PolicyModel T S) (m : PolicyModel U V) (l : Vie
   ShownTurn = Shown w m l holds s h (event_of w s feed h) (turn_of w s feed h).machine
 
   -- the same of a turn whose steps are known
-  abbrev ShownAs : Turned S T → Result (Look T) Stop → Result (Option (Job T)) Stop → Type 0
+  abbrev ShownAs : Turned S T → Result Look Stop → Result (Option (Job T)) Stop → Type 0
   ShownAs turned found job = Shown w m l holds s h (event_as turned.ended found job) turned.machine
 
   -- ---- a hart that waits
@@ -133,13 +134,13 @@ module _ {T S U V : Type 0} (w : PolicyModel T S) (m : PolicyModel U V) (l : Vie
     unfolding event_of
     event_is = ap (event_by w s feed h) ready
 
-    shown : (turned : Turned S T) (found : Result (Look T) Stop) (job : Result (Option (Job T)) Stop)
+    shown : (turned : Turned S T) (found : Result Look Stop) (job : Result (Option (Job T)) Stop)
         → turn_of w s feed h ≡ turned → preparation w s h ≡ found → job_at w s h ≡ job → ShownAs turned found job → ShownTurn
     shown turned found job turned_is found_is job_is given =
         subst (λ (after : Turned S T). Shown w m l holds s h (event_of w s feed h) after.machine) (sym turned_is)
         (subst (λ e. Shown w m l holds s h e turned.machine) (sym (event_is ∙ (λ j. event_as (turned_is j).ended (found_is j) (job_is j)))) given)
 
-    stop_shown : (why : Stop) (found : Result (Look T) Stop) → StopsUnretired why → ShownAs (settlement w s feed h (Err why)) found (Err why)
+    stop_shown : (why : Stop) (found : Result Look Stop) → StopsUnretired why → ShownAs (settlement w s feed h (Err why)) found (Err why)
     stop_shown why found unretired = record {
       turns = λ sound valid. stops why own_ready refl unretired (no_work (option_map (call_by l.tag) (called_in arguments found))) refl;
       stays_on = on;
@@ -147,38 +148,41 @@ module _ {T S U V : Type 0} (w : PolicyModel T S) (m : PolicyModel U V) (l : Vie
 
     -- ---- that the rule allows
 
-    module _ (look : Look T) (outs : Outs T) (look_is : preparation w s h ≡ Ok look) (outs_are : rule_answer w s h look ≡ Ok outs) where
-      abbrev own_look : Look U
-      own_look = look_by l.tag look
-
+    module _ (look : Look) (outs : Outs T) (look_is : preparation w s h ≡ Ok look) (outs_are : rule_answer w s h look ≡ Ok outs) where
       abbrev own_outs : Outs U
       own_outs = outs_by l.tag outs
 
       found : Prepares w s h look
       found = prepared_is w s h look look_is
 
-      facts : Looks own_hart own.core.ram own_look
+      facts : Looks own_hart own.core.ram look
       facts =
-          looks own_hart own.core.ram own_look
+          looks own_hart own.core.ram look
           (ap (λ (seen : HartState U). look_result seen own.core.ram) hart_is
           ∙ looked_by l.tag hart s.core.ram
-          ∙ ap (ok_by (look_by l.tag)) found.looked_is)
+          ∙ found.looked_is)
 
-      rule_is : w.rule s.policy look.group look.inputs ≡ Ok outs
+      abbrev inputs : Ins T
+      inputs = rule_inputs s.core h look
+
+      inputs_are : rule_inputs own.core h look ≡ ins_by l.tag inputs
+      inputs_are = rule_inputs_by l.tag s.core h look
+
+      rule_is : w.rule s.policy look.group inputs ≡ Ok outs
       unfolding rule_answer
-      rule_is = ruled hart.pc (w.rule s.policy look.group look.inputs) outs outs_are
+      rule_is = ruled hart.pc (w.rule s.policy look.group inputs) outs outs_are
 
       allows : (ended : TurnEnd) (job : Result (Option (Job T)) Stop) → is_retiring ended ≡ true
-          → Allows m own h own_look own_outs (event_with l.tag (event_as ended (Ok look) job))
+          → Allows m own h look own_outs (event_with l.tag (event_as ended (Ok look) job))
       allows ended job retiring = record {
         ready = own_ready;
         seen = facts.seen;
-        rule = part.rule s.policy look.group look.inputs outs on rule_is;
+        rule = ap (m.rule own.policy look.group) inputs_are ∙ part.rule s.policy look.group inputs outs on rule_is;
         is_retired = retiring;
         hart = refl;
         pc = ap (λ (seen : HartState U). seen.pc) (sym hart_is);
         word = ap (λ (seen : HartState U). ram_word s.core.ram seen.pc) (sym hart_is) ∙ sym facts.seen.word;
-        asked = refl;
+        asked = ap (λ (given : Ins U). Some (record { group = look.group; inputs = given })) (sym inputs_are);
         access = refl;
       }
 
@@ -187,25 +191,25 @@ module _ {T S U V : Type 0} (w : PolicyModel T S) (m : PolicyModel U V) (l : Vie
       abbrev own_left : CoreState U
       own_left = core_by l.tag (core_effected s.core feed h look outs)
 
-      left_is : Leaves own.core h own_look own_outs own_left
+      left_is : Leaves own.core h look own_outs own_left
       left_is =
-          subst (Leaves own.core h own_look own_outs) (core_effected_by l.tag s.core feed h look outs)
-          (leaves own.core h own_look own_outs feed facts.does)
+          subst (Leaves own.core h look own_outs) (core_effected_by l.tag s.core feed h look outs)
+          (leaves own.core h look own_outs feed facts.does)
 
       abbrev effect_event : Event U
       effect_event = event_with l.tag (event_as (turn_effect w s feed h look outs None).ended (Ok look) (Ok None))
 
-      allows_effect : Allows m own h own_look own_outs effect_event
+      allows_effect : Allows m own h look own_outs effect_event
       allows_effect = allows (turn_effect w s feed h look outs None).ended (Ok None) (retires (carried_at s.core feed h look outs).done)
 
       serves_none : service_of effect_event ≡ None
       serves_none = no_work (option_map (call_by l.tag) (called_in arguments (Ok look)))
 
-      effect_turns : Leaves own.core h own_look own_outs own_left → Turns m own h effect_event (record own { core = own_left })
+      effect_turns : Leaves own.core h look own_outs own_left → Turns m own h effect_event (record own { core = own_left })
       effect_turns (halts code is none left) =
-          exits own_look own_outs code allows_effect serves_none is none (ap (λ (core : CoreState U). record own { core = core }) left)
+          exits look own_outs code allows_effect serves_none is none (ap (λ (core : CoreState U). record own { core = core }) left)
       effect_turns (moves_on register value does left) =
-          goes own_look own_outs register value allows_effect serves_none does (ap (λ (core : CoreState U). record own { core = core }) left)
+          goes look own_outs register value allows_effect serves_none does (ap (λ (core : CoreState U). record own { core = core }) left)
 
       effect_shown : ShownAs (turn_effect w s feed h look outs None) (Ok look) (Ok None)
       effect_shown = record { turns = λ sound valid. effect_turns left_is; stays_on = on }
@@ -245,7 +249,7 @@ module _ {T S U V : Type 0} (w : PolicyModel T S) (m : PolicyModel U V) (l : Vie
         service_is = ap (λ is_so. service_by (option_map (call_by l.tag) (call_if is_so)) job_event.work) call ∙ ap service_with args_are
 
         served_is : seen_by l (turn_effect w s feed h look outs (Some job)).machine
-            ≡ after_service m own h own_look own_outs own_plan (words_by l.tag job.words)
+            ≡ after_service m own h look own_outs own_plan (words_by l.tag job.words)
         served_is = λ j. record {
           policy = part.commit s.policy job.plan on known j;
           core = sym (core_served_by l.tag s.core h job.words job.plan.answer look.effect.next outs.pc) j;
@@ -253,7 +257,7 @@ module _ {T S U V : Type 0} (w : PolicyModel T S) (m : PolicyModel U V) (l : Vie
 
         no_store : look.effect.access ≡ access.None
         no_store =
-            no_access own_hart own.core.ram own_look own_look.result (result_value own.core.ram look.effect.value look.effect.access)
+            no_access own_hart own.core.ram look look.places.result (result_value own.core.ram look.effect.value look.effect.access)
             (ap is_computing (call_is look.group call)) facts.does
 
         words_are : retagged_range (beside_others m) own.policy (ram_word own.core.ram) (ram_tag own.core.ram) own_plan own_plan.range
@@ -264,7 +268,7 @@ module _ {T S U V : Type 0} (w : PolicyModel T S) (m : PolicyModel U V) (l : Vie
 
         job_turns : IsMachine w s → holds s.policy → Turns m own h job_event (seen_by l (turn_effect w s feed h look outs (Some job)).machine)
         job_turns sound valid =
-            serves own_look own_outs own_plan (words_by l.tag job.words) (allows (ends.Ran None) (Ok (Some job)) refl)
+            serves look own_outs own_plan (words_by l.tag job.words) (allows (ends.Ran None) (Ok (Some job)) refl)
             (call_is look.group call) no_store service_is
             (subst (λ (asked : Args U). Planned m own.policy look.service asked own_outs.pc own_plan) args_are plan_is)
             (ranged sound valid) words_are served_is
@@ -296,7 +300,7 @@ module _ {T S U V : Type 0} (w : PolicyModel T S) (m : PolicyModel U V) (l : Vie
 
     -- ---- each end of the steps before
 
-    by_rule : (look : Look T) → preparation w s h ≡ Ok look → (answer : Result (Outs T) Stop) → rule_answer w s h look ≡ answer → ShownTurn
+    by_rule : (look : Look) → preparation w s h ≡ Ok look → (answer : Result (Outs T) Stop) → rule_answer w s h look ≡ answer → ShownTurn
     unfolding job_at
     by_rule look look_is (Ok outs) is = by_plan look outs look_is is (turn_job w s h look outs) refl
     by_rule look look_is (Err why) is =
@@ -304,7 +308,7 @@ module _ {T S U V : Type 0} (w : PolicyModel T S) (m : PolicyModel U V) (l : Vie
         (ap (λ found. found >>= λ l. rule_answer w s h l >>= λ o. turn_job w s h l o) look_is ∙ ap (λ answer. answer >>= λ o. turn_job w s h look o) is)
         (stop_shown why (Ok look) (refused_stops w s h why look is))
 
-    by_look : (found : Result (Look T) Stop) → preparation w s h ≡ found → ShownTurn
+    by_look : (found : Result Look Stop) → preparation w s h ≡ found → ShownTurn
     unfolding job_at
     by_look (Ok look) is = by_rule look is (rule_answer w s h look) refl
     by_look (Err why) is =

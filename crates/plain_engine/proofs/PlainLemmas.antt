@@ -1,11 +1,12 @@
 -- Steps of an engine that keeps no rules, by where the turn ended.
-use Rattle.std.proofs.Common.{◌≡◌, ℕ, Bool, true, false, List, Option, Some, None, Result, Ok, Err, IsOk, refl, ap, sym, ◌∙◌, inr, subst, if◌then◌else◌}
+use Rattle.std.proofs.Common.{◌≡◌, ℕ, Bool, true, false, Option, Some, None, Result, Ok, Err, IsOk, refl, ap, sym, ◌∙◌, inr, subst, if◌then◌else◌}
 use Rattle.std.proofs.lemmas.Bool.{false≢true}
 use Rattle.policy_trait.specs.Model.{PolicyModel}
 use Rattle.shared_terms.specs.Steps.{◌>>=◌}
 use Rattle.policy_trait.specs.declared.rules.Outs.{Outs}
 use Rattle.policy_trait.specs.declared.services.PlanEnd.{PlanEnd}
 use Rattle.monitor_calls.specs.Service.{Job}
+use Rattle.turn_steps.specs.Feeds.{Tape}
 use Rattle.turn_steps.specs.Looks.{is_call}
 use Rattle.turn_steps.specs.declared.look.Look.{Look}
 use Rattle.turn_steps.specs.declared.stop.Stop.{Stop}
@@ -21,9 +22,9 @@ use Rattle.engine_trait.proofs.StepLemmas.{plain_step, ready_parts}
 use Rattle.engine_trait.proofs.TurnLemmas.{job_ruled, rule_looked, turn_checked, turn_refused, turn_ruled}
 use Rattle.plain_engine.specs.Plain.{EndsService, after_look_up, after_turn, allowed_turn, given_up}
 
-module _ {S T : Type 0} (m : PolicyModel T S) (s : Machine S T) (h : ℕ) (look : Look T) (outs : Outs T) where
+module _ {S T : Type 0} (m : PolicyModel T S) (s : Machine S T) (h : ℕ) (look : Look) (outs : Outs T) where
   -- an instruction that is no call of a policy's service has its own effect
-  pub own_turn : (feed : List ℕ) → is_call look.group ≡ false → allowed_turn m s feed h look outs ≡ turn_effect m s feed h look outs None
+  pub own_turn : (feed : Tape) → is_call look.group ≡ false → allowed_turn m s feed h look outs ≡ turn_effect m s feed h look outs None
   unfolding turn_job
   own_turn feed own =
       ap (λ call. settlement m s feed h ((if call then or_unserved (hart_at s.core h).pc look.service (service_on m s h look outs) else Ok None) >>= λ job. Ok (turn_effect m s feed h look outs job))) own
@@ -51,11 +52,11 @@ module _ {S T : Type 0} (m : PolicyModel T S) (s : Machine S T) (h : ℕ) (look 
   call_served looked ruled call given = ap is_job (call_job looked ruled call given).1
 
 -- a step as its parts tell it
-pub told : {S T : Type 0} (s : Stepped S T) (e f : Standing S T) (feed fed : List ℕ) (end ended : TurnEnd) → s ≡ record { standing = e; feed = feed; ended = end }
+pub told : {S T : Type 0} (s : Stepped S T) (e f : Standing S T) (feed fed : Tape) (end ended : TurnEnd) → s ≡ record { standing = e; feed = feed; ended = end }
     → f ≡ e → fed ≡ feed → ended ≡ end → s ≡ record { standing = f; feed = fed; ended = ended }
 told s e f feed fed end ended s_is f_is fed_is ended_is = s_is ∙ λ j. record { standing = sym f_is j; feed = sym fed_is j; ended = sym ended_is j }
 
-module _ {S T : Type 0} (eq : T → T → Bool) (m : PolicyModel T S) (e : Standing S T) (feed : List ℕ) (h : ℕ) (plain : IsUncached e.account) (ready : is_ready e h ≡ true) where
+module _ {S T : Type 0} (eq : T → T → Bool) (m : PolicyModel T S) (e : Standing S T) (feed : Tape) (h : ℕ) (plain : IsUncached e.account) (ready : is_ready e h ≡ true) where
   abbrev stepped_to : Account T → Turned S T → Stepped S T
   stepped_to account turned = record { standing = record { machine = turned.machine; account = account }; feed = turned.feed; ended = turned.ended }
 
@@ -80,7 +81,7 @@ module _ {S T : Type 0} (eq : T → T → Bool) (m : PolicyModel T S) (e : Stand
   after_rule = record e.account { misses = next_count e.account.misses; turns = next_count e.account.turns }
 
   -- the rule refused
-  pub refused_step : (look : Look T) (why : Stop) (asked f : Standing S T) (ended : TurnEnd) → preparation m e.machine h ≡ Ok look → asked ≡ after_look_up e
+  pub refused_step : (look : Look) (why : Stop) (asked f : Standing S T) (ended : TurnEnd) → preparation m e.machine h ≡ Ok look → asked ≡ after_look_up e
       → rule_answer m asked.machine h look ≡ Err why → f ≡ after_turn asked (stopped_at asked.machine h why) → ended ≡ ends.Stopped why
       → step eq m e feed h ≡ record { standing = f; feed = feed; ended = ended }
   refused_step look why asked f ended looked asked_is =
@@ -93,7 +94,7 @@ module _ {S T : Type 0} (eq : T → T → Bool) (m : PolicyModel T S) (e : Stand
       f_is refl ended_is)
 
   -- the rule allowed
-  allowed_step : (look : Look T) (outs : Outs T) (turned : Turned S T) (f : Standing S T) (fed : List ℕ) (ended : TurnEnd)
+  allowed_step : (look : Look) (outs : Outs T) (turned : Turned S T) (f : Standing S T) (fed : Tape) (ended : TurnEnd)
       → preparation m e.machine h ≡ Ok look → rule_answer m e.machine h look ≡ Ok outs → allowed_turn m e.machine feed h look outs ≡ turned
       → f ≡ after_turn (after_look_up e) turned.machine → fed ≡ turned.feed → ended ≡ turned.ended
       → step eq m e feed h ≡ record { standing = f; feed = fed; ended = ended }
@@ -104,14 +105,14 @@ module _ {S T : Type 0} (eq : T → T → Bool) (m : PolicyModel T S) (e : Stand
       (turn_ruled m e.machine feed h look outs (ready_parts e h ready).1 looked ruled ∙ turned_is))
       f_is fed_is ended_is
 
-  pub service_step : (look : Look T) (outs : Outs T) (asked f : Standing S T) (ended : TurnEnd) → preparation m e.machine h ≡ Ok look → asked ≡ after_look_up e
+  pub service_step : (look : Look) (outs : Outs T) (asked f : Standing S T) (ended : TurnEnd) → preparation m e.machine h ≡ Ok look → asked ≡ after_look_up e
       → rule_answer m asked.machine h look ≡ Ok outs → EndsService m asked h look outs ended f
       → step eq m e feed h ≡ record { standing = f; feed = feed; ended = ended }
   service_step look outs asked f ended looked asked_is =
       subst (λ (x : Standing S T). rule_answer m x.machine h look ≡ Ok outs → EndsService m x h look outs ended f → step eq m e feed h ≡ record { standing = f; feed = feed; ended = ended }) (sym asked_is)
       (λ ruled served. allowed_step look outs (record { machine = f.machine; feed = feed; ended = ended }) f feed ended looked ruled (served.turned feed) served.standing refl refl)
 
-  pub effect_step : (look : Look T) (outs : Outs T) (asked f : Standing S T) (fed : List ℕ) (ended : TurnEnd) → preparation m e.machine h ≡ Ok look → asked ≡ after_look_up e
+  pub effect_step : (look : Look) (outs : Outs T) (asked f : Standing S T) (fed : Tape) (ended : TurnEnd) → preparation m e.machine h ≡ Ok look → asked ≡ after_look_up e
       → rule_answer m asked.machine h look ≡ Ok outs → is_call look.group ≡ false
       → f ≡ after_turn asked (turn_effect m asked.machine feed h look outs None).machine
       → fed ≡ (turn_effect m asked.machine feed h look outs None).feed → ended ≡ (turn_effect m asked.machine feed h look outs None).ended
@@ -124,7 +125,7 @@ module _ {S T : Type 0} (eq : T → T → Bool) (m : PolicyModel T S) (e : Stand
       (λ ruled own. allowed_step look outs (turn_effect m e.machine feed h look outs None) f fed ended looked ruled (own_turn m e.machine h look outs feed own))
 
   -- memory ran out in a service that nothing refuses
-  pub gives_up : (look : Look T) (outs : Outs T) (asked f : Standing S T) → preparation m e.machine h ≡ Ok look → asked ≡ after_look_up e → rule_answer m asked.machine h look ≡ Ok outs
+  pub gives_up : (look : Look) (outs : Outs T) (asked f : Standing S T) → preparation m e.machine h ≡ Ok look → asked ≡ after_look_up e → rule_answer m asked.machine h look ≡ Ok outs
       → is_call look.group ≡ true → IsOk (service_on m asked.machine h look outs) → f ≡ given_up asked → GivesUp eq m e feed h f feed
   gives_up look outs asked f looked asked_is =
       subst (λ (x : Standing S T). rule_answer m x.machine h look ≡ Ok outs → is_call look.group ≡ true → IsOk (service_on m x.machine h look outs) → f ≡ given_up x → GivesUp eq m e feed h f feed) (sym asked_is)
@@ -146,7 +147,7 @@ module _ {S T : Type 0} (eq : T → T → Bool) (m : PolicyModel T S) (e : Stand
         });
       }))
 
-  pub unrefused : (look : Look T) (outs : Outs T) (asked : Standing S T) → preparation m e.machine h ≡ Ok look → asked ≡ after_look_up e → rule_answer m asked.machine h look ≡ Ok outs
+  pub unrefused : (look : Look) (outs : Outs T) (asked : Standing S T) → preparation m e.machine h ≡ Ok look → asked ≡ after_look_up e → rule_answer m asked.machine h look ≡ Ok outs
       → is_call look.group ≡ true → IsOk (service_on m asked.machine h look outs) → is_served m e.machine h ≡ true
   unrefused look outs asked looked asked_is =
       subst (λ (x : Standing S T). rule_answer m x.machine h look ≡ Ok outs → is_call look.group ≡ true → IsOk (service_on m x.machine h look outs) → is_served m e.machine h ≡ true) (sym asked_is)

@@ -5,6 +5,7 @@ use Rattle.shared_terms.specs.Steps.{◌>>=◌}
 use Rattle.policy_trait.specs.declared.rules.Outs.{Outs}
 use Rattle.tag_memory.specs.Hart.{HartState}
 use Rattle.tag_memory.specs.Ram.{RamState}
+use Rattle.turn_steps.specs.Feeds.{Tape}
 use Rattle.turn_steps.specs.declared.look.Look.{Look}
 use Rattle.engine_trait.specs.Accounts.{IsUncached, plain_account}
 use Rattle.shared_terms.specs.Counts.{next_count}
@@ -49,10 +50,10 @@ abbrev pub given_up : {S T : Type 0} → Standing S T → Standing S T
 given_up e = record e { account = record e.account { halt = Some halt.Memory } }
 
 -- what is left of a turn that the rule allowed
-abbrev pub allowed_turn : {S T : Type 0} → PolicyModel T S → Machine S T → List ℕ → ℕ → Look T → Outs T → Turned S T
+abbrev pub allowed_turn : {S T : Type 0} → PolicyModel T S → Machine S T → Tape → ℕ → Look → Outs T → Turned S T
 allowed_turn m s feed h look outs = settlement m s feed h (turn_job m s h look outs >>= λ job. Ok (turn_effect m s feed h look outs job))
 
 -- a call of a policy's service that the rule allowed ended as defined, and the turn counts
-pub record EndsService {S T : Type 0} (m : PolicyModel T S) (e : Standing S T) (h : ℕ) (look : Look T) (outs : Outs T) (ended : TurnEnd) (f : Standing S T) : Type 0 where
-  pub turned : (feed : List ℕ) → allowed_turn m e.machine feed h look outs ≡ record { machine = f.machine; feed = feed; ended = ended }
+pub record EndsService {S T : Type 0} (m : PolicyModel T S) (e : Standing S T) (h : ℕ) (look : Look) (outs : Outs T) (ended : TurnEnd) (f : Standing S T) : Type 0 where
+  pub turned : (feed : Tape) → allowed_turn m e.machine feed h look outs ≡ record { machine = f.machine; feed = feed; ended = ended }
   pub standing : f ≡ after_turn e f.machine

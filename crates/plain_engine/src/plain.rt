@@ -1,14 +1,15 @@
 //! The engine that keeps tags as values and asks its policy at every turn.
 
-ghost use Rattle.std.specs.Prelude.{◌≡◌, ◌≢◌, ◌+◌, ◌%◌, ◌<◌, ◌≤◌, [], Err, Ok, Some, None, IfErr, IfOk, IsOk, IsTrue, false, true, length};
+ghost use Rattle.std.specs.Prelude.{◌≡◌, ◌≢◌, ◌+◌, ◌%◌, ◌<◌, ◌≤◌, [], Err, Ok, Some, None, IfErr, IfOk, IsOk, IsTrue, OnOk, false, true, length};
 ghost use Rattle.std.specs.List.{All};
 ghost use Rattle.policy_trait.specs.Model.{IsGiven};
 ghost use Rattle.monitor_calls.specs.Ends.{EndsAs, job_by};
 ghost use Rattle.turn_steps.specs.Effects.{IsSound};
+ghost use Rattle.turn_steps.specs.Feeds.{tape_of};
 ghost use Rattle.tag_memory.specs.Hart.{reg_tag, reg_value};
 ghost use Rattle.tag_memory.specs.Ram.{IsPlace, ram_bytes, ram_tag, ram_word};
 ghost use Rattle.engine_trait.specs.Accounts.{IsUncached};
-ghost use Rattle.engine_trait.specs.Machine.{IsMachine, stop_at};
+ghost use Rattle.engine_trait.specs.Machine.{IsMachine, hart_at, stop_at};
 ghost use Rattle.engine_trait.specs.Standing.{GivesUp, IsFailure, StopsOnly, Unchanged, is_ready, step};
 ghost use Rattle.engine_trait.specs.Turn.{rule_answer, turn_effect, is_offered, is_served, preparation, service_on, stopped_at};
 ghost use Rattle.turn_steps.specs.Looks.{is_call};
@@ -76,7 +77,7 @@ impl<P: Policy> Plain<P> {
 
     /// Whether the service that is called, if one is, is one that the machine or the policy offers.
     #[inline(always)]
-    fn is_offered(&self, look: &Look<P::Tag>) -> bool
+    fn is_offered(&self, look: &Look) -> bool
         ensures { result ≡ is_offered P.model self.now.machine look.now }
     {
         !is_call(look.group) || self.policy.knows(look.service)
@@ -85,9 +86,11 @@ impl<P: Policy> Plain<P> {
     /// The checks of hart `h`'s turn.
     #[inline(always)]
     #[tactic(auto, unfolding(engine_trait::specs::Turn::preparation))]
-    fn prepare(&self, h: u32) -> Result<Look<P::Tag>, Stop>
+    fn prepare(&self, h: u32) -> Result<Look, Stop>
         requires { h < length self.now.machine.core.harts }
         ensures value { result ≡ preparation P.model self.now.machine h }
+        ensures within { OnOk result ((hart_at self.now.machine.core h).pc + 4
+            ≤ ram_bytes self.now.machine.core.ram) }
         ensures sound { IfOk result
             (λ look. IsSound (ram_bytes self.now.machine.core.ram) look.effect) }
         ensures offered { IfOk result (λ look. is_offered P.model self.now.machine look ≡ true) }
@@ -102,14 +105,17 @@ impl<P: Policy> Plain<P> {
         Ok(look)
     }
 
-    /// The answer of the rule.
+    /// The answer of the rule, which is asked with the tags as they stand.
     #[inline(always)]
     #[tactic(auto, unfolding(engine_trait::specs::Turn::rule_answer))]
-    fn ask(&self, h: u32, look: &Look<P::Tag>) -> Result<Outs<P::Tag>, Stop>
-        requires { h < length self.now.machine.core.harts }
+    fn ask(&self, h: u32, look: &Look) -> Result<Outs<P::Tag>, Stop>
+        requires hart { h < length self.now.machine.core.harts }
+        requires within { (hart_at self.now.machine.core h).pc + 4
+            ≤ ram_bytes self.now.machine.core.ram }
+        requires sound { IsSound (ram_bytes self.now.machine.core.ram) look.now.effect }
         ensures { result ≡ rule_answer P.model self.now.machine h look.now }
     {
-        match self.policy.rule(look.group, look.inputs) {
+        match self.policy.rule(look.group, self.core.inputs(h, look)) {
             Ok(outs) => Ok(outs),
             Err(refused) => Err(self.core.violation(h, refused)),
         }
@@ -145,13 +151,7 @@ impl<P: Policy> Plain<P> {
 
     /// The effect of an allowed instruction that is no service of the policy.
     #[inline(always)]
-    fn effect(
-        &mut self,
-        h: u32,
-        feed: &mut Feed,
-        look: &Look<P::Tag>,
-        outs: Outs<P::Tag>,
-    ) -> TurnEnd
+    fn effect(&mut self, h: u32, feed: &mut Feed, look: &Look, outs: Outs<P::Tag>) -> TurnEnd
         requires hart { h < length self.old.machine.core.harts }
         requires own { is_call look.now.group ≡ false }
         requires sound { IsSound (ram_bytes self.old.machine.core.ram) look.now.effect }
@@ -172,7 +172,7 @@ impl<P: Policy> Plain<P> {
 
     /// The policy's service that hart `h` calls, up to its effect.
     #[tactic(auto, unfolding(engine_trait::specs::Turn::service_on))]
-    fn plan(&self, h: u32, look: &Look<P::Tag>, outs: Outs<P::Tag>) -> Result<Job<P::Tag>, ServeEnd>
+    fn plan(&self, h: u32, look: &Look, outs: Outs<P::Tag>) -> Result<Job<P::Tag>, ServeEnd>
         requires hart { h < length self.now.machine.core.harts }
         requires known { IsTrue (P.model.knows self.now.machine.policy look.now.service) }
         ensures ok { IfOk result (λ job. service_on P.model self.now.machine h look.now outs
@@ -198,21 +198,15 @@ impl<P: Policy> Plain<P> {
     }
 
     /// Carries out a service that nothing refused. The policy takes note first, since that alone can fail.
-    fn carry_out(
-        &mut self,
-        h: u32,
-        look: &Look<P::Tag>,
-        outs: Outs<P::Tag>,
-        job: &Job<P::Tag>,
-    ) -> TurnEnd
+    fn carry_out(&mut self, h: u32, look: &Look, outs: Outs<P::Tag>, job: &Job<P::Tag>) -> TurnEnd
         requires hart { h < length self.old.machine.core.harts }
         requires given { IsGiven P.model self.old.machine.policy job.now.plan }
         requires places { All (λ word. IsPlace (ram_bytes self.old.machine.core.ram) word.0)
             job.now.words.items }
         requires aligned { look.now.effect.next % 4 ≡ 0 }
         ensures served { result ≢ TurnEnd.Memory
-            → self.new ≡ after_turn self.old (turn_effect P.model self.old.machine [] h look.now
-            outs (Some (job_by job.now.plan job.now.words.items))).machine }
+            → self.new ≡ after_turn self.old (turn_effect P.model self.old.machine (tape_of []) h
+            look.now outs (Some (job_by job.now.plan job.now.words.items))).machine }
         ensures memory { result ≡ TurnEnd.Memory → self.new ≡ given_up self.old }
         ensures end { result ≢ TurnEnd.Memory → result ≡ TurnEnd.Ran None }
         ensures harts { length self.new.machine.core.harts ≡ length self.old.machine.core.harts }
@@ -230,7 +224,7 @@ impl<P: Policy> Plain<P> {
     /// A call of a policy's service that the rule allowed.
     #[inline(never)]
     #[tactic(auto, unfolding(engine_trait::specs::Turn::turn_job))]
-    fn service(&mut self, h: u32, look: &Look<P::Tag>, outs: Outs<P::Tag>) -> TurnEnd
+    fn service(&mut self, h: u32, look: &Look, outs: Outs<P::Tag>) -> TurnEnd
         requires hart { h < length self.old.machine.core.harts }
         requires call { is_call look.now.group ≡ true }
         requires known { IsTrue (P.model.knows self.old.machine.policy look.now.service) }

@@ -10,7 +10,7 @@ use Rattle.policy_product.specs.Both.{IsApart, both}
 use Rattle.policy_product.specs.Maybe.{knows_in, lend_in, maybe, room_in}
 use Rattle.policy_product.specs.declared.maybe.Maybe.{Maybe}
 use Rattle.policy_choice.specs.All.{all, choice_state, compartments_of, flat_all, heap_of, pair_of}
-use Rattle.policy_choice.specs.declared.choice.Choice.{Choice}
+use Rattle.policy_choice.specs.declared.basis.Basis.{Basis}
 use Rattle.policy_choice.specs.Flat.{parts_of}
 use Rattle.policy_choice.specs.Told.{IsToldAs}
 use Rattle.policy_choice.proofs.FlatLemmas.{told_flat}
@@ -102,10 +102,10 @@ heap_room : (on : Bool) (state : HeapState) (ram : ℕ) → heap.room state ≤ 
 heap_room true state ram fits = fits
 heap_room false state ram fits = omega arith
 
-pub room_of_chosen : (choice : Choice) (g : Picture) → heap.room (heap_of g) ≤ g.ram → all.room (choice_state choice g) ≤ g.ram
-room_of_chosen choice g fits =
-    let seal = seal_room choice.seal in
-    let comp = comp_room choice.comp (compartments_of g) in
-    let flow_is = flow_room choice.flow (map pair_of g.edges) in
-    let last = heap_room choice.heap (heap_of g) g.ram fits in
+pub room_of_chosen : (basis : Basis) (g : Picture) → heap.room (heap_of g) ≤ g.ram → all.room (choice_state basis g) ≤ g.ram
+room_of_chosen basis g fits =
+    let seal = seal_room basis.choice.seal in
+    let comp = comp_room basis.choice.comp (compartments_of g) in
+    let flow_is = flow_room basis.choice.flow (map pair_of g.edges) in
+    let last = heap_room basis.choice.heap (heap_of g) g.ram fits in
     grind (arith, seal, comp, flow_is, last)

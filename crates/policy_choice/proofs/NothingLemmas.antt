@@ -8,7 +8,7 @@ use Rattle.policy_product.specs.Nothing.{nothing, no_tag}
 use Rattle.policy_product.specs.declared.nothing.Nothing.{Nothing}
 use Rattle.policy_choice.specs.All.{AllState, all, choice_state, part_if}
 use Rattle.policy_choice.specs.Choice.{is_none}
-use Rattle.policy_choice.specs.declared.choice.Choice.{Choice}
+use Rattle.policy_choice.specs.declared.basis.Basis.{Basis}
 
 -- all policies together with each of them off
 abbrev pub all_off : AllState
@@ -23,8 +23,8 @@ off_if false true flow on_heap counts edges region none = absurd (cc none)
 off_if false false true on_heap counts edges region none = absurd (cc none)
 off_if false false false true counts edges region none = absurd (cc none)
 
-pub none_is_off : (choice : Choice) (g : Picture) → is_none choice ≡ true → choice_state choice g ≡ all_off
-none_is_off choice g none = off_if choice.seal choice.comp choice.flow choice.heap _ _ _ none
+pub none_is_off : (basis : Basis) (g : Picture) → is_none basis.choice ≡ true → choice_state basis g ≡ all_off
+none_is_off basis g none = off_if basis.choice.seal basis.choice.comp basis.choice.flow basis.choice.heap _ _ _ none
 
 mirrors_off : (s : Nothing) → Mirrors no_tag all all_off nothing s
 mirrors_off s = record {
@@ -36,5 +36,5 @@ mirrors_off s = record {
   start_word = λ b. refl;
 }
 
-pub nothing_mirrors : (choice : Choice) (g : Picture) (s : Nothing) → is_none choice ≡ true → Mirrors no_tag all (choice_state choice g) nothing s
-nothing_mirrors choice g s none = subst (λ (state : AllState). Mirrors no_tag all state nothing s) (sym (none_is_off choice g none)) (mirrors_off s)
+pub nothing_mirrors : (basis : Basis) (g : Picture) (s : Nothing) → is_none basis.choice ≡ true → Mirrors no_tag all (choice_state basis g) nothing s
+nothing_mirrors basis g s none = subst (λ (state : AllState). Mirrors no_tag all state nothing s) (sym (none_is_off basis g none)) (mirrors_off s)

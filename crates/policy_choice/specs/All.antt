@@ -24,7 +24,7 @@ use Rattle.heap_policy.specs.declared.tag.HeapTag.{HeapTag}
 use Rattle.policy_product.specs.Both.{both}
 use Rattle.policy_product.specs.Maybe.{maybe}
 use Rattle.policy_product.specs.declared.maybe.Maybe.{Maybe}
-use Rattle.policy_choice.specs.declared.choice.Choice.{Choice}
+use Rattle.policy_choice.specs.declared.basis.Basis.{Basis}
 use Rattle.policy_choice.specs.Flat.{Four, flat, flat_lent, owner_plan}
 
 abbrev pub AllTag : Type 0
@@ -64,12 +64,12 @@ abbrev pub part_if : {S : Type 0} → Bool → S → Maybe S
 part_if chosen s = record { part = if chosen then Some s else None }
 
 -- the chosen policies at the start of an image, before anything was asked of them
-abbrev pub choice_state : Choice → Picture → AllState
-choice_state choice g = (
-  part_if choice.seal 0,
+abbrev pub choice_state : Basis → Picture → AllState
+choice_state basis g = (
+  part_if basis.choice.seal 0,
   (
-    part_if choice.comp (compartments_of g),
-    (part_if choice.flow (map pair_of g.edges), part_if choice.heap (heap_of g)),
+    part_if basis.choice.comp (compartments_of g),
+    (part_if basis.choice.flow (map pair_of g.edges), part_if basis.choice.heap (heap_of g)),
   ),
 )
 

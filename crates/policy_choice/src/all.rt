@@ -8,7 +8,7 @@ ghost use Rattle.policy_choice.specs.All.{all, all_lent, all_owner_plan, choice_
 ghost use Rattle.policy_choice.specs.All.{pair_of, part_if};
 ghost use Rattle.policy_choice.specs.Flat.{parts_of};
 
-use crate::choice::Choice;
+use crate::basis::Basis;
 use crate::parts::{ignored_by_both, lend_to_others, show_before, word_tag};
 use crate::tag::{
     AllTag, Comps, Flows, Heaps, Seals, comp_among, comp_plan, flow_among, flow_plan, heap_among,
@@ -106,14 +106,17 @@ fn heap_of(alloc: Global, image: &Image) -> Heap
 
 /// The chosen policies at the start of the image, before anything was asked of them; the others are off. The image says how
 /// many compartments there are, the edges, and where the heap region is; its memory has the bytes that they count on. The only error is want of memory.
-pub fn choose(alloc: Global, choice: Choice, image: &Image) -> Result<All, AllocError>
-    ensures value { IfOk result (λ policy. policy ≡ choice_state choice image.now) }
+pub fn choose(alloc: Global, basis: Basis, image: &Image) -> Result<All, AllocError>
+    ensures value { IfOk result (λ policy. policy ≡ choice_state basis image.now) }
     ensures room { IfOk result (λ policy. all.room policy ≤ image.now.ram) }
 {
-    let seal = part_if(choice.seal, Sealing::new());
-    let comp = part_if(choice.comp, Compartments::new(compartment_count(image)));
-    let flow = flow_of(alloc, choice.flow, image)?;
-    let heap = part_if(choice.heap, heap_of(alloc, image));
+    let seal = part_if(basis.choice.seal, Sealing::new());
+    let comp = part_if(
+        basis.choice.comp,
+        Compartments::new(compartment_count(image)),
+    );
+    let flow = flow_of(alloc, basis.choice.flow, image)?;
+    let heap = part_if(basis.choice.heap, heap_of(alloc, image));
     Ok(Together {
         seal,
         comp,

@@ -9,7 +9,7 @@ ghost use Rattle.policy_choice.specs.All.{all, choice_state, flat_all};
 ghost use Rattle.policy_choice.specs.Choice.{is_none};
 ghost use Rattle.policy_choice.specs.Flat.{parts_of};
 ghost use Rattle.policy_choice.specs.Told.{IsToldAs};
-ghost use Rattle.policy_choice.specs.declared.choice.Choice.{Choice};
+ghost use Rattle.policy_choice.specs.declared.basis.Basis.{Basis};
 
 /// All policies together, nested as they are, are the four told flat: each question goes to sealing, compartments, control
 /// flow and heap safety in this order, and the first of them that refuses is named. The function does nothing.
@@ -20,6 +20,6 @@ pub fn flat_law()
 /// Where no policy is chosen, the policy that is nothing has the rules of all policies together, but that its tags have no
 /// content. The function does nothing.
 pub fn nothing_law()
-    ensures { (choice : Choice) (g : Picture) (s : Nothing) → is_none choice ≡ true
-        → Mirrors no_tag all (choice_state choice g) nothing s }
+    ensures { (basis : Basis) (g : Picture) (s : Nothing) → is_none basis.choice ≡ true
+        → Mirrors no_tag all (choice_state basis g) nothing s }
 {}

@@ -3,6 +3,7 @@ use Rattle.std.proofs.Common.{◌≡◌, ℕ, ◌≤◌, ◌==◌, nat_lt, Bool,
 use Rattle.std.proofs.lemmas.Bool.{eqb-true, le-ltb}
 use Rattle.std.proofs.lemmas.Bool.Decides.{nat_tests}
 use Rattle.image_format.specs.Picture.{Picture}
+use Rattle.turn_steps.specs.Feeds.{tape_of}
 use Rattle.engine_trait.specs.Accounts.{is_over}
 use Rattle.engine_trait.specs.Standing.{Standing}
 use Rattle.policy_choice.specs.All.{AllState, AllTag, all, all_eq}
@@ -16,7 +17,7 @@ use Rattle.pump_loader.specs.Loads.{cached_start_of}
 use Rattle.pump_loader.proofs.BareLemmas.{bare_start_mirrors}
 use Rattle.pump_line.specs.Task.{RunTask}
 use Rattle.pump_cli.specs.Endings.{last_pieces, outcome_of_course, status_of}
-use Rattle.pump_cli.specs.Program.{outcome_of_run, standing_at_start}
+use Rattle.pump_cli.specs.Program.{basis_of, outcome_of_run, standing_at_start}
 use Rattle.pump_cli.proofs.NoneRunLemmas.{none_runs, none_start}
 use Rattle.pump_cli.proofs.StartLemmas.{cached_outcome, started_within, uncached_outcome}
 
@@ -33,29 +34,29 @@ same_outcome course other same = λ j. record {
 
 module _ (task : RunTask) (picture : Picture) (fed : List ℕ) (none : is_none task.choice ≡ true) (some_tags : 1 ≤ task.tags) where
   abbrev cached : Standing AllState AllTag
-  cached = cached_start_of task.choice task.cache task.tags picture
+  cached = cached_start_of (basis_of task.choice) task.cache task.tags picture
 
   -- one tag alone has a word at the start
   within : is_over cached.account ≡ false
   within =
-      ap (λ (seen : List AllTag). nat_lt task.tags (length seen)) (none_start task.choice picture none) ∙ le-ltb task.tags 1 some_tags
+      ap (λ (seen : List AllTag). nat_lt task.tags (length seen)) (none_start (basis_of task.choice) picture none) ∙ le-ltb task.tags 1 some_tags
 
   -- where rules may be kept, the run shows what it shows without
   kept_outcome : 1 ≤ task.cache
-      → outcome_of_course (rounds all_eq all task.turns 0 (start_of task.choice picture) fed) ≡ outcome_of_run task picture fed
+      → outcome_of_course (rounds all_eq all task.turns 0 (start_of (basis_of task.choice) picture) (tape_of fed)) ≡ outcome_of_run task picture fed
   kept_outcome some =
-      same_outcome (rounds all_eq all task.turns 0 cached fed) (rounds all_eq all task.turns 0 (start_of task.choice picture) fed)
-      (none_runs task.choice task.cache task.tags picture task.turns 0 fed none some_tags)
-      ∙ ap (λ (start : Standing AllState AllTag). outcome_of_course (rounds all_eq all task.turns 0 start fed)) (sym (started_within cached within))
+      same_outcome (rounds all_eq all task.turns 0 cached (tape_of fed)) (rounds all_eq all task.turns 0 (start_of (basis_of task.choice) picture) (tape_of fed))
+      (none_runs (basis_of task.choice) task.cache task.tags picture task.turns 0 (tape_of fed) none some_tags)
+      ∙ ap (λ (start : Standing AllState AllTag). outcome_of_course (rounds all_eq all task.turns 0 start (tape_of fed))) (sym (started_within cached within))
       ∙ cached_outcome task picture fed some
 
   plain_by : (keeps_none : Bool) → (task.cache == 0) ≡ keeps_none
-      → outcome_of_course (rounds all_eq all task.turns 0 (start_of task.choice picture) fed) ≡ outcome_of_run task picture fed
+      → outcome_of_course (rounds all_eq all task.turns 0 (start_of (basis_of task.choice) picture) (tape_of fed)) ≡ outcome_of_run task picture fed
   plain_by true is = uncached_outcome task picture fed (eqb-true task.cache 0 is)
   plain_by false is = kept_outcome (grind (arith, nat_tests, is))
 
-  pub bare_outcome : outcome_of_course (rounds one_eq nothing task.turns 0 (standing_at_start (bare_start_of picture)) fed) ≡ outcome_of_run task picture fed
+  pub bare_outcome : outcome_of_course (rounds one_eq nothing task.turns 0 (standing_at_start (bare_start_of picture)) (tape_of fed)) ≡ outcome_of_run task picture fed
   bare_outcome =
-      same_outcome (rounds all_eq all task.turns 0 (start_of task.choice picture) fed) (rounds one_eq nothing task.turns 0 (bare_start_of picture) fed)
-      (rounds_same all_eq one_eq no_tag all nothing task.turns 0 (start_of task.choice picture) (bare_start_of picture) fed (bare_start_mirrors task.choice picture none))
+      same_outcome (rounds all_eq all task.turns 0 (start_of (basis_of task.choice) picture) (tape_of fed)) (rounds one_eq nothing task.turns 0 (bare_start_of picture) (tape_of fed))
+      (rounds_same all_eq one_eq no_tag all nothing task.turns 0 (start_of (basis_of task.choice) picture) (bare_start_of picture) (tape_of fed) (bare_start_mirrors (basis_of task.choice) picture none))
       ∙ plain_by (task.cache == 0) refl

@@ -1,6 +1,7 @@
 -- How a run came to its status: the turns that it made, or the want of tag words.
 use Rattle.std.proofs.Common.{◌≡◌, ℕ, Bool, true, false, List, [], Option, Some, None, Result, Ok, Err, IfSome, ◌==◌, if◌then◌else◌, refl}
 use Rattle.image_format.specs.Picture.{Picture}
+use Rattle.turn_steps.specs.Feeds.{tape_of}
 use Rattle.turn_steps.specs.declared.stop.Stop.{Stop}
 use Rattle.turn_steps.specs.declared.stop.Stop.TheVariants as stop
 use Rattle.engine_trait.specs.Accounts.{Account, is_over, plain_account}
@@ -12,7 +13,7 @@ use Rattle.rounds.proofs.SpentLemmas.{rounds_have_memory, rounds_spent, turn_is_
 use Rattle.pump_loader.specs.Loads.{cached_start_of}
 use Rattle.pump_line.specs.Task.{RunTask, Task, assemble, disassemble, load, run, shell, task_of}
 use Rattle.pump_cli.specs.Endings.{Outcome, has_any, is_of, is_out, status_of, status_of_stops}
-use Rattle.pump_cli.specs.Program.{course_of_run, outcome_of_content, outcome_of_fed, outcome_of_image, outcome_of_input, outcome_of_load, outcome_of_picture, outcome_of_run, outcome_of_words, program, run_of_load, start_of_run, started_account}
+use Rattle.pump_cli.specs.Program.{basis_of, course_of_run, outcome_of_content, outcome_of_fed, outcome_of_image, outcome_of_input, outcome_of_load, outcome_of_picture, outcome_of_run, outcome_of_words, program, run_of_load, start_of_run, started_account}
 use Rattle.pump_cli.specs.Reading.{content_of, content_read, input_read}
 use Rattle.pump_cli.specs.Runs.{AfterContent, AfterFed, AfterImage, AfterInput, AfterPicture, AfterWords, AnySession, IsOut, IsSpent, TheRun}
 use Rattle.pump_cli.specs.declared.ending.Kind.TheVariants.{Ready}
@@ -80,9 +81,9 @@ module _ (task : RunTask) (picture : Picture) where
   started_by false account none = λ e. let h : account.halt ≡ None = none in cc
 
   start_by : (keeps_none : Bool)
-      → (started_account (if keeps_none then plain_account else (cached_start_of task.choice task.cache task.tags picture).account)).halt ≡ Some halt.Memory → ⊥
+      → (started_account (if keeps_none then plain_account else (cached_start_of (basis_of task.choice) task.cache task.tags picture).account)).halt ≡ Some halt.Memory → ⊥
   start_by true = started_by (is_over {T = AllTag} plain_account) plain_account refl
-  start_by false = started_by (is_over (cached_start_of task.choice task.cache task.tags picture).account) (cached_start_of task.choice task.cache task.tags picture).account refl
+  start_by false = started_by (is_over (cached_start_of (basis_of task.choice) task.cache task.tags picture).account) (cached_start_of (basis_of task.choice) task.cache task.tags picture).account refl
 
   module _ (fed : List ℕ) where
     abbrev the_course : Course AllState AllTag
@@ -92,12 +93,12 @@ module _ (task : RunTask) (picture : Picture) where
     Ended status = status ≡ status_of the_course.standing.account.halt (hart_stops the_course.standing.machine.core)
 
     has_memory : the_course.standing.account.halt ≡ Some halt.Memory → ⊥
-    has_memory = rounds_have_memory all_eq all task.turns 0 (start_of_run task picture) fed (start_by (task.cache == 0))
+    has_memory = rounds_have_memory all_eq all task.turns 0 (start_of_run task picture) (tape_of fed) (start_by (task.cache == 0))
 
     spent_left : LeftReady the_course.standing.account.halt (hart_stops the_course.standing.machine.core) → IsSpent task picture fed
     spent_left left =
         let next = turn_is_next the_course.standing (is_of Ready) stopped_is_not_ready (no_halt the_course.standing.account.halt left.within has_memory) left.ready in
-        record { turns = rounds_spent all_eq all task.turns 0 (start_of_run task picture) fed next.0 next.1; ready = left.ready }
+        record { turns = rounds_spent all_eq all task.turns 0 (start_of_run task picture) (tape_of fed) next.0 next.1; ready = left.ready }
 
     run_spent : Ended statuses.TurnsSpent → IsSpent task picture fed
     run_spent e = spent_left (spent_by the_course.standing.account.halt (hart_stops the_course.standing.machine.core) (is_out the_course.standing.account.halt) refl e)

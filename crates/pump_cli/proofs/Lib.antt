@@ -11,6 +11,7 @@ mod OneTagLemmas
 mod OneTagRunLemmas
 pub mod SafeRunLemmas
 pub mod SessionLemmas
+mod SessionRunLemmas
 pub mod StartLemmas
 pub mod TaskLemmas
 pub mod WayLemmas

@@ -9,8 +9,9 @@ use Rattle.heap_policy.specs.Heap.{HeapState}
 use Rattle.policy_trait.specs.Model.{PolicyModel}
 use Rattle.policy_choice.specs.All.{AllState, AllTag, all, all_eq, choice_state, part_if}
 use Rattle.policy_choice.specs.Choice.{is_none}
-use Rattle.policy_choice.specs.declared.choice.Choice.{Choice}
+use Rattle.policy_choice.specs.declared.basis.Basis.{Basis}
 use Rattle.tag_memory.specs.Hart.{HartState}
+use Rattle.turn_steps.specs.Feeds.{Tape}
 use Rattle.engine_trait.specs.Accounts.{Account, plain_account, with_tags}
 use Rattle.engine_trait.specs.Machine.{Machine}
 use Rattle.rounds.specs.Course.{rounds}
@@ -40,8 +41,8 @@ one_tag_if false false true on_heap counts edges region none = absurd (cc none)
 one_tag_if false false false true counts edges region none = absurd (cc none)
 
 -- its policy has one tag
-none_has_one : (choice : Choice) (g : Picture) → is_none choice ≡ true → HasOneTag all_eq all (choice_state choice g)
-none_has_one choice g none = one_tag_if choice.seal choice.comp choice.flow choice.heap _ _ _ none
+none_has_one : (basis : Basis) (g : Picture) → is_none basis.choice ≡ true → HasOneTag all_eq all (choice_state basis g)
+none_has_one basis g none = one_tag_if basis.choice.seal basis.choice.comp basis.choice.flow basis.choice.heap _ _ _ none
 
 -- ---- the start
 
@@ -64,17 +65,17 @@ module _ {S T : Type 0} (eq : T → T → Bool) (m : PolicyModel T S) (policy : 
   start_plain = with_plain eq (m.plain policy) one_tag.same (pc_tags m policy g ++ start_tags m policy g) (All-append IsPlain (pc_tags m policy g) (start_tags m policy g) pcs_plain words_plain)
 
 -- where no policy is chosen too
-pub none_start : (choice : Choice) (g : Picture) → is_none choice ≡ true → with_tags all_eq [] (first_tags all (choice_state choice g) g) ≡ all.plain (choice_state choice g) ∷ []
-none_start choice g none = start_plain all_eq all (choice_state choice g) (none_has_one choice g none) g
+pub none_start : (basis : Basis) (g : Picture) → is_none basis.choice ≡ true → with_tags all_eq [] (first_tags all (choice_state basis g) g) ≡ all.plain (choice_state basis g) ∷ []
+none_start basis g none = start_plain all_eq all (choice_state basis g) (none_has_one basis g none) g
 
 -- ---- the rounds
 
 -- an account where just the plain tag has a word, and that of an engine that keeps no rules
-pub none_shows : (choice : Choice) (g : Picture) (s : Machine AllState AllTag) (a : Account AllTag) (turns from : ℕ) (feed : List ℕ) → is_none choice ≡ true
-    → s.policy ≡ choice_state choice g → a.seen ≡ all.plain s.policy ∷ [] → 1 ≤ a.limit → a.halt ≡ None
+pub none_shows : (basis : Basis) (g : Picture) (s : Machine AllState AllTag) (a : Account AllTag) (turns from : ℕ) (feed : Tape) → is_none basis.choice ≡ true
+    → s.policy ≡ choice_state basis g → a.seen ≡ all.plain s.policy ∷ [] → 1 ≤ a.limit → a.halt ≡ None
     → ShowsSame (rounds all_eq all turns from (record { machine = s; account = a }) feed) (rounds all_eq all turns from (record { machine = s; account = plain_account }) feed)
-none_shows choice g s a turns from feed none policy seen some_tags runs =
-    beside_same all_eq all (choice_state choice g) (none_has_one choice g none) turns from (record { machine = s; account = a }) (record { machine = s; account = plain_account }) feed
+none_shows basis g s a turns from feed none policy seen some_tags runs =
+    beside_same all_eq all (choice_state basis g) (none_has_one basis g none) turns from (record { machine = s; account = a }) (record { machine = s; account = plain_account }) feed
     (record {
       machine = refl;
       policy_is = policy;
@@ -84,8 +85,8 @@ none_shows choice g s a turns from feed none policy seen some_tags runs =
     })
 
 -- an engine that keeps rules, from the image's start, shows the same as one that keeps none
-pub none_runs : (choice : Choice) (cache tags : ℕ) (g : Picture) (turns from : ℕ) (feed : List ℕ) → is_none choice ≡ true → 1 ≤ tags
-    → ShowsSame (rounds all_eq all turns from (cached_start_of choice cache tags g) feed) (rounds all_eq all turns from (start_of choice g) feed)
+pub none_runs : (basis : Basis) (cache tags : ℕ) (g : Picture) (turns from : ℕ) (feed : Tape) → is_none basis.choice ≡ true → 1 ≤ tags
+    → ShowsSame (rounds all_eq all turns from (cached_start_of basis cache tags g) feed) (rounds all_eq all turns from (start_of basis g) feed)
 unfolding start_machine
-none_runs choice cache tags g turns from feed none some_tags =
-    none_shows choice g (start_machine all (choice_state choice g) g) (cached_start_of choice cache tags g).account turns from feed none refl (none_start choice g none) some_tags refl
+none_runs basis cache tags g turns from feed none some_tags =
+    none_shows basis g (start_machine all (choice_state basis g) g) (cached_start_of basis cache tags g).account turns from feed none refl (none_start basis g none) some_tags refl

@@ -14,7 +14,7 @@ use Rattle.turn_steps.specs.declared.stop.Stop.{Stop}
 use Rattle.engine_trait.specs.Accounts.{Account, Key, account_after_turn, after_look, after_rule, after_service, is_kept, is_over, keeping, key_of, look_counted, looked_up, rule_counted, rule_kept, seeing, with_tag, with_tags}
 use Rattle.shared_terms.specs.Counts.{next_count}
 use Rattle.engine_trait.specs.Machine.{Machine, hart_at}
-use Rattle.engine_trait.specs.Turn.{rule_answer, job_at, or_violation, preparation}
+use Rattle.engine_trait.specs.Turn.{job_at, or_violation, preparation, rule_answer, rule_inputs}
 use Rattle.engine_trait.proofs.MirrorLemmas.{prepared_own}
 use Rattle.engine_trait.proofs.TurnLemmas.{planned_own}
 
@@ -97,18 +97,18 @@ module _ {S T : Type 0} (eq : T → T → Bool) (m : PolicyModel T S) (s : Machi
 
   -- ---- its account
 
-  allowed_plain : (look : Look T) → rule_answer m s h look ≡ Ok (record { pc = m.plain s.policy; result = m.plain s.policy })
+  allowed_plain : (look : Look) → rule_answer m s h look ≡ Ok (record { pc = m.plain s.policy; result = m.plain s.policy })
   unfolding rule_answer
-  allowed_plain look = ap (or_violation (hart_at s.core h).pc) (one_tag.rule look.group look.inputs)
+  allowed_plain look = ap (or_violation (hart_at s.core h).pc) (one_tag.rule look.group (rule_inputs s.core h look))
 
   abbrev OneWord : Account T → Type 0
   OneWord account = HasOneWord (m.plain s.policy) account
 
-  after_look_plain : (found : Result (Look T) Stop) (a : Account T) → OneWord a → OneWord (after_look eq m s h found a)
+  after_look_plain : (found : Result Look Stop) (a : Account T) → OneWord a → OneWord (after_look eq m s h found a)
   after_look_plain (Ok look) a one = looked_up_plain eq (m.plain s.policy) one_tag.same (key_of eq m s h look) a one
   after_look_plain (Err why) a one = one
 
-  after_rule_plain : (found : Result (Look T) Stop) (a : Account T) → OneWord a → OneWord (after_rule eq m s h found a)
+  after_rule_plain : (found : Result Look Stop) (a : Account T) → OneWord a → OneWord (after_rule eq m s h found a)
   after_rule_plain (Ok look) a one = rule_kept_plain eq (m.plain s.policy) one_tag.same (key_of eq m s h look) a (rule_answer m s h look) (allowed_plain look) one
   after_rule_plain (Err why) a one = one
 

@@ -2,6 +2,7 @@
 use Rattle.std.proofs.Common.{◌≡◌, ℕ, zero, suc, ◌+◌, Bool, true, false, ◌&&◌, List, ◌∷◌, ◌++◌, Option, Some, None, refl, ap, sym, subst, ◌∙◌, if◌then◌else◌}
 use Rattle.host_io.specs.Pieces.{Piece}
 use Rattle.policy_trait.specs.Model.{PolicyModel}
+use Rattle.turn_steps.specs.Feeds.{Tape}
 use Rattle.engine_trait.specs.Accounts.{IsUncached, account_after_turn}
 use Rattle.engine_trait.specs.EngineLaws.{is_made}
 use Rattle.engine_trait.specs.Machine.{Machine, is_ready_in}
@@ -39,7 +40,7 @@ module _ {S T : Type 0} (eq : T → T → Bool) (m : PolicyModel T S) (policy : 
 
     -- ---- a step
 
-    module _ (feed : List ℕ) (h : ℕ) where
+    module _ (feed : Tape) (h : ℕ) where
       ready_is : is_ready d h ≡ is_ready e h
       ready_is =
           ap (λ (halt : Option Halt). is_running halt && is_ready_in d.machine.core h) beside.halt
@@ -88,7 +89,7 @@ module _ {S T : Type 0} (eq : T → T → Bool) (m : PolicyModel T S) (policy : 
         ap (λ (halt : Option Halt). if is_running halt then next_hart d.machine.core from else None) beside.halt
         ∙ ap (λ (s : Machine S T). if is_running e.account.halt then next_hart s.core from else None) beside.machine
 
-    stays_same : (feed : List ℕ) → ShowsSame (stays e feed) (stays d feed)
+    stays_same : (feed : Tape) → ShowsSame (stays e feed) (stays d feed)
     stays_same feed = record {
       shown = refl;
       order = refl;
@@ -97,12 +98,12 @@ module _ {S T : Type 0} (eq : T → T → Bool) (m : PolicyModel T S) (policy : 
       halt = beside.halt;
     }
 
-    taken_same : (feed : List ℕ) (next : Option ℕ) (go go_along : ℕ → Course S T) → ((h : ℕ) → ShowsSame (go h) (go_along h))
+    taken_same : (feed : Tape) (next : Option ℕ) (go go_along : ℕ → Course S T) → ((h : ℕ) → ShowsSame (go h) (go_along h))
         → ShowsSame (taking next (stays e feed) go) (taking next (stays d feed) go_along)
     taken_same feed None go go_along each = stays_same feed
     taken_same feed (Some h) go go_along each = each h
 
-    after_same : (feed : List ℕ) (h : ℕ) (others others_along : Course S T) → ShowsSame others others_along
+    after_same : (feed : Tape) (h : ℕ) (others others_along : Course S T) → ShowsSame others others_along
         → ShowsSame (after_step eq m e feed h others) (after_step eq m d feed h others_along)
     after_same feed h others others_along same =
         let steps = step_beside feed h in
@@ -128,10 +129,10 @@ module _ {S T : Type 0} (eq : T → T → Bool) (m : PolicyModel T S) (policy : 
               ∙ sym (ap (λ (standing : Standing S T). standing.account.halt) (after-standing h _ others _));
         }
 
-  abbrev RoundsSame : ℕ → ℕ → Standing S T → Standing S T → List ℕ → List ℕ → Type 0
+  abbrev RoundsSame : ℕ → ℕ → Standing S T → Standing S T → Tape → Tape → Type 0
   RoundsSame limit from e d feed fed = ShowsSame (rounds eq m limit from e feed) (rounds eq m limit from d fed)
 
-  pub beside_same : (limit from : ℕ) (e d : Standing S T) (feed : List ℕ) → GoesBeside e d → RoundsSame limit from e d feed feed
+  pub beside_same : (limit from : ℕ) (e d : Standing S T) (feed : Tape) → GoesBeside e d → RoundsSame limit from e d feed feed
   unfolding rounds
   beside_same zero from e d feed beside = stays_same e d beside feed
   beside_same (suc k) from e d feed beside =

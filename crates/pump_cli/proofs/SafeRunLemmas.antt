@@ -14,13 +14,14 @@ use Rattle.asm_emit.proofs.ImageLemmas.{are_images}
 use Rattle.asm_emit.specs.Assembled.{image_of_source}
 use Rattle.asm_read.specs.declared.errors.AsmError.{AsmError}
 use Rattle.workload.specs.Source.{source_of_workload}
+use Rattle.turn_steps.specs.Feeds.{tape_of}
 use Rattle.engine_trait.specs.Runs.{Trace, turn}
 use Rattle.policy_choice.specs.All.{AllState, AllTag, all, all_eq}
 use Rattle.rounds.proofs.RunLemmas.{rounds_are_run}
 use Rattle.run_props.proofs.RunLemmas.{run_is_safe}
 use Rattle.run_props.specs.Safe.{IsSafe}
 use Rattle.pump_line.specs.Task.{RunTask, ShellTask, Task, assemble, disassemble, load, run, shell, task_of}
-use Rattle.pump_cli.specs.Program.{course_of_run, run_of_load, start_of_run}
+use Rattle.pump_cli.specs.Program.{basis_of, course_of_run, run_of_load, start_of_run}
 use Rattle.pump_cli.specs.Reading.{content_of, content_read, file_as, file_limit, image_or_refusal, image_read, input_read, source_or_refusal, source_read}
 use Rattle.pump_cli.specs.Runs.{AfterContent, AfterFed, AfterImage, AfterInput, AfterLines, AfterPicture, AfterWords, EachRun, HoldsOfLines, HoldsOfRun, IsSafeRun, items_after_lines}
 use Rattle.pump_cli.specs.declared.refusal.Refusal.{Refusal}
@@ -78,11 +79,11 @@ source_is_image bytes g e = assembled_within (nat_le (length bytes) 33554432) by
 -- ---- the run
 
 -- rounds are a run along the list of their turns
-safe_course : (task : RunTask) (g : Picture) (fed : List ℕ) → IsImage g → IsSafe task.choice g (course_of_run task g fed).events
+safe_course : (task : RunTask) (g : Picture) (fed : List ℕ) → IsImage g → IsSafe (basis_of task.choice) g (course_of_run task g fed).events
 safe_course task g fed is =
-    subst (λ (trace : Trace AllState AllTag). IsSafe task.choice g trace.events)
-    (sym (rounds_are_run all_eq all task.turns 0 (start_of_run task g) fed))
-    (run_is_safe task.choice g fed (map turn (course_of_run task g fed).order) is)
+    subst (λ (trace : Trace AllState AllTag). IsSafe (basis_of task.choice) g trace.events)
+    (sym (rounds_are_run all_eq all task.turns 0 (start_of_run task g) (tape_of fed)))
+    (run_is_safe (basis_of task.choice) g (tape_of fed) (map turn (course_of_run task g fed).order) is)
 
 safe_fed : (task : RunTask) (g : Picture) (fed : Result (List ℕ) Refusal) → IsImage g → AfterFed SafeRan SafeObeyed task g fed
 safe_fed task g (Ok fed) is = safe_course task g fed is
@@ -95,7 +96,7 @@ safe_input task g (Some input) is = safe_fed task g (input_read input) is
 -- a session has made a run along some list of turns and fed bytes
 safe_lines : (task : ShellTask) (g : Picture) (input : Option (List ℕ)) → IsImage g → AfterLines SafeRan SafeObeyed task g input
 safe_lines task g None is = tt
-safe_lines task g (Some input) is = λ front rest due. run_is_safe task.choice g [] (items_after_lines task g front) is
+safe_lines task g (Some input) is = λ front rest due. run_is_safe (basis_of task.choice) g (tape_of []) (items_after_lines task g front) is
 
 safe_picture : (task : Task) (g : Picture) (input : Option (List ℕ)) → IsImage g → AfterPicture SafeRan SafeObeyed task g input
 safe_picture (run task) g input is = safe_input task g input is

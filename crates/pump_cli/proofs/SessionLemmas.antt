@@ -3,21 +3,24 @@ use Rattle.std.proofs.Common.{◌≡◌, ◌⊎◌, inl, inr, ℕ, ◌<◌, List
 use Rattle.image_format.specs.Picture.{Picture}
 use Rattle.host_io.specs.Pieces.{PutsAll, Taken}
 use Rattle.host_io.specs.TwoSinks.{OneRose, PutFaults, on_out}
+use Rattle.policy_choice.specs.declared.basis.Basis.{Basis}
+use Rattle.engine_trait.specs.Accounts.{is_over}
 use Rattle.host_io.proofs.PieceLemmas.{front_of_more_puts, puts_then_all, puts_then_front}
 use Rattle.shell_turns.specs.Cuts.{PutsOut}
 use Rattle.shell_script.specs.Shell.{ShellFaults}
 use Rattle.pump_shell.specs.Ends.{SessionCause}
-use Rattle.pump_shell.specs.Told.{Told, told_of}
+use Rattle.pump_shell.specs.Told.{Told, start_of_setup, told_of}
 use Rattle.pump_shell.specs.declared.ends.SessionCut.{SessionCut}
 use Rattle.pump_shell.specs.declared.ends.SessionCut.TheVariants as session_cut
 use Rattle.pump_shell.specs.declared.ends.SessionEnd.{SessionEnd}
 use Rattle.pump_shell.specs.declared.ends.SessionEnd.TheVariants as session_end
+use Rattle.pump_shell.specs.declared.setup.Setup.{Setup}
 use Rattle.pump_line.specs.Task.{ShellTask}
 use Rattle.pump_cli.specs.Codes.{IsOfSession}
 use Rattle.pump_cli.specs.Cuts.{cut_of_session}
 use Rattle.pump_cli.specs.Early.{SessionFaultBy}
 use Rattle.pump_cli.specs.Facts.{Does, IsLongInput, PutsFaultBy}
-use Rattle.pump_cli.specs.Program.{outcome_of_end, outcome_of_lines, outcome_of_no_start, outcome_of_told, setup_of}
+use Rattle.pump_cli.specs.Program.{basis_of, is_over_at_start, outcome_of_end, outcome_of_lines, outcome_of_no_start, outcome_of_told, setup_of}
 use Rattle.pump_cli.specs.Reading.{input_limit}
 use Rattle.pump_cli.specs.declared.cut.Cut.{Cut}
 use Rattle.pump_cli.specs.declared.cut.Cut.TheVariants as cut
@@ -53,9 +56,21 @@ module _ (told : Told) (old new err_old err_new : Option (List ℕ)) where
     ends = tt;
   }
 
-module _ (task : ShellTask) (picture : Picture) (left old new : Option (List ℕ)) where
+-- ---- a session that starts on the task's basis
+
+abbrev setup_on : ShellTask → Basis → Setup
+setup_on task basis = record { basis = basis; cache = task.cache; tags = task.tags }
+
+pub over_is : (task : ShellTask) (basis : Basis) (picture : Picture) → basis ≡ basis_of task.choice
+    → is_over (start_of_setup (setup_on task basis) picture).account ≡ is_over_at_start task picture
+over_is task basis picture is = ap (λ (on : Basis). is_over (start_of_setup (setup_on task on) picture).account) is
+
+module _ (task : ShellTask) (basis : Basis) (basis_is : basis ≡ basis_of task.choice) (picture : Picture) (left old new : Option (List ℕ)) where
   abbrev told_with : List ℕ → Told
-  told_with bytes = told_of (setup_of task) picture 16777216 bytes
+  told_with bytes = told_of (setup_on task basis) picture 16777216 bytes
+
+  told_is : (bytes : List ℕ) → told_with bytes ≡ told_of (setup_of task) picture 16777216 bytes
+  told_is bytes = ap (λ (on : Basis). told_of (setup_on task on) picture 16777216 bytes) basis_is
 
   pub session_ended : (err_old err_new : Option (List ℕ)) (end : SessionEnd) (result : Result Status Cut)
       → IfSome left (λ bytes. end ≡ (told_with bytes).end) → IfSome left (λ bytes. PutsOut old new (told_with bytes).pieces (session_ok end))
@@ -68,8 +83,9 @@ module _ (task : ShellTask) (picture : Picture) (left old new : Option (List ℕ
           → IfSome known (λ bytes. Does (outcome_of_lines task picture bytes) (sinks old err_old) (sinks new err_new) result)
       by None is puts = tt
       by (Some bytes) is puts =
-          replies_then (told_with bytes) old new err_old err_new result (puts err_old)
-          (subst (λ (told : SessionEnd). Does (outcome_of_end told) (sinks new err_old) (sinks new err_new) result) is (last new))
+          subst (λ (told : Told). Does (outcome_of_told told) (sinks old err_old) (sinks new err_new) result) (told_is bytes)
+          (replies_then (told_with bytes) old new err_old err_new result (puts err_old)
+          (subst (λ (told : SessionEnd). Does (outcome_of_end told) (sinks new err_old) (sinks new err_new) result) is (last new)))
 
   pub session_broken : (other : Option (List ℕ)) (end : SessionCut) (cut : Cut)
       → IfSome left (λ bytes. PutsOut old new (told_with bytes).pieces (session_err end))
@@ -80,10 +96,12 @@ module _ (task : ShellTask) (picture : Picture) (left old new : Option (List ℕ
       by : (known : Option (List ℕ)) → IfSome known (λ bytes. PutsOut old new (told_with bytes).pieces (session_err end))
           → IfSome known (λ bytes. Does (outcome_of_lines task picture bytes) (sinks old other) (sinks new other) (Err cut))
       by None puts = tt
-      by (Some bytes) puts = record {
-        puts = front_of_more_puts (sinks old other) (sinks new other) (told_with bytes).pieces (outcome_of_end (told_with bytes).end).pieces (puts other);
-        ends = tt;
-      }
+      by (Some bytes) puts =
+          subst (λ (told : Told). Does (outcome_of_told told) (sinks old other) (sinks new other) (Err cut)) (told_is bytes)
+          (record {
+            puts = front_of_more_puts (sinks old other) (sinks new other) (told_with bytes).pieces (outcome_of_end (told_with bytes).end).pieces (puts other);
+            ends = tt;
+          })
 
   -- one that ended with its input has read it to its end
   pub session_closed : (closed : Type 0) (end : SessionEnd) → IfSome left (λ bytes. end ≡ (told_with bytes).end) → (end ≡ session_end.InputEnd → closed)
@@ -92,9 +110,9 @@ module _ (task : ShellTask) (picture : Picture) (left old new : Option (List ℕ
   session_closed closed end is closes = by left is
     where
       by : (known : Option (List ℕ)) → IfSome known (λ bytes. end ≡ (told_with bytes).end)
-          → IfSome known (λ bytes. (told_with bytes).end ≡ session_end.InputEnd → closed)
+          → IfSome known (λ bytes. (told_of (setup_of task) picture 16777216 bytes).end ≡ session_end.InputEnd → closed)
       by None is = tt
-      by (Some bytes) is = λ ended. closes (is ∙ ended)
+      by (Some bytes) is = λ ended. closes (is ∙ ap (λ (told : Told). told.end) (told_is bytes) ∙ ended)
 
 -- a start that is out of tag words ends the session, whatever its input
 module _ (old new err_old err_new : Option (List ℕ)) (silent : new ≡ old) where

@@ -3,6 +3,7 @@ use Rattle.std.proofs.Common.{◌≡◌, ℕ, zero, suc, ◌≤◌, ◌==◌, Bo
 use Rattle.image_format.specs.Picture.{Picture}
 use Rattle.policy_choice.specs.All.{AllState, AllTag, all, all_eq}
 use Rattle.policy_trait.specs.Model.{PolicyModel}
+use Rattle.turn_steps.specs.Feeds.{Tape, tape_of}
 use Rattle.engine_trait.specs.Accounts.{is_over, plain_account}
 use Rattle.engine_trait.specs.Standing.{Standing}
 use Rattle.engine_trait.specs.declared.ends.Halt.{Halt}
@@ -13,10 +14,10 @@ use Rattle.pump_loader.specs.PlainLoads.{start_of}
 use Rattle.pump_loader.specs.Loads.{cached_start_of}
 use Rattle.pump_line.specs.Task.{RunTask}
 use Rattle.pump_cli.specs.Endings.{last_pieces, out_at_start, outcome_of_course}
-use Rattle.pump_cli.specs.Program.{course_of_run, outcome_of_run, start_of_run, standing_at_start, started_account}
+use Rattle.pump_cli.specs.Program.{basis_of, course_of_run, outcome_of_run, start_of_run, standing_at_start, started_account}
 
 -- an engine that is stopped as a whole makes no turn
-stopped_stays : {S T : Type 0} (eq : T → T → Bool) (m : PolicyModel T S) (n from : ℕ) (e : Standing S T) (feed : List ℕ) (why : Halt)
+stopped_stays : {S T : Type 0} (eq : T → T → Bool) (m : PolicyModel T S) (n from : ℕ) (e : Standing S T) (feed : Tape) (why : Halt)
     → e.account.halt ≡ Some why → rounds eq m n from e feed ≡ stays e feed
 unfolding rounds next_turn
 stopped_stays eq m zero from e feed why stopped = refl
@@ -39,13 +40,13 @@ module _ {S T : Type 0} (e : Standing S T) where
   started_over over = ap started_if over
 
   -- and so makes no turn
-  pub over_course : (eq : T → T → Bool) (m : PolicyModel T S) (turns : ℕ) (feed : List ℕ) → is_over e.account ≡ true
+  pub over_course : (eq : T → T → Bool) (m : PolicyModel T S) (turns : ℕ) (feed : Tape) → is_over e.account ≡ true
       → rounds eq m turns 0 (standing_at_start e) feed ≡ stays out_of_tags feed
   over_course eq m turns feed over =
       ap (λ (from : Standing S T). rounds eq m turns 0 from feed) (started_over over)
       ∙ stopped_stays eq m turns 0 out_of_tags feed halt.TagWords refl
 
-  pub over_outcome : (eq : T → T → Bool) (m : PolicyModel T S) (turns : ℕ) (feed : List ℕ) → is_over e.account ≡ true
+  pub over_outcome : (eq : T → T → Bool) (m : PolicyModel T S) (turns : ℕ) (feed : Tape) → is_over e.account ≡ true
       → outcome_of_course (rounds eq m turns 0 (standing_at_start e) feed) ≡ out_at_start
   unfolding last_pieces
   over_outcome eq m turns feed over =
@@ -55,39 +56,39 @@ module _ (task : RunTask) (picture : Picture) where
   -- the start of a run, by whether no rules are kept
   start_if : Bool → Standing AllState AllTag
   start_if keeps_none = record {
-    machine = (start_of task.choice picture).machine;
-    account = started_account (if keeps_none then plain_account else (cached_start_of task.choice task.cache task.tags picture).account);
+    machine = (start_of (basis_of task.choice) picture).machine;
+    account = started_account (if keeps_none then plain_account else (cached_start_of (basis_of task.choice) task.cache task.tags picture).account);
   }
 
   -- where none are, it is that of an engine that asks at every turn
-  uncached_start : (task.cache == 0) ≡ true → start_of_run task picture ≡ standing_at_start (start_of task.choice picture)
+  uncached_start : (task.cache == 0) ≡ true → start_of_run task picture ≡ standing_at_start (start_of (basis_of task.choice) picture)
   unfolding start_if
   uncached_start uncached = ap start_if uncached
 
   -- where some may be, it is that of an engine that keeps them
-  cached_start : (task.cache == 0) ≡ false → start_of_run task picture ≡ standing_at_start (cached_start_of task.choice task.cache task.tags picture)
+  cached_start : (task.cache == 0) ≡ false → start_of_run task picture ≡ standing_at_start (cached_start_of (basis_of task.choice) task.cache task.tags picture)
   unfolding start_if
   cached_start cached = ap start_if cached
 
   module _ (fed : List ℕ) where
     pub uncached_course : task.cache ≡ 0
-        → rounds all_eq all task.turns 0 (standing_at_start (start_of task.choice picture)) fed ≡ course_of_run task picture fed
+        → rounds all_eq all task.turns 0 (standing_at_start (start_of (basis_of task.choice) picture)) (tape_of fed) ≡ course_of_run task picture fed
     uncached_course uncached =
-        ap (λ (start : Standing AllState AllTag). rounds all_eq all task.turns 0 start fed) (sym (uncached_start (ap (λ (rules : ℕ). rules == 0) uncached)))
+        ap (λ (start : Standing AllState AllTag). rounds all_eq all task.turns 0 start (tape_of fed)) (sym (uncached_start (ap (λ (rules : ℕ). rules == 0) uncached)))
 
     pub cached_course : 1 ≤ task.cache
-        → rounds all_eq all task.turns 0 (standing_at_start (cached_start_of task.choice task.cache task.tags picture)) fed ≡ course_of_run task picture fed
+        → rounds all_eq all task.turns 0 (standing_at_start (cached_start_of (basis_of task.choice) task.cache task.tags picture)) (tape_of fed) ≡ course_of_run task picture fed
     cached_course cached =
-        ap (λ (start : Standing AllState AllTag). rounds all_eq all task.turns 0 start fed) (sym (cached_start (keeps_some task.cache cached)))
+        ap (λ (start : Standing AllState AllTag). rounds all_eq all task.turns 0 start (tape_of fed)) (sym (cached_start (keeps_some task.cache cached)))
 
     pub uncached_outcome : task.cache ≡ 0
-        → outcome_of_course (rounds all_eq all task.turns 0 (standing_at_start (start_of task.choice picture)) fed) ≡ outcome_of_run task picture fed
+        → outcome_of_course (rounds all_eq all task.turns 0 (standing_at_start (start_of (basis_of task.choice) picture)) (tape_of fed)) ≡ outcome_of_run task picture fed
     unfolding outcome_of_run
     uncached_outcome uncached =
         ap (λ (course : Course AllState AllTag). outcome_of_course course) (uncached_course uncached)
 
     pub cached_outcome : 1 ≤ task.cache
-        → outcome_of_course (rounds all_eq all task.turns 0 (standing_at_start (cached_start_of task.choice task.cache task.tags picture)) fed) ≡ outcome_of_run task picture fed
+        → outcome_of_course (rounds all_eq all task.turns 0 (standing_at_start (cached_start_of (basis_of task.choice) task.cache task.tags picture)) (tape_of fed)) ≡ outcome_of_run task picture fed
     unfolding outcome_of_run
     cached_outcome cached =
         ap (λ (course : Course AllState AllTag). outcome_of_course course) (cached_course cached)

@@ -10,6 +10,7 @@ use Rattle.host_io.proofs.PieceLemmas.{put_on_out}
 use Rattle.image_format.specs.Picture.{Picture}
 use Rattle.policy_choice.specs.All.{AllState, AllTag, all, all_eq}
 use Rattle.policy_trait.specs.Model.{PolicyModel}
+use Rattle.turn_steps.specs.Feeds.{tape_of}
 use Rattle.engine_trait.specs.Accounts.{counts_of, is_over}
 use Rattle.engine_trait.specs.Standing.{Standing}
 use Rattle.engine_trait.specs.declared.ends.Counts.{Counts}
@@ -21,7 +22,7 @@ use Rattle.pump_cli.specs.Codes.{IsOfRun, code_of}
 use Rattle.pump_cli.specs.Cuts.{cut_of_put}
 use Rattle.pump_cli.specs.Endings.{Outcome, status_of}
 use Rattle.pump_cli.specs.Facts.{Does, PutsFaultBy}
-use Rattle.pump_cli.specs.Program.{every_policy, no_counts, outcome_of_counts, outcome_of_load, outcome_of_work, run_of_load, standing_at_start}
+use Rattle.pump_cli.specs.Program.{basis_of, every_policy, no_counts, outcome_of_counts, outcome_of_load, outcome_of_work, run_of_load, standing_at_start}
 use Rattle.pump_cli.specs.Texts.{workload_line}
 use Rattle.pump_cli.specs.declared.cut.Cut.{Cut}
 use Rattle.pump_cli.specs.declared.status.Status.{Status}
@@ -68,9 +69,9 @@ line_faults before after end cut is cause err =
 
 -- a start that needs too many tag words makes no turn
 pub over_work : {S T : Type 0} (e : Standing S T) (eq : T → T → Bool) (m : PolicyModel T S) (count limit : ℕ) → counts_of e.account ≡ no_counts
-    → is_over e.account ≡ true → outcome_of_work count (rounds eq m limit 0 (standing_at_start e) []) ≡ outcome_of_counts count no_counts TagsOut
+    → is_over e.account ≡ true → outcome_of_work count (rounds eq m limit 0 (standing_at_start e) (tape_of [])) ≡ outcome_of_counts count no_counts TagsOut
 over_work {S = S} {T = T} e eq m count limit none over =
-    ap (λ (course : Course S T). outcome_of_work count course) (over_course e eq m limit [] over)
+    ap (λ (course : Course S T). outcome_of_work count course) (over_course e eq m limit (tape_of []) over)
     ∙ ap (λ (counts : Counts). outcome_of_counts count counts TagsOut) none
 
 -- the counts and the status that an engine tells after its turns
@@ -89,14 +90,14 @@ of_run status kind (Err cut) is = tt
 
 module _ (task : LoadTask) (picture : Picture) where
   abbrev work_from : Standing AllState AllTag → Outcome
-  work_from start = outcome_of_work task.count (rounds all_eq all (10 * task.count + 4) 0 (standing_at_start start) [])
+  work_from start = outcome_of_work task.count (rounds all_eq all (10 * task.count + 4) 0 (standing_at_start start) (tape_of []))
 
-  pub uncached_work : task.cache ≡ 0 → work_from (start_of every_policy picture) ≡ outcome_of_load task picture
+  pub uncached_work : task.cache ≡ 0 → work_from (start_of (basis_of every_policy) picture) ≡ outcome_of_load task picture
   unfolding outcome_of_load
   uncached_work uncached =
       ap (λ (course : Course AllState AllTag). outcome_of_work task.count course) (uncached_course (run_of_load task) picture [] uncached)
 
-  pub cached_work : 1 ≤ task.cache → work_from (cached_start_of every_policy task.cache task.tags picture) ≡ outcome_of_load task picture
+  pub cached_work : 1 ≤ task.cache → work_from (cached_start_of (basis_of every_policy) task.cache task.tags picture) ≡ outcome_of_load task picture
   unfolding outcome_of_load
   cached_work cached =
       ap (λ (course : Course AllState AllTag). outcome_of_work task.count course) (cached_course (run_of_load task) picture [] cached)

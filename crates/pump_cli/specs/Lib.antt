@@ -9,5 +9,6 @@ pub mod Outsides
 pub mod Program
 pub mod Reading
 pub mod Runs
+pub mod Sessions
 pub mod Texts
 pub mod Theorem

@@ -3,11 +3,13 @@ use Rattle.std.specs.Prelude.{ℕ, ◌+◌, ◌*◌, ◌==◌, Bool, true, List,
 use Rattle.image_format.specs.Picture.{Picture}
 use Rattle.host_io.specs.Pieces.{err, out}
 use Rattle.tag_text.specs.Texts.{line}
+use Rattle.turn_steps.specs.Feeds.{tape_of}
 use Rattle.engine_trait.specs.Accounts.{Account, counts_of, is_over, plain_account}
 use Rattle.engine_trait.specs.Standing.{Standing}
 use Rattle.engine_trait.specs.declared.ends.Counts.{Counts}
 use Rattle.engine_trait.specs.declared.ends.Halt.TheVariants as halt
 use Rattle.policy_choice.specs.All.{AllState, AllTag, all, all_eq}
+use Rattle.policy_choice.specs.declared.basis.Basis.{Basis}
 use Rattle.policy_choice.specs.declared.choice.Choice.{Choice}
 use Rattle.rounds.specs.Course.{Course, hart_stops, rounds}
 use Rattle.pump_loader.specs.PlainLoads.{start_of}
@@ -31,6 +33,12 @@ use Rattle.pump_cli.specs.declared.status.Status.TheVariants.{Done}
 abbrev pub refusal_outcome : Refusal → Outcome
 refusal_outcome refusal = record { pieces = err (line (refusal_text refusal)) ∷ []; status = status_of_refusal refusal }
 
+-- ---- starts
+
+-- what the start of a task rests on beside the image: the policies that it chooses
+abbrev pub basis_of : Choice → Basis
+basis_of choice = record { choice = choice }
+
 -- ---- `run`
 
 -- an account that is over its limit at the start is out of tag words from the start
@@ -44,15 +52,15 @@ standing_at_start e = record { machine = e.machine; account = started_account e.
 -- with a cache of 0 no rules are kept, and no tag has a word
 abbrev pub account_of_run : RunTask → Picture → Account AllTag
 account_of_run task picture =
-    started_account (if task.cache == 0 then plain_account else (cached_start_of task.choice task.cache task.tags picture).account)
+    started_account (if task.cache == 0 then plain_account else (cached_start_of (basis_of task.choice) task.cache task.tags picture).account)
 
 -- the image's start under the chosen policies, whatever is kept
 abbrev pub start_of_run : RunTask → Picture → Standing AllState AllTag
-start_of_run task picture = record { machine = (start_of task.choice picture).machine; account = account_of_run task picture }
+start_of_run task picture = record { machine = (start_of (basis_of task.choice) picture).machine; account = account_of_run task picture }
 
 -- one round robin from there, on a feed of these bytes
 abbrev pub course_of_run : RunTask → Picture → List ℕ → Course AllState AllTag
-course_of_run task picture fed = rounds all_eq all task.turns 0 (start_of_run task picture) fed
+course_of_run task picture fed = rounds all_eq all task.turns 0 (start_of_run task picture) (tape_of fed)
 
 -- what that course shows, the last line, and the status
 unfoldable pub outcome_of_run : RunTask → Picture → List ℕ → Outcome
@@ -72,7 +80,7 @@ outcome_of_input task picture (Some input) = Some (outcome_of_fed task picture (
 
 -- what a session starts with, beside its image
 abbrev pub setup_of : ShellTask → Setup
-setup_of task = record { choice = task.choice; cache = task.cache; tags = task.tags }
+setup_of task = record { basis = basis_of task.choice; cache = task.cache; tags = task.tags }
 
 -- what is told after the replies, and the status: a session that ended with `quit` or with the input is done
 abbrev pub outcome_of_end : SessionEnd → Outcome

@@ -1,43 +1,43 @@
 -- The runs of the machine that the program's definition makes: that they are safe, and how they end.
-use Rattle.std.specs.Prelude.{◌≡◌, ℕ, nat_lt, true, List, [], ◌++◌, length, take, Option, Some, None, Result, Ok, Err, if◌then◌else◌}
+use Rattle.std.specs.Prelude.{◌≡◌, ℕ, true, List, [], ◌++◌, length, Option, Some, None, Result, Ok, Err}
 use Rattle.image_format.specs.Picture.{Picture}
 use Rattle.engine_trait.specs.Events.{Event}
 use Rattle.engine_trait.specs.Runs.{Item}
 use Rattle.policy_choice.specs.All.{AllTag, all, all_eq}
-use Rattle.policy_choice.specs.declared.choice.Choice.{Choice}
+use Rattle.policy_choice.specs.declared.basis.Basis.{Basis}
 use Rattle.rounds.specs.Course.{hart_stops}
 use Rattle.run_props.specs.Safe.{IsSafe, run_of}
 use Rattle.shell_lang.specs.Grammar.{Answer}
 use Rattle.shell_run.specs.Session.{fresh}
 use Rattle.shell_script.specs.Scripts.{items_along}
-use Rattle.shell_script.specs.Shell.{last_in, lines_in}
+use Rattle.shell_script.specs.Shell.{lines_within}
 use Rattle.pump_shell.specs.Told.{start_of_setup}
 use Rattle.pump_line.specs.Task.{RunTask, ShellTask, Task, assemble, disassemble, load, run, shell, task_of}
 use Rattle.pump_cli.specs.Endings.{has_any, is_out}
-use Rattle.pump_cli.specs.Program.{course_of_run, run_of_load, setup_of}
+use Rattle.pump_cli.specs.Program.{basis_of, course_of_run, run_of_load, setup_of}
 use Rattle.pump_cli.specs.Reading.{content_of, content_read, input_limit, input_read}
 use Rattle.pump_cli.specs.declared.ending.Kind.TheVariants.{Ready}
 use Rattle.pump_cli.specs.declared.refusal.Refusal.{Refusal}
 
--- the chosen policies, the image, and the events of the turns that were made
+-- the image and what else the start rests on, and the events of the turns that were made
 pub record Run : Type 0 where
-  pub choice : Choice
+  pub basis : Basis
   pub image : Picture
   pub events : List (Event AllTag)
 
 -- in the run, each chosen policy's sentence holds
 abbrev pub IsSafeRun : Run → Type 0
-IsSafeRun made = IsSafe made.choice made.image made.events
+IsSafeRun made = IsSafe made.basis made.image made.events
 
 -- ---- the runs
 
 -- the run whose outcome is that of `run`, and, on an empty feed, that of `load`
 abbrev pub run_of_fed : RunTask → Picture → List ℕ → Run
-run_of_fed task picture fed = record { choice = task.choice; image = picture; events = (course_of_run task picture fed).events }
+run_of_fed task picture fed = record { basis = basis_of task.choice; image = picture; events = (course_of_run task picture fed).events }
 
 -- the lines of an input that a session obeys, up to `quit`
 abbrev pub lines_of : List ℕ → List Answer
-lines_of input = lines_in (take input_limit input) ++ (if nat_lt input_limit (length input) then [] else last_in input)
+lines_of input = lines_within input_limit input
 
 -- the turns and the fed bytes after these lines, since the start or the last reset
 abbrev pub items_after_lines : ShellTask → Picture → List Answer → List Item
@@ -46,7 +46,7 @@ items_after_lines task picture lines = items_along all_eq all (fresh (start_of_s
 -- the run that a session has made by then
 abbrev pub run_after_lines : ShellTask → Picture → List Answer → Run
 run_after_lines task picture lines =
-    record { choice = task.choice; image = picture; events = (run_of task.choice picture (items_after_lines task picture lines)).events }
+    record { basis = basis_of task.choice; image = picture; events = (run_of (basis_of task.choice) picture (items_after_lines task picture lines)).events }
 
 -- ---- what holds of each of them, where what they rest on is told
 

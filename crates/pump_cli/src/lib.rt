@@ -3,6 +3,7 @@
 //! counts.
 #![tactic(auto)]
 
+mod basis;
 mod cut;
 mod ending;
 mod listing;

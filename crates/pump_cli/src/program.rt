@@ -13,6 +13,7 @@ ghost use Rattle.pump_cli.specs.Outsides.{outside};
 ghost use Rattle.pump_cli.specs.Program.{outcome_of_content, outcome_of_load, outcome_of_task, program};
 ghost use Rattle.pump_cli.specs.Reading.{image_read};
 ghost use Rattle.pump_cli.specs.Runs.{EachRun, IsOut, IsSafeRun, IsSpent, TheRun};
+ghost use Rattle.pump_cli.specs.Sessions.{TellsRuns, TheSession};
 ghost use Rattle.pump_cli.specs.Theorem.{Answers};
 
 use crate::cut::Cut;
@@ -167,6 +168,10 @@ fn run_words<F: Files, S: Source, K: Sink, L: Sink>(
 /// the input gives (`safe`), and so at those that these files and this input tell of (`safe_here`): every unsealing used its key,
 /// every indirect jump is a listed edge, every store lies in its compartment's permitted words, every heap access in its pointer's
 /// live block.
+///
+/// The runs that a session makes are those of which its replies tell (`replies`): what is told are the replies to its lines; after
+/// each of these the session stands where its run ends; and the reply to a line that makes turns tells the events that the run gains
+/// by it, one for each of these turns, and their number. No other line adds an event, and `reset` begins the run anew.
 pub fn pump<F: Files, S: Source, K: Sink, L: Sink>(
     alloc: Global,
     words: &Vec<String>,
@@ -186,6 +191,8 @@ pub fn pump<F: Files, S: Source, K: Sink, L: Sink>(
         → EachRun IsSafeRun (texts_of words.now.items) held left }
     ensures safe_here { EachRun IsSafeRun (texts_of words.now.items)
         (F.held files.old) (S.left input.old) }
+    ensures replies { (held : List ℕ → Option (List ℕ)) (left : Option (List ℕ))
+        → TheSession TellsRuns (texts_of words.now.items) held left }
     ensures spent { result ≡ Status.TurnsSpent → TheRun IsSpent (texts_of words.now.items)
         (F.held files.old) (S.left input.old) }
     ensures tags_out { result ≡ Status.TagsOut → TheRun IsOut (texts_of words.now.items)

@@ -2,6 +2,7 @@
 
 ghost use Rattle.std.specs.Prelude.{◌≡◌, ◌≤◌, IfOk, true};
 ghost use Rattle.policy_choice.specs.Choice.{is_none};
+ghost use Rattle.turn_steps.specs.Feeds.{tape_of};
 ghost use Rattle.rounds.specs.Course.{rounds};
 ghost use Rattle.pump_line.specs.Told.{run_value};
 ghost use Rattle.pump_cli.specs.Codes.{IsOfRun};
@@ -9,6 +10,7 @@ ghost use Rattle.pump_cli.specs.Endings.{outcome_of_course};
 ghost use Rattle.pump_cli.specs.Facts.{Does, PutsFaultBy};
 ghost use Rattle.pump_cli.specs.Program.{outcome_of_run, standing_at_start};
 
+use crate::basis::basis_of;
 use crate::cut::Cut;
 use crate::ending::{end_at_start, run_engine};
 use crate::status::Status;
@@ -31,7 +33,7 @@ fn run_load<D: Loader, K: Sink, L: Sink>(
 ) -> Result<Status, Cut>
     ensures does { Does (outcome_of_course
         (rounds D.E.P.Tag.eq D.E.P.model turns 0 (standing_at_start (D.start loader.now))
-        fed.items))
+        (tape_of fed.items)))
         (record { out = K.taken out.old; err = L.taken err.old })
         (record { out = K.taken out.new; err = L.taken err.new }) result }
     ensures faults { PutsFaultBy
@@ -90,7 +92,7 @@ fn run_cached<K: Sink, L: Sink>(
         (record { out = K.faults out.new; err = L.faults err.new }) result }
     ensures kind { IfOk result IsOfRun }
 {
-    let loader = PumpLoad::new(alloc, image, task.choice, task.cache, task.tags);
+    let loader = PumpLoad::new(alloc, image, basis_of(task.choice), task.cache, task.tags);
     run_load(task.turns, &loader, fed, out, err)
 }
 
@@ -112,7 +114,7 @@ fn run_uncached<K: Sink, L: Sink>(
         (record { out = K.faults out.new; err = L.faults err.new }) result }
     ensures kind { IfOk result IsOfRun }
 {
-    let loader = PlainLoad::new(alloc, image, task.choice);
+    let loader = PlainLoad::new(alloc, image, basis_of(task.choice));
     run_load(task.turns, &loader, fed, out, err)
 }
 

@@ -10,6 +10,7 @@ ghost use Rattle.pump_cli.specs.Facts.{Does, IsLongInput, PutsFaultBy};
 ghost use Rattle.pump_cli.specs.Program.{is_over_at_start, outcome_of_end, outcome_of_lines, outcome_of_no_start, setup_of};
 ghost use Rattle.pump_cli.specs.Reading.{input_limit};
 
+use crate::basis::basis_of;
 use crate::cut::Cut;
 use crate::ending::end_at_start;
 use crate::reading::INPUT_LIMIT;
@@ -76,7 +77,7 @@ pub(crate) fn obey_lines<S: Source, K: Sink, L: Sink>(
     ensures moved { LosesFront (S.left input.old) (S.left input.new) (input_limit + 4096) }
 {
     let setup = Setup {
-        choice: task.choice,
+        basis: basis_of(task.choice),
         cache: task.cache,
         tags: task.tags,
     };

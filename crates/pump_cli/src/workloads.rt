@@ -1,6 +1,7 @@
 //! A workload: the image of its source, its turns, and the line that tells how they went.
 
 ghost use Rattle.std.specs.Prelude.{◌≡◌, ℕ, [], List, Option, ◌+◌, ◌*◌, ◌≤◌, Ok, Err, IfOk, OnOk};
+ghost use Rattle.turn_steps.specs.Feeds.{tape_of};
 ghost use Rattle.engine_trait.specs.Accounts.{counts_of};
 ghost use Rattle.rounds.specs.Course.{hart_stops, rounds};
 ghost use Rattle.workload.specs.Source.{source_of_workload};
@@ -16,6 +17,7 @@ ghost use Rattle.pump_cli.specs.Texts.{workload_line};
 ghost use Rattle.pump_cli.specs.declared.cut.Cut.{Cut};
 ghost use Rattle.pump_cli.specs.declared.refusal.Refusal.{Refusal};
 
+use crate::basis::basis_of;
 use crate::cut::Cut;
 use crate::ending::status_of;
 use crate::reading::{EarlyEnd, FILE_LIMIT, image_of_source};
@@ -106,7 +108,7 @@ fn tell_workload<K: Sink>(
 /// Makes at most `limit` turns of an engine, on an empty feed. What they show goes nowhere; the status is that of the run.
 fn run_unseen<E: Engine>(alloc: Global, limit: u64, engine: &mut E) -> Result<Status, Cut>
     ensures standing { OnOk result (E.standing engine.new
-        ≡ (rounds E.P.Tag.eq E.P.model limit 0 (E.standing engine.old) []).standing) }
+        ≡ (rounds E.P.Tag.eq E.P.model limit 0 (E.standing engine.old) (tape_of [])).standing) }
     ensures status { IfOk result (λ status. status
         ≡ status_of (E.standing engine.new).account.halt
         (hart_stops (E.standing engine.new).machine.core)) }
@@ -135,7 +137,7 @@ fn run_blocks<D: Loader, K: Sink>(
     requires { counts_of (D.start loader.now).account ≡ no_counts }
     ensures does { (err : Option (List ℕ)) → Does (outcome_of_work count
         (rounds D.E.P.Tag.eq D.E.P.model (10 * count + 4) 0
-        (standing_at_start (D.start loader.now)) []))
+        (standing_at_start (D.start loader.now)) (tape_of [])))
         (record { out = K.taken out.old; err = err })
         (record { out = K.taken out.new; err = err }) result }
     ensures faults { (err : ℕ) → PutsFaultBy
@@ -172,7 +174,7 @@ fn run_uncached_workload<K: Sink>(
         (record { out = K.faults out.new; err = err }) result }
     ensures kind { IfOk result IsOfRun }
 {
-    let loader = PlainLoad::new(alloc, image, EVERY_POLICY);
+    let loader = PlainLoad::new(alloc, image, basis_of(EVERY_POLICY));
     run_blocks(alloc, task.count, &loader, out)
 }
 
@@ -194,7 +196,7 @@ fn run_cached_workload<K: Sink>(
         (record { out = K.faults out.new; err = err }) result }
     ensures kind { IfOk result IsOfRun }
 {
-    let loader = PumpLoad::new(alloc, image, EVERY_POLICY, task.cache, task.tags);
+    let loader = PumpLoad::new(alloc, image, basis_of(EVERY_POLICY), task.cache, task.tags);
     run_blocks(alloc, task.count, &loader, out)
 }
 

@@ -2,23 +2,24 @@
 use Rattle.std.proofs.Common.{◌≡◌, ℕ, ◌<◌, ◌≤◌, ◌==◌, Bool, true, false, nat_lt, List, [], ◌∷◌, Result, Ok, Err, IfErr, IfOk, IsOk, IsOkAnd, OnErr, OnOk, length, refl, sym, ap, ◌∙◌, is_some, subst, if◌then◌else◌}
 use Rattle.std.proofs.lemmas.Bool.{le-ltb, lt-ltb}
 use Rattle.policy_trait.specs.Model.{PolicyModel}
+use Rattle.policy_trait.specs.declared.rules.Ins.{Ins}
 use Rattle.policy_trait.specs.declared.rules.Outs.{Outs}
 use Rattle.policy_trait.specs.declared.rules.Refused.{Refused}
 use Rattle.turn_steps.specs.declared.look.Look.{Look}
 use Rattle.engine_trait.specs.Accounts.{Account, Key, is_kept, is_over, keeping, looked_up, rule_kept, with_tags}
 use Rattle.shared_terms.specs.Counts.{next_count}
+use Rattle.engine_trait.specs.Turn.{rule_inputs}
 use Rattle.engine_trait.proofs.AccountLemmas.{keeps_some}
 use Rattle.rule_cache.specs.Stores.{Store, lookup_of}
 use Rattle.tag_intern.specs.Table.{Extends, TableState}
-use Rattle.miss_handler.specs.Asked.{AreInWords, AreOutWords, AreRules, answer_on, outs_on, tag_key, word_key}
+use Rattle.miss_handler.specs.Asked.{AreOutWords, AreRules, answer_on, outs_on, tag_key, word_key}
 use Rattle.miss_handler.specs.Books.{rulebook_of}
 use Rattle.miss_handler.specs.Told.{Tells}
 use Rattle.miss_handler.specs.declared.ends.AskEnd.{AskEnd}
 use Rattle.miss_handler.specs.declared.ends.AskEnd.TheVariants as ask_end
-use Rattle.pump_engine.specs.Pump.{IsPump, PumpState, account_by_words, decode, pump_of}
+use Rattle.pump_engine.specs.Pump.{IsPump, PumpState, account_by_words, pump_of}
 use Rattle.pump_engine.specs.Steps.{Allows, Unanswered, answer_in, key_in, looked_in, ruled_in}
-use Rattle.pump_engine.proofs.LowLemmas.{ins_same}
-use Rattle.pump_engine.proofs.StayLemmas.{decode_grown, machine_grown, pump_grown}
+use Rattle.pump_engine.proofs.StayLemmas.{machine_grown, pump_grown}
 
 -- an answer of which something holds is one
 ok_where : {A E : Type 0} (answer : Result A E) (P : A → Type 0) → IsOkAnd answer P → IsOk answer
@@ -65,32 +66,36 @@ module _ {T : Type 0} (eq : T → T → Bool) (key : Key T) where
 
 -- ---- the clauses of `ask`
 
-module _ {S T : Type 0} (eq : T → T → Bool) (m : PolicyModel T S) (p : PumpState S T) (look : Look ℕ) (table : TableState T) (store : Store) where
+module _ {S T : Type 0} (eq : T → T → Bool) (m : PolicyModel T S) (p : PumpState S T) (h : ℕ) (look : Look) (table : TableState T) (store : Store) where
   -- the engine with what `ask` left
   abbrev pub asked : PumpState S T
   asked = pump_of p.policy p.core table store p.turns p.halt
 
-  -- what `ask` says of the rules of a policy that stands at s
-  pub record IsAsked (s : S) (answered : Result (Outs ℕ) AskEnd) : Type 0 where
-    pub answer : IfOk answered (λ outs. answer_on (rulebook_of m s) p.table.tags look.group look.inputs ≡ Ok (outs_on (rulebook_of m s) table.tags outs))
+  -- what `ask` says of the rules of a policy that stands at s, asked with these words
+  pub record IsAsked (s : S) (inputs : Ins ℕ) (answered : Result (Outs ℕ) AskEnd) : Type 0 where
+    pub answer : IfOk answered (λ outs. answer_on (rulebook_of m s) p.table.tags look.group inputs ≡ Ok (outs_on (rulebook_of m s) table.tags outs))
     pub out_words : IfOk answered (AreOutWords (length table.tags))
-    pub stopped : (refusal : Refused) → answered ≡ Err (ask_end.Stopped refusal) → answer_on (rulebook_of m s) p.table.tags look.group look.inputs ≡ Err refusal
+    pub stopped : (refusal : Refused) → answered ≡ Err (ask_end.Stopped refusal) → answer_on (rulebook_of m s) p.table.tags look.group inputs ≡ Err refusal
     pub kept : OnOk answered ((account : Account T) → Tells (m.plain s) p.table p.store account
-        → Tells (m.plain s) table store (rule_kept eq (tag_key (rulebook_of m s) p.table.tags look.group look.inputs)
-        (answer_on (rulebook_of m s) p.table.tags look.group look.inputs)
-        (looked_up eq (tag_key (rulebook_of m s) p.table.tags look.group look.inputs) account)))
+        → Tells (m.plain s) table store (rule_kept eq (tag_key (rulebook_of m s) p.table.tags look.group inputs)
+        (answer_on (rulebook_of m s) p.table.tags look.group inputs)
+        (looked_up eq (tag_key (rulebook_of m s) p.table.tags look.group inputs) account)))
     pub unkept : OnErr answered ((account : Account T) → Tells (m.plain s) p.table p.store account
-        → Tells (m.plain s) table store (looked_up eq (tag_key (rulebook_of m s) p.table.tags look.group look.inputs) account))
-    pub tags_out : answered ≡ Err ask_end.TagsOut → IsOkAnd (answer_on (rulebook_of m s) p.table.tags look.group look.inputs)
+        → Tells (m.plain s) table store (looked_up eq (tag_key (rulebook_of m s) p.table.tags look.group inputs) account))
+    pub tags_out : answered ≡ Err ask_end.TagsOut → IsOkAnd (answer_on (rulebook_of m s) p.table.tags look.group inputs)
         (λ outs. p.table.limit < length (with_tags eq p.table.tags (outs.pc ∷ outs.result ∷ [])))
-    pub memory : answered ≡ Err ask_end.Memory → IsOkAnd (answer_on (rulebook_of m s) p.table.tags look.group look.inputs)
+    pub memory : answered ≡ Err ask_end.Memory → IsOkAnd (answer_on (rulebook_of m s) p.table.tags look.group inputs)
         (λ outs. length (with_tags eq p.table.tags (outs.pc ∷ outs.result ∷ [])) ≤ p.table.limit)
     pub within : length table.tags ≤ table.limit
     pub extends : Extends p.table.tags table.tags
-    pub hit : is_some (lookup_of (word_key (rulebook_of m s) look.group look.inputs) p.store) ≡ true → IsOk answered
+    pub hit : is_some (lookup_of (word_key (rulebook_of m s) look.group inputs) p.store) ≡ true → IsOk answered
     pub told : (account : Account T) → Tells (m.plain s) p.table p.store account
-        → is_kept eq (tag_key (rulebook_of m s) p.table.tags look.group look.inputs) account ≡ is_some (lookup_of (word_key (rulebook_of m s) look.group look.inputs) p.store)
+        → is_kept eq (tag_key (rulebook_of m s) p.table.tags look.group inputs) account ≡ is_some (lookup_of (word_key (rulebook_of m s) look.group inputs) p.store)
     pub rules : AreRules (rulebook_of m s) table.tags store.sets
+
+  -- of the engine's policy, asked with the words as they stand
+  abbrev pub AsksOwn : Result (Outs ℕ) AskEnd → Type 0
+  AsksOwn answered = IsAsked p.policy (rule_inputs p.core h look) answered
 
   module _ (is : IsPump m p) where
     tells_own : Tells (m.plain p.policy) p.table p.store (account_by_words m p)
@@ -109,70 +114,68 @@ module _ {S T : Type 0} (eq : T → T → Bool) (m : PolicyModel T S) (p : PumpS
       halt = sym halt_is j;
     }
 
-    looked_turns : (looked_in eq m p look).turns ≡ p.turns
-    looked_turns = looked_leaves eq (key_in eq m p look) (λ account. account.turns) (account_by_words m p) refl refl
+    looked_turns : (looked_in eq m p h look).turns ≡ p.turns
+    looked_turns = looked_leaves eq (key_in eq m p h look) (λ account. account.turns) (account_by_words m p) refl refl
 
-    looked_halt : (looked_in eq m p look).halt ≡ p.halt
-    looked_halt = looked_leaves eq (key_in eq m p look) (λ account. account.halt) (account_by_words m p) refl refl
+    looked_halt : (looked_in eq m p h look).halt ≡ p.halt
+    looked_halt = looked_leaves eq (key_in eq m p h look) (λ account. account.halt) (account_by_words m p) refl refl
 
-    ruled_turns : (ruled_in eq m p look).turns ≡ p.turns
-    ruled_turns = ruled_leaves eq (key_in eq m p look) (λ account. account.turns) (answer_in eq m p look) (looked_in eq m p look) (λ seen. refl) refl ∙ looked_turns
+    ruled_turns : (ruled_in eq m p h look).turns ≡ p.turns
+    ruled_turns = ruled_leaves eq (key_in eq m p h look) (λ account. account.turns) (answer_in eq m p h look) (looked_in eq m p h look) (λ seen. refl) refl ∙ looked_turns
 
-    ruled_halt : (ruled_in eq m p look).halt ≡ p.halt
-    ruled_halt = ruled_leaves eq (key_in eq m p look) (λ account. account.halt) (answer_in eq m p look) (looked_in eq m p look) (λ seen. refl) refl ∙ looked_halt
+    ruled_halt : (ruled_in eq m p h look).halt ≡ p.halt
+    ruled_halt = ruled_leaves eq (key_in eq m p h look) (λ account. account.halt) (answer_in eq m p h look) (looked_in eq m p h look) (λ seen. refl) refl ∙ looked_halt
 
-    room_by : (answered : Result (Outs ℕ) AskEnd) → IsAsked p.policy answered → 1 ≤ store.ways
+    room_by : (answered : Result (Outs ℕ) AskEnd) → AsksOwn answered → 1 ≤ store.ways
     room_by (Ok outs) asks = (asks.kept (account_by_words m p) tells_own).room
     room_by (Err end) asks = (asks.unkept (account_by_words m p) tells_own).room
 
     -- it is an engine still
-    pub pump_asked : (answered : Result (Outs ℕ) AskEnd) → IsAsked p.policy answered → IsPump m asked
+    pub pump_asked : (answered : Result (Outs ℕ) AskEnd) → AsksOwn answered → IsPump m asked
     pump_asked answered asks = pump_grown m p asked is refl refl asks.extends asks.within (room_by answered asks) asks.rules
 
-    looked_seen : (looked_in eq m p look).seen ≡ p.table.tags
-    looked_seen = looked_leaves eq (key_in eq m p look) (λ account. account.seen) (account_by_words m p) refl refl
+    looked_seen : (looked_in eq m p h look).seen ≡ p.table.tags
+    looked_seen = looked_leaves eq (key_in eq m p h look) (λ account. account.seen) (account_by_words m p) refl refl
 
-    looked_limit : (looked_in eq m p look).limit ≡ p.table.limit
-    looked_limit = looked_leaves eq (key_in eq m p look) (λ account. account.limit) (account_by_words m p) refl refl
+    looked_limit : (looked_in eq m p h look).limit ≡ p.table.limit
+    looked_limit = looked_leaves eq (key_in eq m p h look) (λ account. account.limit) (account_by_words m p) refl refl
 
-    looked_some : 1 ≤ (looked_in eq m p look).ways
-    looked_some = subst (λ n. 1 ≤ n) (sym (looked_leaves eq (key_in eq m p look) (λ account. account.ways) (account_by_words m p) refl refl)) is.room
+    looked_some : 1 ≤ (looked_in eq m p h look).ways
+    looked_some = subst (λ n. 1 ≤ n) (sym (looked_leaves eq (key_in eq m p h look) (λ account. account.ways) (account_by_words m p) refl refl)) is.room
 
-    over_refused : (answered : Result (Outs ℕ) AskEnd) → IsAsked p.policy answered → answered ≡ Err ask_end.TagsOut → is_over (ruled_in eq m p look) ≡ true
+    over_refused : (answered : Result (Outs ℕ) AskEnd) → AsksOwn answered → answered ≡ Err ask_end.TagsOut → is_over (ruled_in eq m p h look) ≡ true
     over_refused answered asks out =
-        over_by eq (key_in eq m p look) p.table.tags p.table.limit (looked_in eq m p look) looked_seen looked_limit looked_some (answer_in eq m p look) (asks.tags_out out)
+        over_by eq (key_in eq m p h look) p.table.tags p.table.limit (looked_in eq m p h look) looked_seen looked_limit looked_some (answer_in eq m p h look) (asks.tags_out out)
 
-    fits_wanting : (answered : Result (Outs ℕ) AskEnd) → IsAsked p.policy answered → answered ≡ Err ask_end.Memory → is_over (ruled_in eq m p look) ≡ false
+    fits_wanting : (answered : Result (Outs ℕ) AskEnd) → AsksOwn answered → answered ≡ Err ask_end.Memory → is_over (ruled_in eq m p h look) ≡ false
     fits_wanting answered asks out =
-        fits_by eq (key_in eq m p look) p.table.tags p.table.limit (looked_in eq m p look) looked_seen looked_limit looked_some (answer_in eq m p look) (asks.memory out)
+        fits_by eq (key_in eq m p h look) p.table.tags p.table.limit (looked_in eq m p h look) looked_seen looked_limit looked_some (answer_in eq m p h look) (asks.memory out)
 
-    allowed_wanting : (answered : Result (Outs ℕ) AskEnd) → IsAsked p.policy answered → answered ≡ Err ask_end.Memory → IsOk (answer_in eq m p look)
-    allowed_wanting answered asks out = ok_where (answer_in eq m p look) _ (asks.memory out)
+    allowed_wanting : (answered : Result (Outs ℕ) AskEnd) → AsksOwn answered → answered ≡ Err ask_end.Memory → IsOk (answer_in eq m p h look)
+    allowed_wanting answered asks out = ok_where (answer_in eq m p h look) _ (asks.memory out)
 
-    module _ (inputs : AreInWords (length p.table.tags) look.inputs) where
-      pub allowed : (answered : Result (Outs ℕ) AskEnd) → IsAsked p.policy answered → IfOk answered (Allows eq m p look asked)
-      allowed (Ok outs) asks = record {
-        rule = asks.answer;
-        account = account_told (ruled_in eq m p look) (asks.kept (account_by_words m p) tells_own) ruled_turns ruled_halt;
-        machine = machine_grown m p asked is.words refl refl asks.extends;
-        inputs = ins_same (length p.table.tags) (decode m asked) (decode m p) (decode_grown m p asked refl asks.extends) look.inputs inputs;
-        within = le-ltb table.limit (length table.tags) asks.within;
-        words = asks.out_words;
-      }
-      allowed (Err end) asks = tt
+    pub allowed : (answered : Result (Outs ℕ) AskEnd) → AsksOwn answered → IfOk answered (Allows eq m p h look asked)
+    allowed (Ok outs) asks = record {
+      rule = asks.answer;
+      account = account_told (ruled_in eq m p h look) (asks.kept (account_by_words m p) tells_own) ruled_turns ruled_halt;
+      machine = machine_grown m p asked is.words refl refl asks.extends;
+      within = le-ltb table.limit (length table.tags) asks.within;
+      words = asks.out_words;
+    }
+    allowed (Err end) asks = tt
 
-      pub unanswered : (answered : Result (Outs ℕ) AskEnd) → IsAsked p.policy answered → IfErr answered (Unanswered eq m p look asked)
-      unanswered (Ok outs) asks = tt
-      unanswered (Err end) asks = record {
-        account = account_told (looked_in eq m p look) (asks.unkept (account_by_words m p) tells_own) looked_turns looked_halt;
-        machine = machine_grown m p asked is.words refl refl asks.extends;
-        within = le-ltb table.limit (length table.tags) asks.within;
-        refused = λ refusal stops. asks.stopped refusal (ap (λ e. Err e) stops);
-        over = λ out. over_refused (Err end) asks (ap (λ e. Err e) out);
-        allowed = λ out. allowed_wanting (Err end) asks (ap (λ e. Err e) out);
-        fits = λ out. fits_wanting (Err end) asks (ap (λ e. Err e) out);
-      }
+    pub unanswered : (answered : Result (Outs ℕ) AskEnd) → AsksOwn answered → IfErr answered (Unanswered eq m p h look asked)
+    unanswered (Ok outs) asks = tt
+    unanswered (Err end) asks = record {
+      account = account_told (looked_in eq m p h look) (asks.unkept (account_by_words m p) tells_own) looked_turns looked_halt;
+      machine = machine_grown m p asked is.words refl refl asks.extends;
+      within = le-ltb table.limit (length table.tags) asks.within;
+      refused = λ refusal stops. asks.stopped refusal (ap (λ e. Err e) stops);
+      over = λ out. over_refused (Err end) asks (ap (λ e. Err e) out);
+      allowed = λ out. allowed_wanting (Err end) asks (ap (λ e. Err e) out);
+      fits = λ out. fits_wanting (Err end) asks (ap (λ e. Err e) out);
+    }
 
     -- a kept rule is answered
-    pub kept_answered : (answered : Result (Outs ℕ) AskEnd) → IsAsked p.policy answered → is_kept eq (key_in eq m p look) (account_by_words m p) ≡ true → IsOk answered
+    pub kept_answered : (answered : Result (Outs ℕ) AskEnd) → AsksOwn answered → is_kept eq (key_in eq m p h look) (account_by_words m p) ≡ true → IsOk answered
     kept_answered answered asks hit = asks.hit (sym (asks.told (account_by_words m p) tells_own) ∙ hit)

@@ -1,11 +1,12 @@
 -- How a turn of words ended: what a failure and an idle turn leave, a service of the policy, and want of memory.
-use Rattle.std.proofs.Common.{◌≡◌, ℕ, Bool, true, false, ◌&&◌, ◌||◌, not, List, Option, Some, None, Result, Ok, Err, IsOk, is_ok, ◌≢◌, refl, sym, ap, ◌∙◌, subst}
+use Rattle.std.proofs.Common.{◌≡◌, ℕ, Bool, true, false, ◌&&◌, ◌||◌, not, Option, Some, None, Result, Ok, Err, IsOk, is_ok, ◌≢◌, refl, sym, ap, ◌∙◌, subst}
 use Rattle.std.proofs.lemmas.Bool.{false≢true}
 use Rattle.policy_trait.specs.Model.{PolicyModel}
 use Rattle.shared_terms.specs.Steps.{◌>>=◌}
 use Rattle.policy_trait.specs.declared.rules.Outs.{Outs}
 use Rattle.policy_trait.specs.declared.services.PlanEnd.{PlanEnd}
 use Rattle.monitor_calls.specs.Service.{Job}
+use Rattle.turn_steps.specs.Feeds.{Tape}
 use Rattle.turn_steps.specs.Looks.{is_call}
 use Rattle.turn_steps.specs.declared.effects.Done.{Done}
 use Rattle.turn_steps.specs.declared.effects.Done.TheVariants as done
@@ -24,13 +25,13 @@ use Rattle.engine_trait.proofs.TurnLemmas.{allowed_turn, planned_turn}
 use Rattle.miss_handler.specs.declared.ends.AskEnd.{AskEnd}
 use Rattle.miss_handler.specs.declared.ends.AskEnd.TheVariants as ask_end
 use Rattle.pump_engine.specs.Pump.{PumpState, account_by_words, machine_by_words, standing_by_words}
-use Rattle.pump_engine.specs.Steps.{Allows, EndsService, HasParts, answer_in, finds_rule, key_in, prepared_words, service_in, takes_memory, unanswered_end}
-use Rattle.pump_engine.proofs.CountLemmas.{prepared_at, rule_allows}
+use Rattle.pump_engine.specs.Steps.{Allows, EndsService, HasParts, answer_in, finds_rule, key_in, service_in, takes_memory, unanswered_end}
+use Rattle.pump_engine.proofs.CountLemmas.{key_by_words, rule_allows}
 use Rattle.pump_engine.proofs.TurnLemmas.{StepsTo, served_gives_up, served_now, served_turn, unserved_turn}
 
 -- ---- a failure
 
-module _ {S T : Type 0} (m : PolicyModel T S) (s : Machine S T) (feed : List ℕ) (h : ℕ) (why : Stop) (failing : IsFailure why) where
+module _ {S T : Type 0} (m : PolicyModel T S) (s : Machine S T) (feed : Tape) (h : ℕ) (why : Stop) (failing : IsFailure why) where
   -- after it, the hart has the stop alone
   abbrev HasFailed : Turned S T → Type 0
   HasFailed turned = (turned.machine ≡ stopped_at s h why) × (turned.feed ≡ feed)
@@ -40,7 +41,7 @@ module _ {S T : Type 0} (m : PolicyModel T S) (s : Machine S T) (feed : List ℕ
   end_fails done.Broke is = cc
   end_fails (done.Exited code) is = let exits : why ≡ stop.Exit code = cc in subst IsFailure exits failing
 
-  effect_fails : (look : Look T) (outs : Outs T) (job : Option (Job T)) → (turn_effect m s feed h look outs job).ended ≡ ends.Stopped why
+  effect_fails : (look : Look) (outs : Outs T) (job : Option (Job T)) → (turn_effect m s feed h look outs job).ended ≡ ends.Stopped why
       → HasFailed (turn_effect m s feed h look outs job)
   effect_fails look outs (Some job) is = absurd cc
   effect_fails look outs None is = absurd (end_fails (carried_at s.core feed h look outs).done is)
@@ -69,7 +70,7 @@ module _ {S T : Type 0} (m : PolicyModel T S) (s : Machine S T) (feed : List ℕ
   unfolding turn_of
   turn_fails = turn_fails_by (is_ready_in s.core h)
 
-module _ {S T : Type 0} (eq : T → T → Bool) (m : PolicyModel T S) (e : Standing S T) (feed : List ℕ) (h : ℕ) (f : Standing S T) (fed : List ℕ) (ended : TurnEnd)
+module _ {S T : Type 0} (eq : T → T → Bool) (m : PolicyModel T S) (e : Standing S T) (feed : Tape) (h : ℕ) (f : Standing S T) (fed : Tape) (ended : TurnEnd)
     (steps : step eq m e feed h ≡ record { standing = f; feed = fed; ended = ended }) where
   -- a failed turn leaves the stop alone
   pub fails_alone : (why : Stop) → IsFailure why → ended ≡ ends.Stopped why → StopsOnly e feed h why f fed
@@ -99,8 +100,8 @@ memory_unanswered pc ask_end.Memory is = refl
 
 -- ---- a service of the policy, however it ended
 
-module _ {S T : Type 0} (eq : T → T → Bool) (m : PolicyModel T S) (p : PumpState S T) (feed : List ℕ) (h : ℕ) (ready : is_ready (standing_by_words m p) h ≡ true)
-    (q : PumpState S T) (look : Look ℕ) (found : prepared_words m p h ≡ Ok look) (parts : HasParts p q) (outs : Outs ℕ) (rule : Allows eq m p look q outs)
+module _ {S T : Type 0} (eq : T → T → Bool) (m : PolicyModel T S) (p : PumpState S T) (feed : Tape) (h : ℕ) (ready : is_ready (standing_by_words m p) h ≡ true)
+    (q : PumpState S T) (look : Look) (found : preparation m (machine_by_words m p) h ≡ Ok look) (parts : HasParts p q) (outs : Outs ℕ) (rule : Allows eq m p h look q outs)
     (call : is_call look.group ≡ true) (f : PumpState S T) (ended : TurnEnd) (served : EndsService eq m q h look outs f ended) where
   service_turn_by : (given : Result (Job T) PlanEnd) → service_in eq m q h look outs ≡ given → ended ≢ ends.Memory → StepsTo eq m p feed h f feed ended
   service_turn_by (Ok job) is has_memory =
@@ -150,8 +151,10 @@ module _ {S T : Type 0} (eq : T → T → Bool) (m : PolicyModel T S) (p : PumpS
   pub service_grows : is_served m (machine_by_words m p) h ≡ true → takes_memory eq m (standing_by_words m p) h ≡ true
   service_grows serves = by_service allowing finding (is_served m (machine_by_words m p) h) serves
 
-  pub missed_grows : (look : Look ℕ) → prepared_words m p h ≡ Ok look → IsOk (answer_in eq m p look) → (is_kept eq (key_in eq m p look) (account_by_words m p) ≡ true → ⊥)
+  pub missed_grows : (look : Look) → preparation m (machine_by_words m p) h ≡ Ok look → IsOk (answer_in eq m p h look) → (is_kept eq (key_in eq m p h look) (account_by_words m p) ≡ true → ⊥)
       → takes_memory eq m (standing_by_words m p) h ≡ true
   missed_grows look found allows missed =
       by_miss allowing finding (is_served m (machine_by_words m p) h) (rule_allows m p h look eq found allows)
-      (λ kept. missed (sym (ap (finds_rule eq m (standing_by_words m p) h) (prepared_at m p h look found)) ∙ kept))
+      (λ kept. missed (ap (λ key. is_kept eq key (account_by_words m p)) (sym (key_by_words m p h look eq))
+      ∙ sym (ap (finds_rule eq m (standing_by_words m p) h) found)
+      ∙ kept))

@@ -34,14 +34,14 @@ use Rattle.miss_handler.specs.Books.{rulebook_of}
 use Rattle.word_service.specs.Written.{IsAnswerBelow, IsWordBelow}
 use Rattle.miss_handler.proofs.RuleLemmas.{rules_grown, sets_below, sets_grown}
 use Rattle.pump_engine.specs.Pump.{IsPump, PumpState, account_by_words, decode, machine_by_words, pump_of}
-use Rattle.pump_engine.specs.Steps.{CarriesOut, EndsService, Serves, after_halt, first_in, service_in, written_in}
+use Rattle.pump_engine.specs.Steps.{CarriesOut, EndsService, Serves, after_halt, first_in, job_over, service_in, written_in}
 use Rattle.engine_trait.proofs.AccountLemmas.{keeps_some}
 use Rattle.pump_engine.proofs.StepLemmas.{first_over, first_within}
 use Rattle.pump_engine.proofs.StayLemmas.{after_service, decode_grown, machine_grown, machine_served, pump_grown, pump_served}
 
 -- ---- what it is asked with
 
-module _ {S T : Type 0} (eq : T → T → Bool) (m : PolicyModel T S) (p : PumpState S T) (h : ℕ) (look : Look ℕ) (outs : Outs ℕ) where
+module _ {S T : Type 0} (eq : T → T → Bool) (m : PolicyModel T S) (p : PumpState S T) (h : ℕ) (look : Look) (outs : Outs ℕ) where
   arguments_words : args_on (hart_at (core_by (decode m p) p.core) h) (ram_by (decode m p) p.core.ram) ≡ args_by (decode m p) (args_on (hart_at p.core h) p.core.ram)
   arguments_words = ap (λ hart. args_on hart (ram_by (decode m p) p.core.ram)) (hart_at_by (decode m p) p.core h) ∙ args_on_by (decode m p) (hart_at p.core h) p.core.ram
 
@@ -54,12 +54,19 @@ module _ {S T : Type 0} (eq : T → T → Bool) (m : PolicyModel T S) (p : PumpS
   -- by a reading of words that is the engine's
   pub service_by : (plain : T) (table : TableState T) (ram : RamState ℕ) (arguments : Args T) (pc : T) → table ≡ p.table → plain ≡ m.plain p.policy → ram ≡ p.core.ram
       → arguments ≡ args_by (tag_at plain table.tags) (args_on (hart_at p.core h) p.core.ram) → pc ≡ tag_at plain table.tags outs.pc
-      → service_in eq m p h look outs ≡ service_job m p.policy (ram_word ram) (λ address. tag_at plain table.tags (ram_tag ram address)) look.service arguments pc
+      → service_in eq m p h look outs ≡ job_over m p.policy plain table ram look.service arguments pc
   service_by plain table ram arguments pc table_is plain_is ram_is arguments_are pc_is =
       service_words
-      ∙ (λ j. service_job m p.policy (ram_word p.core.ram) (λ address. tag_at (sym plain_is j) (sym table_is j).tags (ram_tag p.core.ram address)) look.service
+      ∙ (λ j. job_over m p.policy (sym plain_is j) (sym table_is j) p.core.ram look.service
       (args_by (tag_at (sym plain_is j) (sym table_is j).tags) (args_on (hart_at p.core h) p.core.ram)) (tag_at (sym plain_is j) (sym table_is j).tags outs.pc))
-      ∙ (λ j. service_job m p.policy (ram_word (sym ram_is j)) (λ address. tag_at plain table.tags (ram_tag (sym ram_is j) address)) look.service (sym arguments_are j) (sym pc_is j))
+      ∙ (λ j. job_over m p.policy plain table (sym ram_is j) look.service (sym arguments_are j) (sym pc_is j))
+
+  -- the engine may be written otherwise
+  pub service_as : (q : PumpState S T) (plain : T) (table : TableState T) (ram : RamState ℕ) (arguments : Args T) (pc : T) → p ≡ q
+      → service_in eq m q h look outs ≡ job_over m q.policy plain table ram look.service arguments pc
+      → service_in eq m p h look outs ≡ job_over m p.policy plain table ram look.service arguments pc
+  service_as q plain table ram arguments pc same =
+      subst (λ (r : PumpState S T). service_in eq m r h look outs ≡ job_over m r.policy plain table ram look.service arguments pc) (sym same)
 
 -- ---- what it leaves
 
@@ -70,7 +77,7 @@ cut_back old new len extends limit_is len_is = λ j. record {
   limit = limit_is j;
 }
 
-module _ {S T : Type 0} (eq : T → T → Bool) (m : PolicyModel T S) (holds : S → Type 0) (laws : KeepsLaws m holds) (p : PumpState S T) (is : IsPump m p) (h : ℕ) (look : Look ℕ) (outs : Outs ℕ)
+module _ {S T : Type 0} (eq : T → T → Bool) (m : PolicyModel T S) (holds : S → Type 0) (laws : KeepsLaws m holds) (p : PumpState S T) (is : IsPump m p) (h : ℕ) (look : Look) (outs : Outs ℕ)
     (job : Job T) (table : TableState T) (words : List (ℕ × ℕ × ℕ)) (answer : Option (Answer ℕ)) where
   -- the tags that are written have words, and what is written in words stands for them
   pub record IsWritten : Type 0 where
@@ -136,7 +143,7 @@ module _ {S T : Type 0} (eq : T → T → Bool) (m : PolicyModel T S) (holds : S
 
 -- ---- whether the first tag that a service writes can have a word
 
-module _ {S T : Type 0} (eq : T → T → Bool) (m : PolicyModel T S) (p : PumpState S T) (is : IsPump m p) (h : ℕ) (look : Look ℕ) (outs : Outs ℕ) where
+module _ {S T : Type 0} (eq : T → T → Bool) (m : PolicyModel T S) (p : PumpState S T) (is : IsPump m p) (h : ℕ) (look : Look) (outs : Outs ℕ) where
   -- with tags that come, there are too many exactly where the table has
   seeing_counted : (tags : List T) → is_over (seeing eq tags (account_by_words m p)) ≡ nat_lt p.table.limit (length (with_tags eq p.table.tags tags))
   seeing_counted tags =
@@ -174,7 +181,7 @@ module _ {S T : Type 0} (eq : T → T → Bool) (m : PolicyModel T S) (p : PumpS
 
 -- ---- a service that nothing refuses, and whose words find no memory
 
-module _ {S T : Type 0} (eq : T → T → Bool) (m : PolicyModel T S) (p : PumpState S T) (h : ℕ) (look : Look ℕ) (outs : Outs ℕ)
+module _ {S T : Type 0} (eq : T → T → Bool) (m : PolicyModel T S) (p : PumpState S T) (h : ℕ) (look : Look) (outs : Outs ℕ)
     (some : IsOkAnd (service_in eq m p h look outs) (λ job. 1 ≤ length job.words)) (room : Bool)
     (told : IfOk (service_in eq m p h look outs) (λ job. 1 ≤ length job.words → is_over (first_in eq m p h look outs job) ≡ not room)) where
   first_told : (job : Job T) → service_in eq m p h look outs ≡ Ok job → is_over (first_in eq m p h look outs job) ≡ not room

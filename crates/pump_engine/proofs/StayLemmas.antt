@@ -11,7 +11,7 @@ use Rattle.policy_trait.specs.declared.services.Plan.{Plan}
 use Rattle.tag_memory.specs.Maps.{hart_by}
 use Rattle.tag_memory.specs.Ram.{ram_bytes}
 use Rattle.turn_steps.specs.Effects.{IsSound}
-use Rattle.turn_steps.specs.Maps.{look_by}
+use Rattle.turn_steps.specs.Feeds.{Tape}
 use Rattle.turn_steps.specs.declared.look.Look.{Look}
 use Rattle.turn_steps.specs.declared.stop.Stop.{Stop}
 use Rattle.shared_terms.specs.Counts.{next_count}
@@ -24,7 +24,7 @@ use Rattle.engine_trait.proofs.MapLemmas.{core_effected_by, core_served_by}
 use Rattle.tag_intern.specs.Table.{Extends}
 use Rattle.tag_intern.specs.Words.{tag_at}
 use Rattle.tag_intern.proofs.TableLemmas.{longer, same_words}
-use Rattle.miss_handler.specs.Asked.{AreInWords, AreOutWords, AreRules}
+use Rattle.miss_handler.specs.Asked.{AreOutWords, AreRules}
 use Rattle.miss_handler.specs.Books.{rulebook_of}
 use Rattle.miss_handler.proofs.RuleLemmas.{tag_at_grown}
 use Rattle.word_service.specs.Written.{IsAnswerBelow, IsWordBelow}
@@ -77,9 +77,9 @@ pump_at m p is core core_is turns halt =
     })
 
 module _ {S T : Type 0} (m : PolicyModel T S) (p : PumpState S T) where
-  pub machine_effected : (feed : List ℕ) (h : ℕ) (look : Look ℕ) (outs : Outs ℕ)
+  pub machine_effected : (feed : Tape) (h : ℕ) (look : Look) (outs : Outs ℕ)
       → machine_by_words m (after_effect p feed h look outs) ≡ record (machine_by_words m p) {
-        core = core_effected (machine_by_words m p).core feed h (look_by (decode m p) look) (outs_by (decode m p) outs);
+        core = core_effected (machine_by_words m p).core feed h look (outs_by (decode m p) outs);
       }
   machine_effected feed h look outs =
       ap (λ (c : CoreState T). record { policy = p.policy; core = c }) (sym (core_effected_by (decode m p) p.core feed h look outs))
@@ -115,15 +115,14 @@ module _ {S T : Type 0} (m : PolicyModel T S) (p : PumpState S T) where
       room = is.room;
     }
 
-    pub pump_effected : (feed : List ℕ) (h : ℕ) (look : Look ℕ) (outs : Outs ℕ) → h < length p.core.harts → IsSound (ram_bytes p.core.ram) look.effect
-        → AreInWords (length p.table.tags) look.inputs → AreOutWords (length p.table.tags) outs → IsPump m (after_effect p feed h look outs)
-    pump_effected feed h look outs there sound ins_are outs_are =
-        let tags_look = look_by (decode m p) look in
+    pub pump_effected : (feed : Tape) (h : ℕ) (look : Look) (outs : Outs ℕ) → h < length p.core.harts → IsSound (ram_bytes p.core.ram) look.effect
+        → AreOutWords (length p.table.tags) outs → IsPump m (after_effect p feed h look outs)
+    pump_effected feed h look outs there sound outs_are =
         let tags_outs = outs_by (decode m p) outs in
-        let stays = effected_stays m (machine_by_words m p) is.machine feed h tags_look tags_outs (harts_there h there) sound in
+        let stays = effected_stays m (machine_by_words m p) is.machine feed h look tags_outs (harts_there h there) sound in
         pump_with (core_effected p.core feed h look outs) (next_count p.turns)
         (subst (IsMachine m) (sym (machine_effected feed h look outs)) stays.machine)
-        (low_effected (length p.table.tags) p.core is.words feed h look outs ins_are outs_are)
+        (low_effected (length p.table.tags) p.core is.words feed h look outs outs_are)
 
 -- ---- the engine after a service of its policy
 

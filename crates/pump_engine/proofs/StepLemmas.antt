@@ -8,6 +8,7 @@ use Rattle.shared_terms.specs.Steps.{◌>>=◌}
 use Rattle.policy_trait.specs.declared.rules.Outs.{Outs}
 use Rattle.policy_trait.specs.declared.services.PlanEnd.{PlanEnd}
 use Rattle.monitor_calls.specs.Service.{Job}
+use Rattle.turn_steps.specs.Feeds.{Tape}
 use Rattle.turn_steps.specs.Looks.{is_call}
 use Rattle.turn_steps.specs.declared.look.Look.{Look}
 use Rattle.turn_steps.specs.declared.stop.Stop.{Stop}
@@ -106,7 +107,7 @@ module _ {S T : Type 0} (eq : T → T → Bool) (m : PolicyModel T S) (s : Machi
     accounted_checked a = accounted_by a a (Err why) (rule_counted_checked a) job_checked
 
   -- the turn came to its rule
-  module _ (look : Look T) (looked : preparation m s h ≡ Ok look) where
+  module _ (look : Look) (looked : preparation m s h ≡ Ok look) where
     pub look_counted_at : (a : Account T) → look_counted eq m s h a ≡ after_look eq m s h (Ok look) a
     unfolding look_counted
     look_counted_at a = ap (λ found. after_look eq m s h found a) looked
@@ -135,7 +136,7 @@ module _ {S T : Type 0} (eq : T → T → Bool) (m : PolicyModel T S) (s : Machi
 
 -- ---- a call of the policy's services
 
-module _ {S T : Type 0} (m : PolicyModel T S) (s : Machine S T) (h : ℕ) (look : Look T) (outs : Outs T) where
+module _ {S T : Type 0} (m : PolicyModel T S) (s : Machine S T) (h : ℕ) (look : Look) (outs : Outs T) where
   abbrev planned_if : Bool → Result (Job T) PlanEnd → Result (Option (Job T)) Stop
   planned_if call given = if call then or_unserved (hart_at s.core h).pc look.service given else Ok None
 
@@ -148,7 +149,7 @@ module _ {S T : Type 0} (m : PolicyModel T S) (s : Machine S T) (h : ℕ) (look 
 abbrev pub stepped_to : {S T : Type 0} → Account T → Turned S T → Stepped S T
 stepped_to account turned = record { standing = record { machine = turned.machine; account = account }; feed = turned.feed; ended = turned.ended }
 
-module _ {S T : Type 0} (eq : T → T → Bool) (m : PolicyModel T S) (e : Standing S T) (feed : List ℕ) (h : ℕ) (ready : is_ready e h ≡ true) where
+module _ {S T : Type 0} (eq : T → T → Bool) (m : PolicyModel T S) (e : Standing S T) (feed : Tape) (h : ℕ) (ready : is_ready e h ≡ true) where
   -- ---- steps that are turns
 
   by_turn : (account : Account T) (turned : Turned S T) → account_after_turn eq m e.machine h e.account ≡ account → is_over account ≡ false
@@ -168,7 +169,7 @@ module _ {S T : Type 0} (eq : T → T → Bool) (m : PolicyModel T S) (e : Stand
 
   -- ---- steps that come to the rule
 
-  module _ (look : Look T) (looked : preparation m e.machine h ≡ Ok look) where
+  module _ (look : Look) (looked : preparation m e.machine h ≡ Ok look) where
     -- which refused
     pub refused_step : (why : Stop) (b : Account T) → rule_answer m e.machine h look ≡ Err why → look_counted eq m e.machine h e.account ≡ b → is_over b ≡ false
         → step eq m e feed h ≡ stepped_to (with_turn b) (settlement m e.machine feed h (Err why))

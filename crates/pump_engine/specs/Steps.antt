@@ -1,31 +1,29 @@
 -- The steps of a turn where tags are words.
-use Rattle.std.specs.Prelude.{◌≡◌, ℕ, Bool, true, false, ◌&&◌, ◌||◌, not, List, Some, None, Result, Ok, Err, IsOk, if◌then◌else◌, is_ok, length}
-use Rattle.rv_step.specs.declared.faults.Fault.TheVariants.{NoService}
-use Rattle.policy_trait.specs.Maps.{ins_by, outs_by}
+use Rattle.std.specs.Prelude.{◌≡◌, ℕ, Bool, true, false, ◌&&◌, ◌||◌, not, List, Some, None, Result, Ok, Err, IsOk, is_ok, length}
+use Rattle.policy_trait.specs.Maps.{outs_by}
 use Rattle.policy_trait.specs.Model.{PolicyModel}
-use Rattle.shared_terms.specs.Steps.{◌>>=◌}
 use Rattle.policy_trait.specs.declared.rules.Outs.{Outs}
 use Rattle.policy_trait.specs.declared.rules.Refused.{Refused}
+use Rattle.policy_trait.specs.declared.services.Args.{Args}
 use Rattle.policy_trait.specs.declared.services.PlanEnd.{PlanEnd}
 use Rattle.tag_memory.specs.Hart.{HartState}
-use Rattle.tag_memory.specs.Ram.{RamState}
-use Rattle.monitor_calls.specs.Service.{Job}
-use Rattle.turn_steps.specs.Looks.{is_call, look_result}
-use Rattle.turn_steps.specs.Maps.{look_by}
+use Rattle.tag_memory.specs.Ram.{RamState, ram_tag, ram_word}
+use Rattle.monitor_calls.specs.Service.{Job, service_job}
+use Rattle.turn_steps.specs.Feeds.{Tape}
 use Rattle.turn_steps.specs.declared.look.Look.{Look}
 use Rattle.turn_steps.specs.declared.stop.Stop.{Stop}
-use Rattle.turn_steps.specs.declared.stop.Stop.TheVariants as stop
 use Rattle.engine_trait.specs.Accounts.{Account, Key, first_written, is_kept, is_over, key_of, looked_up, rule_kept, seeing, written_tags}
 use Rattle.shared_terms.specs.Counts.{next_count}
 use Rattle.engine_trait.specs.Machine.{fresh_core, hart_at, stopping}
 use Rattle.engine_trait.specs.Standing.{Standing}
-use Rattle.engine_trait.specs.Turn.{core_effected, core_served, is_served, or_fault, preparation, rule_at, service_on, service_stop, violation}
+use Rattle.engine_trait.specs.Turn.{core_effected, core_served, is_served, preparation, rule_at, rule_inputs, service_on, service_stop, violation}
 use Rattle.engine_trait.specs.declared.ends.Halt.{Halt}
 use Rattle.engine_trait.specs.declared.ends.Halt.TheVariants as halt
 use Rattle.engine_trait.specs.declared.ends.TurnEnd.{TurnEnd}
 use Rattle.engine_trait.specs.declared.ends.TurnEnd.TheVariants as ends
 use Rattle.rule_cache.specs.Stores.{Store}
 use Rattle.tag_intern.specs.Table.{TableState}
+use Rattle.tag_intern.specs.Words.{tag_at}
 use Rattle.miss_handler.specs.Asked.{AreOutWords, answer_on, tag_key}
 use Rattle.miss_handler.specs.Books.{rulebook_of}
 use Rattle.miss_handler.specs.declared.ends.AskEnd.{AskEnd}
@@ -36,18 +34,6 @@ use Rattle.pump_engine.specs.Pump.{PumpState, account_by_words, decode, machine_
 abbrev pub pump_start : {S T : Type 0} → S → List (HartState ℕ) → RamState ℕ → TableState T → Store → PumpState S T
 pump_start policy harts ram table store = pump_of policy (fresh_core harts ram) table store 0 None
 
-module _ {S T : Type 0} (m : PolicyModel T S) where
-  -- a call of a service other than exit, put and get is one of the policy's
-  abbrev pub is_known : S → Look ℕ → Bool
-  is_known policy look = not (is_call look.group) || m.knows policy look.service
-
-  abbrev pub known_or : S → Look ℕ → Result (Look ℕ) Stop
-  known_or policy look = if is_known policy look then Ok look else Err (stop.Fault (NoService look.service))
-
-  -- the checks of a hart's turn, which no tag decides
-  unfoldable pub prepared_words : PumpState S T → ℕ → Result (Look ℕ) Stop
-  prepared_words p h = or_fault (look_result (hart_at p.core h) p.core.ram) >>= known_or p.policy
-
 -- a turn that stopped the hart is counted
 abbrev pub after_stop : {S T : Type 0} → PumpState S T → ℕ → Stop → PumpState S T
 after_stop p h why = record p { core = stopping p.core h why; turns = next_count p.turns }
@@ -57,7 +43,7 @@ abbrev pub after_halt : {S T : Type 0} → PumpState S T → Halt → PumpState 
 after_halt p why = record p { halt = Some why }
 
 -- a turn that had the effect of its instruction
-abbrev pub after_effect : {S T : Type 0} → PumpState S T → List ℕ → ℕ → Look ℕ → Outs ℕ → PumpState S T
+abbrev pub after_effect : {S T : Type 0} → PumpState S T → Tape → ℕ → Look → Outs ℕ → PumpState S T
 after_effect p feed h look outs = record p { core = core_effected p.core feed h look outs; turns = next_count p.turns }
 
 -- ---- the rule
@@ -69,13 +55,13 @@ pub record HasParts {S T : Type 0} (p q : PumpState S T) : Type 0 where
   pub turns : q.turns ≡ p.turns
   pub halt : q.halt ≡ p.halt
 
-module _ {S T : Type 0} (eq : T → T → Bool) (m : PolicyModel T S) (p : PumpState S T) (look : Look ℕ) where
+module _ {S T : Type 0} (eq : T → T → Bool) (m : PolicyModel T S) (p : PumpState S T) (h : ℕ) (look : Look) where
   -- what the rule is looked up by, and its answer, in tags
   abbrev pub key_in : Key T
-  key_in = tag_key (rulebook_of m p.policy) p.table.tags look.group look.inputs
+  key_in = tag_key (rulebook_of m p.policy) p.table.tags look.group (rule_inputs p.core h look)
 
   abbrev pub answer_in : Result (Outs T) Refused
-  answer_in = answer_on (rulebook_of m p.policy) p.table.tags look.group look.inputs
+  answer_in = answer_on (rulebook_of m p.policy) p.table.tags look.group (rule_inputs p.core h look)
 
   -- the account after the look-up, and after the rule
   abbrev pub looked_in : Account T
@@ -84,12 +70,11 @@ module _ {S T : Type 0} (eq : T → T → Bool) (m : PolicyModel T S) (p : PumpS
   abbrev pub ruled_in : Account T
   ruled_in = rule_kept eq key_in answer_in looked_in
 
-  -- the rule allows: its outputs are those that the words stand for, the rule is kept, and no tag that was read is another
+  -- the rule allows: its outputs are those that the words stand for, the rule is kept, and no tag is another
   pub record Allows (q : PumpState S T) (outs : Outs ℕ) : Type 0 where
     pub rule : answer_in ≡ Ok (outs_by (decode m q) outs)
     pub account : account_by_words m q ≡ ruled_in
     pub machine : machine_by_words m q ≡ machine_by_words m p
-    pub inputs : ins_by (decode m q) look.inputs ≡ ins_by (decode m p) look.inputs
     pub within : is_over (account_by_words m q) ≡ false
     pub words : AreOutWords (length q.table.tags) outs
 
@@ -117,10 +102,15 @@ after_unanswered p h ask_end.Memory = after_halt p halt.Memory
 
 -- ---- a service of the policy
 
-module _ {S T : Type 0} (eq : T → T → Bool) (m : PolicyModel T S) (p : PumpState S T) (h : ℕ) (look : Look ℕ) (outs : Outs ℕ) where
+-- what a service will do that is asked so, over memory whose words a table reads
+abbrev pub job_over : {S T : Type 0} → PolicyModel T S → S → T → TableState T → RamState ℕ → ℕ → Args T → T → Result (Job T) PlanEnd
+job_over m policy plain table ram number arguments pc =
+    service_job m policy (ram_word ram) (λ address. tag_at plain table.tags (ram_tag ram address)) number arguments pc
+
+module _ {S T : Type 0} (eq : T → T → Bool) (m : PolicyModel T S) (p : PumpState S T) (h : ℕ) (look : Look) (outs : Outs ℕ) where
   -- what the service that is called will do, in tags
   abbrev pub service_in : Result (Job T) PlanEnd
-  service_in = service_on m (machine_by_words m p) h (look_by (decode m p) look) (outs_by (decode m p) outs)
+  service_in = service_on m (machine_by_words m p) h look (outs_by (decode m p) outs)
 
   -- the account after the tags that it writes have words
   abbrev pub written_in : Job T → Account T
@@ -156,7 +146,7 @@ module _ {S T : Type 0} (eq : T → T → Bool) (m : PolicyModel T S) (p : PumpS
 
 module _ {S T : Type 0} (eq : T → T → Bool) (m : PolicyModel T S) (e : Standing S T) (h : ℕ) where
   -- the rule of what is looked at is kept
-  abbrev pub finds_rule : Result (Look T) Stop → Bool
+  abbrev pub finds_rule : Result Look Stop → Bool
   finds_rule (Ok look) = is_kept eq (key_of eq m e.machine h look) e.account
   finds_rule (Err why) = false
 

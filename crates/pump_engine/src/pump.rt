@@ -1,27 +1,26 @@
 //! The engine whose tags are words of a table, with a cache of rules.
 
-ghost use Rattle.std.specs.Prelude.{◌≡◌, ◌≢◌, ◌+◌, ◌%◌, ◌<◌, ◌≤◌, ◌&&◌, ◌||◌, not, [], Err, Ok, Some, None, IfErr, IfOk, IsOk, IsOkAnd, IsTrue, false, true, is_none, length};
+ghost use Rattle.std.specs.Prelude.{◌≡◌, ◌≢◌, ◌+◌, ◌%◌, ◌<◌, ◌≤◌, not, [], Err, Ok, Some, None, IfErr, IfOk, IsOk, IsOkAnd, IsTrue, OnOk, false, true, length};
 ghost use Rattle.std.specs.List.{All};
-ghost use Rattle.policy_trait.specs.Maps.{ins_by, outs_by};
 ghost use Rattle.policy_trait.specs.Model.{IsGiven};
 ghost use Rattle.monitor_calls.specs.Ends.{EndsAs, job_by};
 ghost use Rattle.tag_memory.specs.Hart.{reg_tag, reg_value};
 ghost use Rattle.tag_memory.specs.Ram.{IsPlace, ram_bytes, ram_tag, ram_word};
 ghost use Rattle.turn_steps.specs.Effects.{IsSound};
 ghost use Rattle.turn_steps.specs.Looks.{is_call};
-ghost use Rattle.turn_steps.specs.Maps.{look_by};
+ghost use Rattle.turn_steps.specs.declared.look.Look.{Look as AnyLook};
 ghost use Rattle.engine_trait.specs.Accounts.{is_kept, is_over};
 ghost use Rattle.engine_trait.specs.Machine.{IsMachine, hart_at, stop_at};
 ghost use Rattle.engine_trait.specs.Standing.{GivesUp, IsFailure, StopsOnly, Unchanged, is_ready, step};
-ghost use Rattle.engine_trait.specs.Turn.{carried_at, end_of, service_on};
-ghost use Rattle.miss_handler.specs.Asked.{AreInWords, AreOutWords};
-ghost use Rattle.pump_engine.specs.Pump.{IsPump, account_by_words, standing_by_words};
-ghost use Rattle.pump_engine.specs.Steps.{Allows, CarriesOut, EndsService, HasParts, Unanswered, after_effect, after_halt, after_stop, after_unanswered, first_in, is_known, key_in, prepared_words, pump_start, service_in, takes_memory, unanswered_end};
+ghost use Rattle.engine_trait.specs.Turn.{carried_at, end_of, is_offered, preparation};
+ghost use Rattle.miss_handler.specs.Asked.{AreOutWords};
+ghost use Rattle.pump_engine.specs.Pump.{IsPump, account_by_words, machine_by_words, standing_by_words};
+ghost use Rattle.pump_engine.specs.Steps.{Allows, CarriesOut, EndsService, HasParts, Unanswered, after_effect, after_halt, after_stop, after_unanswered, first_in, job_over, key_in, pump_start, service_in, takes_memory, unanswered_end};
 
 use engine_trait::{Core, Counts, Engine, Feed, Halt, Stop, TurnEnd};
 use miss_handler::{AskEnd, Asking, Masks, ask};
 use monitor_calls::{Job, ServeEnd, serve};
-use policy_trait::{Policy, TagMap};
+use policy_trait::{Args, Policy, TagMap};
 use rule_cache::{OutWords, RuleStore};
 use rv_step::Fault;
 use std::alloc::Global;
@@ -45,6 +44,17 @@ pub struct Pump<P: Policy, T: TagTable<Tag = P::Tag>, C: RuleStore> {
     store: C,
     turns: u64,
     halt: Option<Halt>,
+}
+
+/// What a policy's service is asked with, in the tags that words stand for.
+#[derive(Drop)]
+struct ServiceCall<'a, T: TagTable> {
+    /// The arguments of the hart that calls it.
+    arguments: Args<T::Tag>,
+    /// The tag of that hart's next pc.
+    pc: T::Tag,
+    /// Memory.
+    memory: Decoded<'a, T>,
 }
 
 impl<P: Policy, T: TagTable<Tag = P::Tag>, C: RuleStore> Model for Pump<P, T, C> {
@@ -107,28 +117,27 @@ impl<P: Policy, T: TagTable<Tag = P::Tag>, C: RuleStore> Pump<P, T, C> {
 
     /// Whether the service that is called, if one is, is one that the machine or the policy offers.
     #[inline(always)]
-    fn is_known(&self, look: &Look<u32>) -> bool
-        ensures { result ≡ is_known P.model self.now.policy look.now }
+    fn is_offered(&self, look: &Look) -> bool
+        ensures { result ≡ is_offered P.model (machine_by_words P.model self.now) look.now }
     {
         !is_call(look.group) || self.policy.knows(look.service)
     }
 
-    /// The checks of hart `h`'s turn.
+    /// The checks of hart `h`'s turn, which no tag decides.
     #[inline(always)]
-    #[tactic(auto, unfolding(crate::specs::Steps::prepared_words))]
-    fn prepare(&self, h: u32) -> Result<Look<u32>, Stop>
+    fn prepare(&self, h: u32) -> Result<Look, Stop>
         requires { h < length self.now.core.harts }
-        ensures value { result ≡ prepared_words P.model self.now h }
+        ensures value { result ≡ preparation P.model (machine_by_words P.model self.now) h }
+        ensures within { OnOk result ((hart_at self.now.core h).pc + 4 ≤ ram_bytes self.now.core.ram) }
         ensures sound { IfOk result (λ look. IsSound (ram_bytes self.now.core.ram) look.effect) }
-        ensures known { IfOk result (λ look. is_known P.model self.now.policy look ≡ true) }
-        ensures in_words { IfOk result
-            (λ look. AreInWords (length self.now.table.tags) look.inputs) }
+        ensures offered { IfOk result
+            (λ look. is_offered P.model (machine_by_words P.model self.now) look ≡ true) }
     {
         let look = match self.core.look(h) {
             Ok(look) => look,
             Err(fault) => return Err(Stop::Fault(fault)),
         };
-        if !self.is_known(&look) {
+        if !self.is_offered(&look) {
             return Err(Stop::Fault(Fault::NoService(look.service)));
         }
         Ok(look)
@@ -163,17 +172,19 @@ impl<P: Policy, T: TagTable<Tag = P::Tag>, C: RuleStore> Pump<P, T, C> {
         TurnEnd::Memory
     }
 
-    /// The outputs of the rule that is asked with `look`, as words.
+    /// The outputs of the rule as words, which is asked with the words as they stand.
     #[inline(always)]
-    fn ask(&mut self, look: &Look<u32>) -> Result<OutWords, AskEnd>
-        requires { AreInWords (length self.old.table.tags) look.now.inputs }
+    fn ask(&mut self, h: u32, look: &Look) -> Result<OutWords, AskEnd>
+        requires hart { h < length self.old.core.harts }
+        requires within { (hart_at self.old.core h).pc + 4 ≤ ram_bytes self.old.core.ram }
+        requires sound { IsSound (ram_bytes self.old.core.ram) look.now.effect }
         ensures stays { HasParts self.old self.new }
         ensures core { self.new.core ≡ self.old.core }
         ensures policy { self.new.policy ≡ self.old.policy }
-        ensures in_words { AreInWords (length self.new.table.tags) look.now.inputs }
-        ensures allowed { IfOk result (Allows P.Tag.eq P.model self.old look.now self.new) }
-        ensures unanswered { IfErr result (Unanswered P.Tag.eq P.model self.old look.now self.new) }
-        ensures kept { is_kept P.Tag.eq (key_in P.Tag.eq P.model self.old look.now)
+        ensures allowed { IfOk result (Allows P.Tag.eq P.model self.old h look.now self.new) }
+        ensures unanswered { IfErr result
+            (Unanswered P.Tag.eq P.model self.old h look.now self.new) }
+        ensures kept { is_kept P.Tag.eq (key_in P.Tag.eq P.model self.old h look.now)
             (account_by_words P.model self.old) ≡ true → IsOk result }
     {
         let mut rules = Asking::new(&self.policy, &self.masks);
@@ -182,7 +193,7 @@ impl<P: Policy, T: TagTable<Tag = P::Tag>, C: RuleStore> Pump<P, T, C> {
             &mut self.store,
             &mut rules,
             look.group,
-            look.inputs,
+            self.core.inputs(h, look),
         )
     }
 
@@ -191,6 +202,8 @@ impl<P: Policy, T: TagTable<Tag = P::Tag>, C: RuleStore> Pump<P, T, C> {
         requires { h < length self.old.core.harts }
         ensures state { self.new ≡ after_unanswered self.old h end }
         ensures end { result ≡ unanswered_end (hart_at self.old.core h).pc end }
+        ensures harts { length self.new.core.harts ≡ length self.old.core.harts }
+        ensures bytes { ram_bytes self.new.core.ram ≡ ram_bytes self.old.core.ram }
     {
         match end {
             AskEnd::Stopped(refused) => {
@@ -204,11 +217,10 @@ impl<P: Policy, T: TagTable<Tag = P::Tag>, C: RuleStore> Pump<P, T, C> {
 
     /// The effect of an allowed instruction that is no service of the policy.
     #[inline(always)]
-    fn effect(&mut self, h: u32, feed: &mut Feed, look: &Look<u32>, outs: OutWords) -> TurnEnd
+    fn effect(&mut self, h: u32, feed: &mut Feed, look: &Look, outs: OutWords) -> TurnEnd
         requires hart { h < length self.old.core.harts }
         requires own { is_call look.now.group ≡ false }
         requires sound { IsSound (ram_bytes self.old.core.ram) look.now.effect }
-        requires in_words { AreInWords (length self.old.table.tags) look.now.inputs }
         requires out_words { AreOutWords (length self.old.table.tags) outs }
         ensures state { self.new ≡ after_effect self.old feed.old h look.now outs }
         ensures feed { feed.new ≡ (carried_at self.old.core feed.old h look.now outs).feed }
@@ -233,9 +245,32 @@ impl<P: Policy, T: TagTable<Tag = P::Tag>, C: RuleStore> Pump<P, T, C> {
         }
     }
 
+    /// What the policy's service that hart `h` calls is asked with.
+    fn service_call(&self, h: u32, outs: OutWords) -> ServiceCall<'_, T>
+        requires { h < length self.now.core.harts }
+        ensures service { (look : AnyLook) → service_in P.Tag.eq P.model self.now h look outs
+            ≡ job_over P.model self.now.policy result.memory.decoder.plain
+            (T.state result.memory.decoder.tags.now) result.memory.ram.now look.service
+            result.arguments result.pc }
+        ensures memory { result.memory.ram.now ≡ self.now.core.ram }
+        ensures bytes { result.arguments.ram ≡ ram_bytes self.now.core.ram }
+    {
+        let decoder = self.decoder();
+        let arguments = self.core.arguments(h).map(&decoder);
+        let pc = decoder.image(outs.pc);
+        let memory = Decoded {
+            ram: self.core.ram(),
+            decoder,
+        };
+        ServiceCall {
+            arguments,
+            pc,
+            memory,
+        }
+    }
+
     /// The policy's service that hart `h` calls, up to its effect.
-    #[tactic(auto, unfolding(engine_trait::specs::Turn::service_on))]
-    fn plan(&self, h: u32, look: &Look<u32>, outs: OutWords) -> Result<Job<P::Tag>, ServeEnd>
+    fn plan(&self, h: u32, look: &Look, outs: OutWords) -> Result<Job<P::Tag>, ServeEnd>
         requires hart { h < length self.now.core.harts }
         requires known { IsTrue (P.model.knows self.now.policy look.now.service) }
         ensures ok { IfOk result (λ job. service_in P.Tag.eq P.model self.now h look.now outs
@@ -250,40 +285,33 @@ impl<P: Policy, T: TagTable<Tag = P::Tag>, C: RuleStore> Pump<P, T, C> {
             (λ job. All (λ word. IsPlace (ram_bytes self.now.core.ram) word.0) job.words.items) }
         ensures given { IfOk result (λ job. IsGiven P.model self.now.policy job.plan) }
     {
-        let decoder = self.decoder();
-        let arguments = self.core.arguments(h).map(&decoder);
-        let pc = decoder.image(outs.pc);
-        let memory = Decoded {
-            ram: self.core.ram(),
-            decoder,
-        };
+        let call = self.service_call(h, outs);
         serve(
             self.alloc,
             &self.policy,
             look.service,
-            &arguments,
-            pc,
-            &memory,
+            &call.arguments,
+            call.pc,
+            &call.memory,
         )
     }
 
     /// Whether the first tag can have a word that a service writes which nothing refuses and which has words to write.
-    #[tactic(auto, unfolding(engine_trait::specs::Turn::service_on))]
-    fn has_room_for_first(&self, h: u32, look: &Look<u32>, outs: OutWords) -> bool
+    fn has_room_for_first(&self, h: u32, look: &Look, outs: OutWords) -> bool
         requires hart { h < length self.now.core.harts }
         requires known { IsTrue (P.model.knows self.now.policy look.now.service) }
         ensures { IfOk (service_in P.Tag.eq P.model self.now h look.now outs)
             (λ job. 1 ≤ length job.words
             → is_over (first_in P.Tag.eq P.model self.now h look.now outs job) ≡ not result) }
     {
-        let decoder = self.decoder();
-        let given = self.core.arguments(h).map(&decoder);
-        let pc = decoder.image(outs.pc);
-        let memory = Decoded {
-            ram: self.core.ram(),
-            decoder,
-        };
-        match first_tag(&self.policy, look.service, &given, pc, &memory) {
+        let call = self.service_call(h, outs);
+        match first_tag(
+            &self.policy,
+            look.service,
+            &call.arguments,
+            call.pc,
+            &call.memory,
+        ) {
             Some(tag) => has_room(&self.tags, &tag),
             None => true,
         }
@@ -291,7 +319,7 @@ impl<P: Policy, T: TagTable<Tag = P::Tag>, C: RuleStore> Pump<P, T, C> {
 
     /// Ends a call of a service that nothing refuses, and whose words found no memory: for want of tag words where the
     /// first tag that it writes can't have one.
-    fn end_without_memory(&mut self, h: u32, look: &Look<u32>, outs: OutWords) -> TurnEnd
+    fn end_without_memory(&mut self, h: u32, look: &Look, outs: OutWords) -> TurnEnd
         requires hart { h < length self.old.core.harts }
         requires known { IsTrue (P.model.knows self.old.policy look.now.service) }
         requires unrefused { IsOkAnd (service_in P.Tag.eq P.model self.old h look.now outs)
@@ -308,7 +336,7 @@ impl<P: Policy, T: TagTable<Tag = P::Tag>, C: RuleStore> Pump<P, T, C> {
 
     /// Carries out a service that nothing refused. What it writes gets words, and the policy takes note, before anything
     /// is written, since those alone can fail.
-    fn carry_out(&mut self, h: u32, look: &Look<u32>, outs: OutWords, job: &Job<P::Tag>) -> TurnEnd
+    fn carry_out(&mut self, h: u32, look: &Look, outs: OutWords, job: &Job<P::Tag>) -> TurnEnd
         requires hart { h < length self.old.core.harts }
         requires given { IsGiven P.model self.old.policy job.now.plan }
         requires places { All (λ word. IsPlace (ram_bytes self.old.core.ram) word.0)
@@ -337,7 +365,7 @@ impl<P: Policy, T: TagTable<Tag = P::Tag>, C: RuleStore> Pump<P, T, C> {
 
     /// A call of a policy's service that the rule allowed.
     #[inline(never)]
-    fn service(&mut self, h: u32, look: &Look<u32>, outs: OutWords) -> TurnEnd
+    fn service(&mut self, h: u32, look: &Look, outs: OutWords) -> TurnEnd
         requires hart { h < length self.old.core.harts }
         requires known { IsTrue (P.model.knows self.old.policy look.now.service) }
         requires aligned { look.now.effect.next % 4 ≡ 0 }
@@ -396,7 +424,7 @@ impl<P: Policy, T: TagTable<Tag = P::Tag>, C: RuleStore> Engine for Pump<P, T, C
             Ok(look) => look,
             Err(why) => return self.stop_hart(h, why),
         };
-        let outs = match self.ask(&look) {
+        let outs = match self.ask(h, &look) {
             Ok(outs) => outs,
             Err(end) => return self.end_unanswered(h, end),
         };

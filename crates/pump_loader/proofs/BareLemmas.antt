@@ -8,7 +8,7 @@ use Rattle.policy_choice.specs.All.{all, choice_state}
 use Rattle.policy_choice.specs.Choice.{is_none}
 use Rattle.policy_product.specs.Nothing.{nothing, no_tag}
 use Rattle.policy_choice.proofs.NothingLemmas.{nothing_mirrors}
-use Rattle.policy_choice.specs.declared.choice.Choice.{Choice}
+use Rattle.policy_choice.specs.declared.basis.Basis.{Basis}
 use Rattle.tag_memory.specs.Hart.{fresh_hart}
 use Rattle.tag_memory.specs.Maps.{hart_by}
 use Rattle.engine_trait.specs.Maps.{core_by}
@@ -41,11 +41,11 @@ module _ {S T U V : Type 0} (f : T → U) (m : PolicyModel T S) (s : S) (n : Pol
     ram = record { words = (start_machine n t g).core.ram.words; tags = start_tags_by j; plain = mirrors.plain j };
   }
 
-pub bare_start_mirrors : (choice : Choice) (g : Picture) → is_none choice ≡ true → IsMirrored no_tag all nothing (start_of choice g) (bare_start_of g)
+pub bare_start_mirrors : (basis : Basis) (g : Picture) → is_none basis.choice ≡ true → IsMirrored no_tag all nothing (start_of basis g) (bare_start_of g)
 unfolding start_machine
-bare_start_mirrors choice g none = record {
-  policy = nothing_mirrors choice g (record {}) none;
-  core = start_core_by no_tag all (choice_state choice g) nothing (record {}) (nothing_mirrors choice g (record {}) none) g;
+bare_start_mirrors basis g none = record {
+  policy = nothing_mirrors basis g (record {}) none;
+  core = start_core_by no_tag all (choice_state basis g) nothing (record {}) (nothing_mirrors basis g (record {}) none) g;
   halt = refl;
   uncached = record { ways = refl; seen = refl; sets = refl };
   mirror_uncached = record { ways = refl; seen = refl; sets = refl };

@@ -3,7 +3,7 @@ ghost use Rattle.std.specs.Prelude.{◌≡◌, ◌≤◌};
 
 use engine_trait::{LoadEnd, Loader};
 use image_format::Image;
-use policy_choice::{All, Choice, choose};
+use policy_choice::{All, Basis, choose};
 use policy_trait::Policy;
 use pump_engine::Pump;
 use rule_cache::RuleCache;
@@ -18,7 +18,7 @@ use word_loader::start_cached;
 pub struct PumpLoad<'a> {
     alloc: Global,
     image: &'a Image,
-    choice: Choice,
+    basis: Basis,
     cache: u32,
     tags: u32,
 }
@@ -30,33 +30,27 @@ impl<'a> Model for PumpLoad<'a> {
 
     ghost view = { λ l. record {
       image = l.image.now;
-      choice = l.choice;
+      basis = l.basis;
       cache = l.cache;
       tags = l.tags;
     } };
 
     ghost invariant = { λ l. HasRoom (record {
       image = l.image.now;
-      choice = l.choice;
+      basis = l.basis;
       cache = l.cache;
       tags = l.tags;
     }) };
 }
 
 impl<'a> PumpLoad<'a> {
-    /// The start of this image under the policies of this choice, with room for at least one rule and one tag.
-    pub fn new(
-        alloc: Global,
-        image: &'a Image,
-        choice: Choice,
-        cache: u32,
-        tags: u32,
-    ) -> PumpLoad<'a>
+    /// The start of this image on this basis, with room for at least one rule and one tag.
+    pub fn new(alloc: Global, image: &'a Image, basis: Basis, cache: u32, tags: u32) -> PumpLoad<'a>
         requires cache { 1 ≤ cache }
         requires tags { 1 ≤ tags }
         ensures { result ≡ record {
           image = image.now;
-          choice = choice;
+          basis = basis;
           cache = cache;
           tags = tags;
         } }
@@ -64,7 +58,7 @@ impl<'a> PumpLoad<'a> {
         PumpLoad {
             alloc,
             image,
-            choice,
+            basis,
             cache,
             tags,
         }
@@ -79,7 +73,7 @@ impl<'a> Loader for PumpLoad<'a> {
     ghost start = { cached_start_of_load };
 
     fn load(&self) -> Result<Pump<All, Interner<<All as Policy>::Tag>, RuleCache>, LoadEnd> {
-        let Ok(policy) = choose(self.alloc, self.choice, self.image) else {
+        let Ok(policy) = choose(self.alloc, self.basis, self.image) else {
             return Err(LoadEnd::Memory);
         };
         start_cached(self.alloc, policy, self.image, 1, self.cache, self.tags)

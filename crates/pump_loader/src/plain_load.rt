@@ -7,7 +7,7 @@ ghost use Rattle.pump_loader.specs.PlainLoads.{start_of};
 use engine_trait::{LoadEnd, Loader};
 use image_format::Image;
 use plain_engine::Plain;
-use policy_choice::{All, Choice, choose};
+use policy_choice::{All, Basis, choose};
 use policy_product::Nothing;
 use std::alloc::{AllocError, Global};
 use std::marker::Model;
@@ -19,7 +19,7 @@ use tag_loader::start_under;
 pub struct PlainLoad<'a> {
     alloc: Global,
     image: &'a Image,
-    choice: Choice,
+    basis: Basis,
 }
 
 impl<'a> Model for PlainLoad<'a> {
@@ -27,27 +27,27 @@ impl<'a> Model for PlainLoad<'a> {
 
     ghost Value = { Load };
 
-    ghost view = { λ l. record { image = l.image.now; choice = l.choice } };
+    ghost view = { λ l. record { image = l.image.now; basis = l.basis } };
 }
 
 impl<'a> PlainLoad<'a> {
-    /// The start of this image under the policies of this choice.
-    pub fn new(alloc: Global, image: &'a Image, choice: Choice) -> PlainLoad<'a>
-        ensures { result ≡ record { image = image.now; choice = choice } }
+    /// The start of this image on this basis.
+    pub fn new(alloc: Global, image: &'a Image, basis: Basis) -> PlainLoad<'a>
+        ensures { result ≡ record { image = image.now; basis = basis } }
     {
         PlainLoad {
             alloc,
             image,
-            choice,
+            basis,
         }
     }
 }
 
 /// The engine at the start of the image under the chosen policies. The only error is want of memory.
-fn start_chosen(alloc: Global, choice: Choice, image: &Image) -> Result<Plain<All>, AllocError>
-    ensures { IfOk result (λ engine. engine ≡ start_of choice image.now) }
+fn start_chosen(alloc: Global, basis: Basis, image: &Image) -> Result<Plain<All>, AllocError>
+    ensures { IfOk result (λ engine. engine ≡ start_of basis image.now) }
 {
-    let policy = choose(alloc, choice, image)?;
+    let policy = choose(alloc, basis, image)?;
     start_under(alloc, policy, image)
 }
 
@@ -66,7 +66,7 @@ impl<'a> Loader for PlainLoad<'a> {
         // An engine without tag words does not run out of them.
         ensures memory { result ≢ Err LoadEnd.TagsOut }
     {
-        match start_chosen(self.alloc, self.choice, self.image) {
+        match start_chosen(self.alloc, self.basis, self.image) {
             Ok(engine) => Ok(engine),
             Err(_) => Err(LoadEnd::Memory),
         }

@@ -36,7 +36,7 @@ told_from eq m limit start input =
 -- the image's start under the chosen policies; with a cache of 0 no rules are kept, and no tag has a word
 unfoldable pub start_of_setup : Setup → Picture → Standing AllState AllTag
 start_of_setup setup g =
-    if setup.cache == 0 then start_of setup.choice g else cached_start_of setup.choice setup.cache setup.tags g
+    if setup.cache == 0 then start_of setup.basis g else cached_start_of setup.basis setup.cache setup.tags g
 
 -- a session over this image and input, set up so; at most `limit` bytes of the input count
 abbrev pub told_of : Setup → Picture → ℕ → List ℕ → Told

@@ -80,7 +80,7 @@ fn session_asked<S: Source, K: Sink>(
         (record { input = S.faults input.old; out = K.faults out.old })
         (record { input = S.faults input.new; out = K.faults out.new }) result }
 {
-    let loader = PlainLoad::new(alloc, image, setup.choice);
+    let loader = PlainLoad::new(alloc, image, setup.basis);
     run_from(alloc, loader, input, limit, out)
 }
 
@@ -111,7 +111,7 @@ fn session_kept<S: Source, K: Sink>(
         (record { input = S.faults input.old; out = K.faults out.old })
         (record { input = S.faults input.new; out = K.faults out.new }) result }
 {
-    let loader = PumpLoad::new(alloc, image, setup.choice, setup.cache, setup.tags);
+    let loader = PumpLoad::new(alloc, image, setup.basis, setup.cache, setup.tags);
     run_from(alloc, loader, input, limit, out)
 }
 

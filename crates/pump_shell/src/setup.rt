@@ -1,12 +1,12 @@
 //! What a session starts with, beside its image.
 
-use policy_choice::Choice;
+use policy_choice::Basis;
 
-/// The policies that are chosen, and the room of the engine that keeps rules.
+/// What its start rests on, and the room of the engine that keeps rules.
 #[derive(Clone, Copy, Debug)]
 pub struct Setup {
-    /// The policies that are chosen.
-    pub choice: Choice,
+    /// What the start rests on beside the image: the policies that are chosen.
+    pub basis: Basis,
     /// The most rules that are kept; with 0 every turn asks the policies.
     pub cache: u32,
     /// The most tags that may have words, at least 1. Where no rules are kept, no tag has a word.

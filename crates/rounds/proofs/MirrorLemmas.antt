@@ -4,6 +4,7 @@ use Rattle.std.proofs.lemmas.List.{length-map}
 use Rattle.host_io.specs.Pieces.{Piece}
 use Rattle.policy_trait.specs.Model.{PolicyModel}
 use Rattle.tag_memory.specs.Maps.{hart_by}
+use Rattle.turn_steps.specs.Feeds.{Tape}
 use Rattle.engine_trait.specs.EngineLaws.{is_made}
 use Rattle.engine_trait.specs.Machine.{CoreState}
 use Rattle.engine_trait.specs.Maps.{core_by}
@@ -32,7 +33,7 @@ module _ {S T U V : Type 0} (same_tag : T → T → Bool) (same_mirror : U → U
         ∙ ap (λ (core : CoreState U). if is_running e.account.halt then next_hart core from else None) mirrored.core
         ∙ ap (λ next. if is_running e.account.halt then next else None) (next_hart_same e.machine.core (core_by f e.machine.core) refl (as_many f e.machine.core) from)
 
-    stays_same : (feed : List ℕ) → ShowsSame (stays e feed) (stays d feed)
+    stays_same : (feed : Tape) → ShowsSame (stays e feed) (stays d feed)
     stays_same feed = record {
       shown = refl;
       order = refl;
@@ -41,12 +42,12 @@ module _ {S T U V : Type 0} (same_tag : T → T → Bool) (same_mirror : U → U
       halt = mirrored.halt;
     }
 
-    taken_same : (feed : List ℕ) (next : Option ℕ) (go : ℕ → Course S T) (go_along : ℕ → Course V U) → ((h : ℕ) → ShowsSame (go h) (go_along h))
+    taken_same : (feed : Tape) (next : Option ℕ) (go : ℕ → Course S T) (go_along : ℕ → Course V U) → ((h : ℕ) → ShowsSame (go h) (go_along h))
         → ShowsSame (taking next (stays e feed) go) (taking next (stays d feed) go_along)
     taken_same feed None go go_along each = stays_same feed
     taken_same feed (Some h) go go_along each = each h
 
-    after_same : (feed : List ℕ) (h : ℕ) (others : Course S T) (others_along : Course V U) → ShowsSame others others_along
+    after_same : (feed : Tape) (h : ℕ) (others : Course S T) (others_along : Course V U) → ShowsSame others others_along
         → ShowsSame (after_step same_tag m e feed h others) (after_step same_mirror n d feed h others_along)
     after_same feed h others others_along same =
         let steps = step_mirrored same_tag same_mirror f m n e d feed h mirrored in
@@ -72,10 +73,10 @@ module _ {S T U V : Type 0} (same_tag : T → T → Bool) (same_mirror : U → U
               ∙ sym (ap (λ (standing : Standing S T). standing.account.halt) (after-standing h _ others _));
         }
 
-  abbrev RoundsSame : ℕ → ℕ → Standing S T → Standing V U → List ℕ → List ℕ → Type 0
+  abbrev RoundsSame : ℕ → ℕ → Standing S T → Standing V U → Tape → Tape → Type 0
   RoundsSame limit from e d feed fed = ShowsSame (rounds same_tag m limit from e feed) (rounds same_mirror n limit from d fed)
 
-  pub rounds_same : (limit from : ℕ) (e : Standing S T) (d : Standing V U) (feed : List ℕ) → IsMirrored f m n e d → RoundsSame limit from e d feed feed
+  pub rounds_same : (limit from : ℕ) (e : Standing S T) (d : Standing V U) (feed : Tape) → IsMirrored f m n e d → RoundsSame limit from e d feed feed
   unfolding rounds
   rounds_same zero from e d feed mirrored = stays_same e d mirrored feed
   rounds_same (suc k) from e d feed mirrored =

@@ -1,8 +1,9 @@
 -- Rounds that end with a turn still to come made as many turns as were asked for.
-use Rattle.std.proofs.Common.{◌≡◌, ℕ, zero, suc, ◌+◌, ◌-◌, ◌<◌, ◌≤◌, Bool, true, false, ◌&&◌, ◌||◌, List, length, map, Option, Some, None, if◌then◌else◌, refl, ap, subst, sym, ◌∙◌, arith}
+use Rattle.std.proofs.Common.{◌≡◌, ℕ, zero, suc, ◌+◌, ◌-◌, ◌<◌, ◌≤◌, Bool, true, false, ◌&&◌, ◌||◌, length, map, Option, Some, None, if◌then◌else◌, refl, ap, subst, sym, ◌∙◌, arith}
 use Rattle.std.proofs.lemmas.Bool.{false≢true}
 use Rattle.std.specs.List.{list_any, range_with_len}
 use Rattle.policy_trait.specs.Model.{PolicyModel}
+use Rattle.turn_steps.specs.Feeds.{Tape}
 use Rattle.turn_steps.specs.declared.stop.Stop.{Stop}
 use Rattle.engine_trait.specs.Accounts.{account_after_turn, is_over}
 use Rattle.engine_trait.specs.Events.{event_of}
@@ -124,7 +125,7 @@ module _ {S T : Type 0} (e : Standing S T) where
 -- ---- rounds
 
 module _ {S T : Type 0} (eq : T → T → Bool) (m : PolicyModel T S) where
-  module _ (e : Standing S T) (feed : List ℕ) (h : ℕ) where
+  module _ (e : Standing S T) (feed : Tape) (h : ℕ) where
     abbrev Halts : Standing S T → Type 0
     Halts f = f.account.halt ≡ Some halt.TagWords
 
@@ -152,7 +153,7 @@ module _ {S T : Type 0} (eq : T → T → Bool) (m : PolicyModel T S) where
     unfolding step
     step_has_memory has = memory_by (is_ready e h) (is_over (account_after_turn eq m e.machine h e.account)) has
 
-  halted_stays : (n from : ℕ) (e : Standing S T) (feed : List ℕ) (why : Halt) → e.account.halt ≡ Some why → rounds eq m n from e feed ≡ stays e feed
+  halted_stays : (n from : ℕ) (e : Standing S T) (feed : Tape) (why : Halt) → e.account.halt ≡ Some why → rounds eq m n from e feed ≡ stays e feed
   unfolding rounds
   halted_stays zero from e feed why is = refl
   halted_stays (suc n) from e feed why is =
@@ -162,7 +163,7 @@ module _ {S T : Type 0} (eq : T → T → Bool) (m : PolicyModel T S) where
   abbrev EndsSpent : ℕ → Course S T → Type 0
   EndsSpent n course = (h : ℕ) → next_turn course.standing 0 ≡ Some h → length course.order ≡ n
 
-  step_spent : (made : Bool) (n h : ℕ) (e : Standing S T) (feed : List ℕ) (others : Course S T) → is_ready e h ≡ true → is_made (step eq m e feed h).ended ≡ made
+  step_spent : (made : Bool) (n h : ℕ) (e : Standing S T) (feed : Tape) (others : Course S T) → is_ready e h ≡ true → is_made (step eq m e feed h).ended ≡ made
       → others ≡ rest_of eq m n e feed h → EndsSpent n others → EndsSpent (suc n) (after_turn made h (event_of m e.machine feed h) others)
   step_spent true n h e feed others ready is rest spent k next =
       let counted = spent k next in let all : suc (length others.order) ≡ suc n = omega (arith, counted) in all
@@ -174,12 +175,12 @@ module _ {S T : Type 0} (eq : T → T → Bool) (m : PolicyModel T S) where
       ∙ halted_none after.standing halt.TagWords 0 out in
       absurd cc
 
-  taken_spent : (n from : ℕ) (e : Standing S T) (feed : List ℕ) (next : Option ℕ) (go : ℕ → Course S T) → next_turn e from ≡ next
+  taken_spent : (n from : ℕ) (e : Standing S T) (feed : Tape) (next : Option ℕ) (go : ℕ → Course S T) → next_turn e from ≡ next
       → ((h : ℕ) → next ≡ Some h → EndsSpent (suc n) (go h)) → EndsSpent (suc n) (taking next (stays e feed) go)
   taken_spent n from e feed None go is each k next = absurd (let none = none_from e from is in cc)
   taken_spent n from e feed (Some h) go is each k next = each h refl k next
 
-  pub rounds_spent : (n from : ℕ) (e : Standing S T) (feed : List ℕ) → EndsSpent n (rounds eq m n from e feed)
+  pub rounds_spent : (n from : ℕ) (e : Standing S T) (feed : Tape) → EndsSpent n (rounds eq m n from e feed)
   unfolding rounds
   rounds_spent zero from e feed = λ k next. refl
   rounds_spent (suc n) from e feed =
@@ -189,17 +190,17 @@ module _ {S T : Type 0} (eq : T → T → Bool) (m : PolicyModel T S) where
 
   -- ---- rounds want no memory
 
-  taken_has_memory : (e : Standing S T) (feed : List ℕ) (next : Option ℕ) (go : ℕ → Course S T) → (e.account.halt ≡ Some halt.Memory → ⊥)
+  taken_has_memory : (e : Standing S T) (feed : Tape) (next : Option ℕ) (go : ℕ → Course S T) → (e.account.halt ≡ Some halt.Memory → ⊥)
       → ((h : ℕ) → (go h).standing.account.halt ≡ Some halt.Memory → ⊥) → (taking next (stays e feed) go).standing.account.halt ≡ Some halt.Memory → ⊥
   taken_has_memory e feed None go has each = has
   taken_has_memory e feed (Some h) go has each = each h
 
-  after_has_memory : (made : Bool) (h : ℕ) (e : Standing S T) (feed : List ℕ) (others : Course S T) → (others.standing.account.halt ≡ Some halt.Memory → ⊥)
+  after_has_memory : (made : Bool) (h : ℕ) (e : Standing S T) (feed : Tape) (others : Course S T) → (others.standing.account.halt ≡ Some halt.Memory → ⊥)
       → (after_turn made h (event_of m e.machine feed h) others).standing.account.halt ≡ Some halt.Memory → ⊥
   after_has_memory true h e feed others has = has
   after_has_memory false h e feed others has = has
 
-  pub rounds_have_memory : (n from : ℕ) (e : Standing S T) (feed : List ℕ) → (e.account.halt ≡ Some halt.Memory → ⊥)
+  pub rounds_have_memory : (n from : ℕ) (e : Standing S T) (feed : Tape) → (e.account.halt ≡ Some halt.Memory → ⊥)
       → (rounds eq m n from e feed).standing.account.halt ≡ Some halt.Memory → ⊥
   unfolding rounds
   rounds_have_memory zero from e feed has = has

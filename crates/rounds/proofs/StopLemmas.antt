@@ -7,6 +7,7 @@ use Rattle.policy_trait.specs.declared.rules.Outs.{Outs}
 use Rattle.policy_trait.specs.declared.services.Answer.{Answer}
 use Rattle.monitor_calls.specs.Service.{Job}
 use Rattle.turn_steps.specs.Effects.{Carried}
+use Rattle.turn_steps.specs.Feeds.{Tape}
 use Rattle.turn_steps.specs.declared.effects.Done.{Done}
 use Rattle.turn_steps.specs.declared.effects.Done.TheVariants as done
 use Rattle.turn_steps.specs.declared.look.Look.{Look}
@@ -36,16 +37,16 @@ ended_stays core h carried (done.Stepped byte) goes_on = record { stops = refl; 
 ended_stays core h carried done.Broke goes_on = record { stops = refl; count = length-set core.harts h carried.hart }
 ended_stays core h carried (done.Exited code) goes_on = absurd (cc goes_on)
 
-module _ {S T : Type 0} (m : PolicyModel T S) (s : Machine S T) (feed : List ℕ) (h : ℕ) where
+module _ {S T : Type 0} (m : PolicyModel T S) (s : Machine S T) (feed : Tape) (h : ℕ) where
   abbrev StaysUnlessStopped : Turned S T → Type 0
   StaysUnlessStopped turned = is_stop turned.ended ≡ false → StaysReady s.core turned.machine.core
 
-  effect_stays : (look : Look T) (outs : Outs T) → is_stop (end_of (carried_at s.core feed h look outs).done) ≡ false
+  effect_stays : (look : Look) (outs : Outs T) → is_stop (end_of (carried_at s.core feed h look outs).done) ≡ false
       → StaysReady s.core (core_effected s.core feed h look outs)
   unfolding core_effected
   effect_stays look outs goes_on = ended_stays s.core h (carried_at s.core feed h look outs) (carried_at s.core feed h look outs).done goes_on
 
-  effected_stays : (look : Look T) (outs : Outs T) (job : Option (Job T)) → StaysUnlessStopped (turn_effect m s feed h look outs job)
+  effected_stays : (look : Look) (outs : Outs T) (job : Option (Job T)) → StaysUnlessStopped (turn_effect m s feed h look outs job)
   effected_stays look outs (Some job) goes_on = served_stays s.core h job.words job.plan.answer look.effect.next outs.pc
   effected_stays look outs None goes_on = effect_stays look outs goes_on
 
@@ -71,7 +72,7 @@ module _ {S T : Type 0} (m : PolicyModel T S) (s : Machine S T) (feed : List ℕ
 
 -- ---- a step
 
-module _ {S T : Type 0} (eq : T → T → Bool) (m : PolicyModel T S) (e : Standing S T) (feed : List ℕ) (h : ℕ) where
+module _ {S T : Type 0} (eq : T → T → Bool) (m : PolicyModel T S) (e : Standing S T) (feed : Tape) (h : ℕ) where
   step_if : (ready over : Bool) → is_stop (step_by eq m e feed h ready over).ended ≡ false
       → StaysReady e.machine.core (step_by eq m e feed h ready over).standing.machine.core
   step_if false over goes_on = record { stops = refl; count = refl }

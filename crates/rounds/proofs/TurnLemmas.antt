@@ -4,6 +4,7 @@ use Rattle.std.proofs.lemmas.List.Concat.{flat_map-cons}
 use Rattle.host_io.specs.Pieces.{Piece, PutsAll, PutsFirst, PutsFront, PutsSoFar, Taken}
 use Rattle.host_io.proofs.PieceLemmas.{puts_are_cut, puts_are_cut_between, puts_are_whole, puts_begin, puts_go_on}
 use Rattle.policy_trait.specs.Model.{PolicyModel}
+use Rattle.turn_steps.specs.Feeds.{Tape}
 use Rattle.engine_trait.specs.Events.{Event, event_of}
 use Rattle.engine_trait.specs.EngineLaws.{is_made}
 use Rattle.engine_trait.specs.Standing.{Standing, Stepped, step}
@@ -26,7 +27,7 @@ unmade_shows_nothing h ends.Idle unmade = refl
 unmade_shows_nothing h ends.TagsOut unmade = refl
 unmade_shows_nothing h ends.Memory unmade = refl
 
-module _ {S T : Type 0} (eq : T → T → Bool) (m : PolicyModel T S) (e : Standing S T) (feed : List ℕ) (h : ℕ) where
+module _ {S T : Type 0} (eq : T → T → Bool) (m : PolicyModel T S) (e : Standing S T) (feed : Tape) (h : ℕ) where
   -- what the event shows is what the step does
   shown_made : is_made (step eq m e feed h).ended ≡ true → event_pieces (event_of m e.machine feed h) ≡ shown_by h (step eq m e feed h).ended
   shown_made made =
@@ -46,7 +47,7 @@ module _ {S T : Type 0} (eq : T → T → Bool) (m : PolicyModel T S) (e : Stand
   pieces_after course = pieces_if (is_made (step eq m e feed h).ended) course refl
 
   -- a step in which the turn was made leaves an engine that runs on
-  pub made_runs : (f : Standing S T) (fed : List ℕ) (ended : TurnEnd) → step eq m e feed h ≡ record { standing = f; feed = fed; ended = ended }
+  pub made_runs : (f : Standing S T) (fed : Tape) (ended : TurnEnd) → step eq m e feed h ≡ record { standing = f; feed = fed; ended = ended }
       → is_made ended ≡ true → f.account.halt ≡ None
   made_runs f fed ended is made =
       sym (ap (λ (s : Stepped S T). s.standing.account.halt) is)
@@ -75,33 +76,33 @@ pub record IsLeft {S T : Type 0} (left all : Course S T) (start now : Taken) : T
   pub puts : PutsSoFar start now (pieces_of left.events) (pieces_of all.events)
 
 -- none is left
-pub record IsDone {S T : Type 0} (e : Standing S T) (fed : List ℕ) (all : Course S T) (start now : Taken) : Type 0 where
+pub record IsDone {S T : Type 0} (e : Standing S T) (fed : Tape) (all : Course S T) (start now : Taken) : Type 0 where
   pub standing : e ≡ all.standing
   pub feed : fed ≡ all.feed
   pub puts : PutsAll start now (pieces_of all.events)
 
 module _ {S T : Type 0} (eq : T → T → Bool) (m : PolicyModel T S) where
   -- the others after a turn of hart h
-  abbrev pub after_step : Standing S T → List ℕ → ℕ → Course S T → Course S T
+  abbrev pub after_step : Standing S T → Tape → ℕ → Course S T → Course S T
   after_step e feed h course = after_turn (is_made (step eq m e feed h).ended) h (event_of m e.machine feed h) course
 
-  pub rounds-over : (n from : ℕ) (e : Standing S T) (feed : List ℕ) → n ≡ 0 → rounds eq m n from e feed ≡ stays e feed
+  pub rounds-over : (n from : ℕ) (e : Standing S T) (feed : Tape) → n ≡ 0 → rounds eq m n from e feed ≡ stays e feed
   unfolding rounds
   rounds-over n from e feed is = ap (λ (k : ℕ). rounds eq m k from e feed) is
 
-  pub rounds-none : (n from : ℕ) (e : Standing S T) (feed : List ℕ) → next_turn e from ≡ None → rounds eq m n from e feed ≡ stays e feed
+  pub rounds-none : (n from : ℕ) (e : Standing S T) (feed : Tape) → next_turn e from ≡ None → rounds eq m n from e feed ≡ stays e feed
   unfolding rounds
   rounds-none zero from e feed none = refl
   rounds-none (suc n) from e feed none =
       ap (λ (next : Option ℕ). taking next (stays e feed) (λ h. after_step e feed h (rounds eq m n (h + 1) (step eq m e feed h).standing (step eq m e feed h).feed))) none
 
-  pub rounds-some : (n from h : ℕ) (e : Standing S T) (feed : List ℕ) → next_turn e from ≡ Some h
+  pub rounds-some : (n from h : ℕ) (e : Standing S T) (feed : Tape) → next_turn e from ≡ Some h
       → rounds eq m (suc n) from e feed ≡ after_step e feed h (rounds eq m n (h + 1) (step eq m e feed h).standing (step eq m e feed h).feed)
   unfolding rounds
   rounds-some n from h e feed some =
       ap (λ (next : Option ℕ). taking next (stays e feed) (λ h. after_step e feed h (rounds eq m n (h + 1) (step eq m e feed h).standing (step eq m e feed h).feed))) some
 
-  pub left_begins : (limit n : ℕ) (e : Standing S T) (feed : List ℕ) (start : Taken) → n ≡ limit
+  pub left_begins : (limit n : ℕ) (e : Standing S T) (feed : Tape) (start : Taken) → n ≡ limit
       → IsLeft (rounds eq m n 0 e feed) (rounds eq m limit 0 e feed) start start
   left_begins limit n e feed start is = record {
     standing = ap (λ (k : ℕ). (rounds eq m k 0 e feed).standing) is;
@@ -111,7 +112,7 @@ module _ {S T : Type 0} (eq : T → T → Bool) (m : PolicyModel T S) where
         (puts_begin start (pieces_of (rounds eq m limit 0 e feed).events));
   }
 
-  pub left_ends : (left : Course S T) (e : Standing S T) (feed : List ℕ) (all : Course S T) (start now : Taken)
+  pub left_ends : (left : Course S T) (e : Standing S T) (feed : Tape) (all : Course S T) (start now : Taken)
       → left ≡ stays e feed → IsLeft left all start now → IsDone e feed all start now
   left_ends left e feed all start now is rest = record {
     standing = sym (ap (λ (c : Course S T). c.standing) is) ∙ rest.standing;
@@ -122,7 +123,7 @@ module _ {S T : Type 0} (eq : T → T → Bool) (m : PolicyModel T S) where
   }
 
   -- a turn of the rounds that are left
-  module _ (limit counter from h : ℕ) (e : Standing S T) (feed : List ℕ) (all : Course S T) (start now new : Taken)
+  module _ (limit counter from h : ℕ) (e : Standing S T) (feed : Tape) (all : Course S T) (start now new : Taken)
       (below : counter < limit) (some : next_turn e from ≡ Some h) (rest : IsLeft (rounds eq m (limit - counter) from e feed) all start now) where
     abbrev others : Course S T
     others = rounds eq m (limit - (counter + 1)) (h + 1) (step eq m e feed h).standing (step eq m e feed h).feed
@@ -148,11 +149,11 @@ module _ {S T : Type 0} (eq : T → T → Bool) (m : PolicyModel T S) where
       puts = puts_go_on start now new (shown_by h (step eq m e feed h).ended) (pieces_of others.events) (pieces_of all.events) puts_left puts;
     }
 
-    pub left_goes_on : (f : Standing S T) (fed : List ℕ) → f ≡ (step eq m e feed h).standing → fed ≡ (step eq m e feed h).feed
+    pub left_goes_on : (f : Standing S T) (fed : Tape) → f ≡ (step eq m e feed h).standing → fed ≡ (step eq m e feed h).feed
         → PutsAll now new (shown_by h (step eq m e feed h).ended) → IsLeft (rounds eq m (limit - (counter + 1)) (h + 1) f fed) all start new
     left_goes_on f fed f_is fed_is puts =
         subst (λ (g : Standing S T). IsLeft (rounds eq m (limit - (counter + 1)) (h + 1) g fed) all start new) (sym f_is)
-        (subst (λ (bytes : List ℕ). IsLeft (rounds eq m (limit - (counter + 1)) (h + 1) (step eq m e feed h).standing bytes) all start new) (sym fed_is)
+        (subst (λ (tape : Tape). IsLeft (rounds eq m (limit - (counter + 1)) (h + 1) (step eq m e feed h).standing tape) all start new) (sym fed_is)
         (on_from puts))
 
     pub left_is_cut : PutsFront now new (shown_by h (step eq m e feed h).ended) → PutsFront start new (pieces_of all.events)

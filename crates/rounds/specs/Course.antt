@@ -2,6 +2,7 @@
 use Rattle.std.specs.Prelude.{ℕ, zero, suc, ◌+◌, ◌-◌, Bool, true, false, List, [], ◌∷◌, length, map, Option, Some, None, if◌then◌else◌}
 use Rattle.std.specs.List.{range_with_len}
 use Rattle.policy_trait.specs.Model.{PolicyModel}
+use Rattle.turn_steps.specs.Feeds.{Tape}
 use Rattle.turn_steps.specs.declared.stop.Stop.{Stop}
 use Rattle.engine_trait.specs.Events.{Event, event_of}
 use Rattle.engine_trait.specs.EngineLaws.{is_made}
@@ -45,7 +46,7 @@ next_turn e from = unless_stopped e.account.halt (next_hart e.machine.core from)
 -- after some rounds: the standing and the feed, and of the turns that were counted the events and the harts, in their order
 pub record Course (S T : Type 0) : Type 0 where
   pub standing : Standing S T
-  pub feed : List ℕ
+  pub feed : Tape
   pub events : List (Event T)
   pub order : List ℕ
 
@@ -63,7 +64,7 @@ is_stop ends.TagsOut = false
 is_stop ends.Memory = false
 
 -- no turn
-abbrev pub stays : {S T : Type 0} → Standing S T → List ℕ → Course S T
+abbrev pub stays : {S T : Type 0} → Standing S T → Tape → Course S T
 stays e feed = record { standing = e; feed = feed; events = []; order = [] }
 
 -- a turn of that hart, with its event, and then the others; a turn that is not counted leaves neither
@@ -78,7 +79,7 @@ taking (Some h) stay go = go h
 module _ {S T : Type 0} (eq : T → T → Bool) (m : PolicyModel T S) where
   -- At most so many turns, round after round from a place on. They end early where no hart is ready, and where the engine
   -- runs out of tag words: that turn is not counted, and none follows.
-  unfoldable pub rounds : ℕ → ℕ → Standing S T → List ℕ → Course S T
+  unfoldable pub rounds : ℕ → ℕ → Standing S T → Tape → Course S T
   rounds zero from e feed = stays e feed
   rounds (suc n) from e feed =
       taking (next_turn e from) (stays e feed) (λ h.

@@ -13,8 +13,6 @@ mod outcome;
 mod reading;
 mod rows;
 mod tally;
-#[cfg(test)]
-mod tests;
 mod texts;
 
 pub use calls::calls_of;

@@ -12,7 +12,7 @@ type Live = (u32, u32, u32);
 const REGION: (u32, u32) = (256, 320);
 
 /// A region, a sequence of calls in it, and the blocks that are live after them.
-const SEQUENCES: [((u32, u32), &[Step], &[Live]); 12] = [
+const SEQUENCES: &[((u32, u32), &[Step], &[Live])] = &[
     // one after another, and exactly up to the region's end
     (
         REGION,
@@ -182,7 +182,7 @@ const SEQUENCES: [((u32, u32), &[Step], &[Live]); 12] = [
 
 #[test]
 fn blocks_go_to_the_lowest_place_that_fits(rt: HostRuntime) -> Result<(), Fail> {
-    for ((base, top), steps, live) in SEQUENCES {
+    for &((base, top), steps, live) in SEQUENCES {
         assert!(rt; base % 4 == 0 && base <= top);
         let mut blocks = LiveBlocks::new(rt.alloc(), base, top);
         assert!(rt; go_as_stated(&mut blocks, steps)?);

@@ -57,7 +57,7 @@ const ARGS: PlanEnd = PlanEnd::Refused(Refused {
 type Row = (Group, HeapTag, HeapTag, HeapTag, Option<HeapTag>);
 
 /// Groups that take any operands.
-const GOES_ON: [Row; 7] = [
+const GOES_ON: &[Row] = &[
     (Group::Const, FREE, FREE, FREE, Some(VAL)),
     (Group::Here, FREE, FREE, FREE, Some(VAL)),
     (Group::Jal, FREE, FREE, FREE, Some(VAL)),
@@ -68,7 +68,7 @@ const GOES_ON: [Row; 7] = [
 ];
 
 /// Groups that take the first operand as a value.
-const FIRST: [Row; 6] = [
+const FIRST: &[Row] = &[
     (Group::Jalr, VAL, FREE, FREE, Some(VAL)),
     (Group::Jalr, PTR, VAL, VAL, None),
     (Group::Jalr, STATIC, VAL, VAL, None),
@@ -78,7 +78,7 @@ const FIRST: [Row; 6] = [
 ];
 
 /// Groups that move a register, or a pointer by a number.
-const MOVED: [Row; 8] = [
+const MOVED: &[Row] = &[
     (Group::Move, VAL, FREE, FREE, Some(VAL)),
     (Group::Move, PTR, FREE, FREE, Some(PTR)),
     (Group::Move, STATIC, VAL, VAL, None),
@@ -90,7 +90,7 @@ const MOVED: [Row; 8] = [
 ];
 
 /// Loads of words and of parts.
-const LOADS: [Row; 16] = [
+const LOADS: &[Row] = &[
     (Group::LoadWord, VAL, FREE, STATIC, Some(VAL)),
     (Group::LoadWord, VAL, FREE, STATIC_PTR, Some(OTHER)),
     (Group::LoadWord, PTR, FREE, CELL, Some(VAL)),
@@ -110,7 +110,7 @@ const LOADS: [Row; 16] = [
 ];
 
 /// Stores of words and of parts.
-const STORES: [Row; 17] = [
+const STORES: &[Row] = &[
     (Group::StoreWord, VAL, VAL, STATIC_PTR, Some(STATIC)),
     (Group::StoreWord, VAL, OTHER, STATIC, Some(STATIC_PTR)),
     (Group::StoreWord, PTR, VAL, CELL_PTR, Some(CELL)),
@@ -131,7 +131,7 @@ const STORES: [Row; 17] = [
 ];
 
 /// Sums.
-const SUMS: [Row; 7] = [
+const SUMS: &[Row] = &[
     (Group::Add, VAL, VAL, FREE, Some(VAL)),
     (Group::Add, PTR, VAL, FREE, Some(PTR)),
     (Group::Add, VAL, PTR, FREE, Some(PTR)),
@@ -142,7 +142,7 @@ const SUMS: [Row; 7] = [
 ];
 
 /// Differences.
-const DIFFERENCES: [Row; 7] = [
+const DIFFERENCES: &[Row] = &[
     (Group::Sub, VAL, VAL, FREE, Some(VAL)),
     (Group::Sub, PTR, VAL, FREE, Some(PTR)),
     (Group::Sub, PTR, PTR, FREE, Some(VAL)),
@@ -153,7 +153,7 @@ const DIFFERENCES: [Row; 7] = [
 ];
 
 /// Groups that take both operands as values.
-const BOTH: [Row; 12] = [
+const BOTH: &[Row] = &[
     (Group::Alu, VAL, VAL, FREE, Some(VAL)),
     (Group::Alu, PTR, VAL, VAL, None),
     (Group::Alu, VAL, PTR, VAL, None),
@@ -169,7 +169,7 @@ const BOTH: [Row; 12] = [
 ];
 
 /// Groups that take the second operand as a value.
-const SECOND: [Row; 8] = [
+const SECOND: &[Row] = &[
     (Group::Get, PTR, VAL, FREE, Some(VAL)),
     (Group::Get, FREE, VAL, FREE, Some(VAL)),
     (Group::Get, VAL, PTR, VAL, None),
@@ -183,15 +183,15 @@ const SECOND: [Row; 8] = [
 #[test]
 fn rules_of_every_group(rt: HostRuntime) {
     let heap = heap(rt.alloc());
-    assert_eq!(rt; first_unkept(&heap, &GOES_ON), None);
-    assert_eq!(rt; first_unkept(&heap, &FIRST), None);
-    assert_eq!(rt; first_unkept(&heap, &MOVED), None);
-    assert_eq!(rt; first_unkept(&heap, &LOADS), None);
-    assert_eq!(rt; first_unkept(&heap, &STORES), None);
-    assert_eq!(rt; first_unkept(&heap, &SUMS), None);
-    assert_eq!(rt; first_unkept(&heap, &DIFFERENCES), None);
-    assert_eq!(rt; first_unkept(&heap, &BOTH), None);
-    assert_eq!(rt; first_unkept(&heap, &SECOND), None);
+    assert_eq!(rt; first_unkept(&heap, GOES_ON), None);
+    assert_eq!(rt; first_unkept(&heap, FIRST), None);
+    assert_eq!(rt; first_unkept(&heap, MOVED), None);
+    assert_eq!(rt; first_unkept(&heap, LOADS), None);
+    assert_eq!(rt; first_unkept(&heap, STORES), None);
+    assert_eq!(rt; first_unkept(&heap, SUMS), None);
+    assert_eq!(rt; first_unkept(&heap, DIFFERENCES), None);
+    assert_eq!(rt; first_unkept(&heap, BOTH), None);
+    assert_eq!(rt; first_unkept(&heap, SECOND), None);
 }
 
 /// The place of the first row that the policy does not keep.
@@ -219,7 +219,7 @@ fn is_kept(heap: &Heap, row: Row) -> bool {
 
 /// Calls of the services, one after another: the service, the value and the tag of a0, and the answer with its tag, if
 /// there is one, or the refusal. Each call that has a plan is carried out.
-const CALLS: [(u32, u32, HeapTag, Result<Option<(u32, HeapTag)>, PlanEnd>); 29] = [
+const CALLS: &[(u32, u32, HeapTag, Result<Option<(u32, HeapTag)>, PlanEnd>)] = &[
     // whole words, at least one, one block behind the other
     (MALLOC, 0, VAL, Ok(Some((64, HeapTag::Ptr(0))))),
     (MALLOC, 4, VAL, Ok(Some((68, HeapTag::Ptr(1))))),
@@ -264,7 +264,7 @@ const CALLS: [(u32, u32, HeapTag, Result<Option<(u32, HeapTag)>, PlanEnd>); 29] 
 ];
 
 /// What is listed after these calls, by place: number, base and words.
-const LISTED: [(u32, Option<(u32, u32, u32)>); 5] = [
+const LISTED: &[(u32, Option<(u32, u32, u32)>)] = &[
     (0, Some((4, 72, 2))),
     (1, Some((5, 80, 3))),
     (2, Some((6, 64, 1))),
@@ -276,7 +276,7 @@ const LISTED: [(u32, Option<(u32, u32, u32)>); 5] = [
 fn calls_in_their_order(rt: HostRuntime) -> Result<(), Fail> {
     let mut heap = heap(rt.alloc());
     assert!(rt; heap.listed(0).is_none());
-    for (service, a0, t0, answer) in CALLS {
+    for &(service, a0, t0, answer) in CALLS {
         let planned = carried_out(&mut heap, service, a0, t0)?;
         let expected = match answer {
             Ok(Some((value, tag))) => Ok(Some(Answer {
@@ -292,7 +292,7 @@ fn calls_in_their_order(rt: HostRuntime) -> Result<(), Fail> {
             "{service} of {a0}"
         );
     }
-    for (place, block) in LISTED {
+    for &(place, block) in LISTED {
         assert!(rt; heap.listed(place) == block, "at {place}");
     }
     Ok(())
@@ -357,7 +357,7 @@ fn blocks_are_numbered_until_they_are_spent(rt: HostRuntime) -> Result<(), Fail>
 }
 
 /// Zeroing by another policy's service: the word's tag, and its new one where the heap consents.
-const WIPED: [(HeapTag, Option<HeapTag>); 7] = [
+const WIPED: &[(HeapTag, Option<HeapTag>)] = &[
     (STATIC, Some(STATIC)),
     (STATIC_PTR, Some(STATIC)),
     (CELL, Some(CELL)),
@@ -370,7 +370,7 @@ const WIPED: [(HeapTag, Option<HeapTag>); 7] = [
 #[test]
 fn words_zeroed_by_another_policy(rt: HostRuntime) {
     let heap = heap(rt.alloc());
-    for (old, new) in WIPED {
+    for &(old, new) in WIPED {
         let expected = new.ok_or(refused(Part::Heap, Why::Consent));
         assert!(rt; heap.wipe(PTR, old) == expected);
     }
@@ -402,7 +402,7 @@ fn starts_loans_and_numbers(rt: HostRuntime) {
 }
 
 /// Texts: the tag and its text.
-const TEXTS: [(HeapTag, &[u8]); 8] = [
+const TEXTS: &[(HeapTag, &[u8])] = &[
     (VAL, b"val"),
     (PTR, b"ptr(5)"),
     (HeapTag::Ptr(4_294_967_295), b"ptr(4294967295)"),
@@ -416,7 +416,7 @@ const TEXTS: [(HeapTag, &[u8]); 8] = [
 #[test]
 fn texts_of_tags(rt: HostRuntime) {
     let heap = heap(rt.alloc());
-    for (tag, text) in TEXTS {
+    for &(tag, text) in TEXTS {
         let mut line = Line::new();
         heap.show(tag, &mut line);
         assert_eq!(rt; line.as_slice(), text);

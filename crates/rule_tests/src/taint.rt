@@ -13,7 +13,7 @@ const TAINTED: TaintTag = TaintTag::Tainted;
 /// A group, its first and second operand and its memory word, and its result, where it is allowed.
 type RuleRow = (Group, TaintTag, TaintTag, TaintTag, Option<TaintTag>);
 
-const RULE_ROWS: [RuleRow; 18] = [
+const RULE_ROWS: &[RuleRow] = &[
     (Group::Get, CLEAN, CLEAN, CLEAN, Some(TAINTED)),
     (Group::Put, TAINTED, TAINTED, CLEAN, Some(CLEAN)),
     (Group::Const, TAINTED, TAINTED, TAINTED, Some(CLEAN)),
@@ -47,7 +47,7 @@ fn inputs(ci: TaintTag, t1: TaintTag, t2: TaintTag, tm: TaintTag) -> Ins<TaintTa
 
 #[test]
 fn rules_of_some_groups(rt: HostRuntime) {
-    for (group, t1, t2, tm, result) in RULE_ROWS {
+    for &(group, t1, t2, tm, result) in RULE_ROWS {
         let answer = match result {
             Some(result) => Ok(Outs { pc: CLEAN, result }),
             None => Err(refused(Part::Own, Why::Rule(group))),

@@ -7,6 +7,7 @@ use Rattle.engine_trait.specs.Turn.{rule_answer, attempt, carried_at, core_effec
 use Rattle.live_blocks.specs.Space.{first_fit}
 use Rattle.monitor_calls.specs.Service.{service_job}
 use Rattle.turn_steps.specs.Effects.{effect_result}
+use Rattle.turn_steps.specs.Feeds.{tape_of}
 use Rattle.turn_steps.specs.Looks.{look_result}
 use Rattle.rv_decode.specs.Decoding.{instr_of_word}
 use Rattle.tag_loader.specs.Births.{birth_of}
@@ -36,7 +37,7 @@ is_image = record {
 }
 
 pub is_safe : IsSafe all_four image events
-is_safe = run_is_safe all_four image [] (map turn harts) is_image
+is_safe = run_is_safe all_four image (tape_of []) (map turn harts) is_image
 
 -- every turn retires
 pub all_retire : map is_retirement events ≡ replicate 31 true

@@ -4,7 +4,7 @@ use Rattle.image_format.specs.Picture.{Picture}
 use Rattle.engine_trait.specs.Events.{Event}
 use Rattle.engine_trait.specs.Runs.{turn}
 use Rattle.policy_choice.specs.All.{AllTag}
-use Rattle.policy_choice.specs.declared.choice.Choice.{Choice}
+use Rattle.policy_choice.specs.declared.basis.Basis.{Basis}
 use Rattle.policy_trait.specs.Sets.{set_of}
 use Rattle.seal_runs.specs.KeyBook.{KeyBook}
 use Rattle.comp_runs.specs.OwnerBook.{Owned}
@@ -12,8 +12,8 @@ use Rattle.flow_runs.specs.EdgeWalk.{Visit}
 use Rattle.heap_runs.specs.BlockBook.{BlockBook}
 use Rattle.run_props.specs.Safe.{run_of}
 
-abbrev pub all_four : Choice
-all_four = record { seal = true; comp = true; flow = true; heap = true }
+abbrev pub all_four : Basis
+all_four = record { choice = record { seal = true; comp = true; flow = true; heap = true } }
 
 -- Hart 0, in compartment 0, from 00000000 on: it makes a key, seals a value and unseals it; takes a block, keeps the block's
 -- pointer in it, and gives it back; lets compartment 1 write a word; and jumps by register along the one edge.

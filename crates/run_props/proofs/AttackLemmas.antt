@@ -11,12 +11,13 @@ use Rattle.flow_policy.specs.declared.tag.FlowTag.{FlowTag}
 use Rattle.heap_policy.specs.Heap.{heap}
 use Rattle.heap_policy.specs.declared.tag.HeapTag.{HeapTag}
 use Rattle.policy_choice.specs.All.{AllState, AllTag, all}
+use Rattle.turn_steps.specs.Feeds.{Tape}
 use Rattle.engine_trait.specs.Events.{Call, Event, Work, event_of, is_retirement}
 use Rattle.engine_trait.specs.Machine.{Machine, is_ready_in}
 use Rattle.engine_trait.specs.Turn.{turn_of}
 use Rattle.policy_parts.specs.Part.{IsPart}
 use Rattle.policy_parts.specs.View.{View}
-use Rattle.part_turns.proofs.MachineLemmas.{seen_sound}
+use Rattle.part_turns.proofs.MachineLemmas.{seen_sound, words_stay}
 use Rattle.part_turns.proofs.TurnLemmas.{turn_shown}
 use Rattle.part_turns.specs.Keeps.{Keeps}
 use Rattle.part_turns.specs.Maps.{call_by, event_with, seen_by, work_by}
@@ -43,7 +44,7 @@ use Rattle.policy_choice.specs.AllLaws.{AllHold, all_laws}
 use Rattle.run_props.specs.Line.{InLine}
 use Rattle.run_props.specs.Views.{comp_view, flow_view, heap_view, seal_view}
 
-module _ (s : Machine AllState AllTag) (feed : List ℕ) (h : ℕ) where
+module _ (s : Machine AllState AllTag) (feed : Tape) (h : ℕ) where
   abbrev turn : Event AllTag
   turn = event_of all s feed h
 
@@ -55,7 +56,8 @@ module _ (s : Machine AllState AllTag) (feed : List ℕ) (h : ℕ) where
     promised =
         (keeps.turn events (seen_by l s) h (event_with l.tag turn) (seen_by l (turn_of all s feed h).machine)
         (seen_sound all m l part s stands.on stands.sound) stands.held
-        ((turn_shown all m l AllHold all_laws part s stands.on feed h).turns stands.sound stands.valid)).0
+        ((turn_shown all m l AllHold all_laws part s stands.on feed h).turns stands.sound stands.valid)
+        (words_stay all l AllHold all_laws s stands.sound stands.valid feed h)).0
 
     -- one that cannot have retired ended in a stop
     stopped_unless : (promise events (event_with l.tag turn) → is_retirement turn ≡ true → ⊥) → IsStopped turn

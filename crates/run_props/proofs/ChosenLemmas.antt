@@ -9,7 +9,7 @@ use Rattle.flow_policy.specs.Flow.{HoldsAlways}
 use Rattle.heap_policy.specs.Heap.{IsHeap, empty_heap}
 use Rattle.policy_product.specs.Maybe.{MaybeHolds}
 use Rattle.policy_choice.specs.All.{all, choice_state, compartments_of, heap_of, pair_of, part_if}
-use Rattle.policy_choice.specs.declared.choice.Choice.{Choice}
+use Rattle.policy_choice.specs.declared.basis.Basis.{Basis}
 use Rattle.policy_choice.proofs.AllLemmas.{room_of_chosen}
 use Rattle.engine_trait.specs.Machine.{IsMachine}
 use Rattle.tag_loader.specs.Start.{start_machine}
@@ -33,41 +33,41 @@ module _ {S : Type 0} (s : S) where
 
 -- ---- all of them
 
-module _ (choice : Choice) (g : Picture) where
-  pub start_holds : IsImage g → AllHold (choice_state choice g)
+module _ (basis : Basis) (g : Picture) where
+  pub start_holds : IsImage g → AllHold (choice_state basis g)
   start_holds is = (
-    holds_if 0 HasFewKeys choice.seal (omega arith),
+    holds_if 0 HasFewKeys basis.choice.seal (omega arith),
     (
-      holds_if (compartments_of g) IsCount choice.comp (count_is g is),
-      (holds_if (map pair_of g.edges) HoldsAlways choice.flow tt, holds_if (heap_of g) IsHeap choice.heap (heap_is g is)),
+      holds_if (compartments_of g) IsCount basis.choice.comp (count_is g is),
+      (holds_if (map pair_of g.edges) HoldsAlways basis.choice.flow tt, holds_if (heap_of g) IsHeap basis.choice.heap (heap_is g is)),
     ),
   )
 
-  pub start_sound : IsImage g → IsMachine all (start_machine all (choice_state choice g) g)
-  start_sound is = sound_start all (choice_state choice g) g is (room_of_chosen choice g (ends_inside g is))
+  pub start_sound : IsImage g → IsMachine all (start_machine all (choice_state basis g) g)
+  start_sound is = sound_start all (choice_state basis g) g is (room_of_chosen basis g (ends_inside g is))
 
   -- ---- each of them, where it is chosen
 
-  pub seal_on : choice.seal ≡ true → seal_view.is_on (choice_state choice g) ≡ true
-  seal_on on = on_if 0 choice.seal on
+  pub seal_on : basis.choice.seal ≡ true → seal_view.is_on (choice_state basis g) ≡ true
+  seal_on on = on_if 0 basis.choice.seal on
 
-  pub seal_value : choice.seal ≡ true → seal_view.value (choice_state choice g) ≡ 0
-  seal_value on = value_if 0 choice.seal 0 on
+  pub seal_value : basis.choice.seal ≡ true → seal_view.value (choice_state basis g) ≡ 0
+  seal_value on = value_if 0 basis.choice.seal 0 on
 
-  pub comp_on : choice.comp ≡ true → comp_view.is_on (choice_state choice g) ≡ true
-  comp_on on = on_if (compartments_of g) choice.comp on
+  pub comp_on : basis.choice.comp ≡ true → comp_view.is_on (choice_state basis g) ≡ true
+  comp_on on = on_if (compartments_of g) basis.choice.comp on
 
-  pub comp_value : choice.comp ≡ true → comp_view.value (choice_state choice g) ≡ compartments_of g
-  comp_value on = value_if (compartments_of g) choice.comp (first_compartments 0) on
+  pub comp_value : basis.choice.comp ≡ true → comp_view.value (choice_state basis g) ≡ compartments_of g
+  comp_value on = value_if (compartments_of g) basis.choice.comp (first_compartments 0) on
 
-  pub flow_on : choice.flow ≡ true → flow_view.is_on (choice_state choice g) ≡ true
-  flow_on on = on_if (map pair_of g.edges) choice.flow on
+  pub flow_on : basis.choice.flow ≡ true → flow_view.is_on (choice_state basis g) ≡ true
+  flow_on on = on_if (map pair_of g.edges) basis.choice.flow on
 
-  pub flow_value : choice.flow ≡ true → flow_view.value (choice_state choice g) ≡ map pair_of g.edges
-  flow_value on = value_if (map pair_of g.edges) choice.flow [] on
+  pub flow_value : basis.choice.flow ≡ true → flow_view.value (choice_state basis g) ≡ map pair_of g.edges
+  flow_value on = value_if (map pair_of g.edges) basis.choice.flow [] on
 
-  pub heap_on : choice.heap ≡ true → heap_view.is_on (choice_state choice g) ≡ true
-  heap_on on = on_if (heap_of g) choice.heap on
+  pub heap_on : basis.choice.heap ≡ true → heap_view.is_on (choice_state basis g) ≡ true
+  heap_on on = on_if (heap_of g) basis.choice.heap on
 
-  pub heap_value : choice.heap ≡ true → heap_view.value (choice_state choice g) ≡ heap_of g
-  heap_value on = value_if (heap_of g) choice.heap (empty_heap 0 0) on
+  pub heap_value : basis.choice.heap ≡ true → heap_view.value (choice_state basis g) ≡ heap_of g
+  heap_value on = value_if (heap_of g) basis.choice.heap (empty_heap 0 0) on

@@ -1,5 +1,5 @@
 -- How the turn of a ready hart ends, and that a call of a policy's service which retired was served.
-use Rattle.std.proofs.Common.{◌≡◌, ◌⊎◌, inl, inr, ℕ, Bool, true, false, List, Option, Some, None, Result, Ok, Err, refl, sym, ap, ◌∙◌, subst, if◌then◌else◌}
+use Rattle.std.proofs.Common.{◌≡◌, ◌⊎◌, inl, inr, ℕ, Bool, true, false, Option, Some, None, Result, Ok, Err, refl, sym, ap, ◌∙◌, subst, if◌then◌else◌}
 use Rattle.std.proofs.lemmas.Option.{same_Some}
 use Rattle.policy_trait.specs.Model.{PolicyModel}
 use Rattle.shared_terms.specs.Steps.{◌>>=◌}
@@ -10,6 +10,7 @@ use Rattle.policy_trait.specs.declared.services.PlanEnd.{PlanEnd}
 use Rattle.monitor_calls.proofs.JobLemmas.{is_job}
 use Rattle.monitor_calls.specs.Service.{Job}
 use Rattle.tag_memory.specs.Ram.{ram_tag, ram_word}
+use Rattle.turn_steps.specs.Feeds.{Tape}
 use Rattle.turn_steps.specs.Looks.{is_call}
 use Rattle.turn_steps.specs.Services.{args_on}
 use Rattle.turn_steps.specs.declared.look.Look.{Look}
@@ -41,7 +42,7 @@ module _ {T : Type 0} (event : Event T) where
   ends_so ends.TagsOut is made = absurd (cc made)
   ends_so ends.Memory is made = absurd (cc made)
 
-module _ {S T : Type 0} (m : PolicyModel T S) (s : Machine S T) (feed : List ℕ) (h : ℕ) where
+module _ {S T : Type 0} (m : PolicyModel T S) (s : Machine S T) (feed : Tape) (h : ℕ) where
   -- a ready hart's turn retires, or ends in a stop that is no exit
   pub ready_ends : is_ready_in s.core h ≡ true → (is_retirement (event_of m s feed h) ≡ true) ⊎ IsStopped (event_of m s feed h)
   ready_ends ready = ends_so (event_of m s feed h) (turn_of m s feed h).ended (event_of-ended m s feed h) (turn_made m s feed h ready)
@@ -59,10 +60,10 @@ module _ {S T : Type 0} (m : PolicyModel T S) (s : Machine S T) (feed : List ℕ
     pub told : (event_of m s feed h).work ≡ Some (record { range = plan.range; zero = plan.zero; answer = plan.answer })
 
   -- the call that a look makes
-  abbrev call_by_look : Look T → Call T
+  abbrev call_by_look : Look → Call T
   call_by_look look = record { number = look.service; arguments = arguments }
 
-  plan_on : (look : Look T) (outs : Outs T) (job : Job T) → service_on m s h look outs ≡ Ok job → m.plan s.policy look.service arguments outs.pc ≡ Ok job.plan
+  plan_on : (look : Look) (outs : Outs T) (job : Job T) → service_on m s h look outs ≡ Ok job → m.plan s.policy look.service arguments outs.pc ≡ Ok job.plan
   unfolding service_on
   plan_on look outs job e = (is_job m s.policy (ram_word s.core.ram) (ram_tag s.core.ram) look.service arguments outs.pc job e).planned
 
@@ -83,11 +84,11 @@ module _ {S T : Type 0} (m : PolicyModel T S) (s : Machine S T) (feed : List ℕ
     retires : is_retiring (turn_of m s feed h).ended ≡ true
     retires = sym (ap is_retiring (event_of-ended m s feed h)) ∙ done
 
-    unretired : (why : Stop) → StopsUnretired why → (turn_of m s feed h).ended ≡ ends.Stopped why → (look : Look T) → IsServed (call_by_look look)
+    unretired : (why : Stop) → StopsUnretired why → (turn_of m s feed h).ended ≡ ends.Stopped why → (look : Look) → IsServed (call_by_look look)
     unretired why fails ended look = absurd (let is : is_retiring (ends.Stopped why) ≡ true = sym (ap is_retiring ended) ∙ retires in cc (is, fails))
 
     -- a call that is served, or ends the turn
-    by_given : (look : Look T) (outs : Outs T) → preparation m s h ≡ Ok look → rule_answer m s h look ≡ Ok outs → is_call look.group ≡ true
+    by_given : (look : Look) (outs : Outs T) → preparation m s h ≡ Ok look → rule_answer m s h look ≡ Ok outs → is_call look.group ≡ true
         → (job : Result (Option (Job T)) Stop) → turn_job m s h look outs ≡ job
         → (given : Result (Job T) PlanEnd) → service_on m s h look outs ≡ given → or_unserved (hart_at s.core h).pc look.service given ≡ job
         → IsServed (call_by_look look)
@@ -105,25 +106,25 @@ module _ {S T : Type 0} (m : PolicyModel T S) (s : Machine S T) (feed : List ℕ
         (ap (λ (turned : Turned S T). turned.ended) (turn_ruled m s feed h look outs ready looked ruled)
         ∙ ap (λ job. (settlement m s feed h (job >>= λ j. Ok (turn_effect m s feed h look outs j))).ended) is) look
 
-    planned_call : (look : Look T) (outs : Outs T) → is_call look.group ≡ true
+    planned_call : (look : Look) (outs : Outs T) → is_call look.group ≡ true
         → or_unserved (hart_at s.core h).pc look.service (service_on m s h look outs) ≡ turn_job m s h look outs
     unfolding turn_job
     planned_call look outs calls =
         ap (λ test. if test then or_unserved (hart_at s.core h).pc look.service (service_on m s h look outs) else Ok None) (sym calls)
 
-    by_outs : (look : Look T) → preparation m s h ≡ Ok look → is_call look.group ≡ true → (answer : Result (Outs T) Stop) → rule_answer m s h look ≡ answer
+    by_outs : (look : Look) → preparation m s h ≡ Ok look → is_call look.group ≡ true → (answer : Result (Outs T) Stop) → rule_answer m s h look ≡ answer
         → IsServed (call_by_look look)
     by_outs look looked calls (Ok outs) ruled =
         by_given look outs looked ruled calls (turn_job m s h look outs) refl (service_on m s h look outs) refl (planned_call look outs calls)
     by_outs look looked calls (Err why) ruled =
         unretired why (refused_stops m s h why look ruled) (ap (λ (turned : Turned S T). turned.ended) (turn_refused m s feed h look why ready looked ruled)) look
 
-    by_group : (look : Look T) → preparation m s h ≡ Ok look → (test : Bool) → is_call look.group ≡ test
+    by_group : (look : Look) → preparation m s h ≡ Ok look → (test : Bool) → is_call look.group ≡ test
         → (if test then Some (call_by_look look) else None) ≡ Some call → IsServed call
     by_group look looked true calls e = subst IsServed (same_Some (call_by_look look) call e) (by_outs look looked calls (rule_answer m s h look) refl)
     by_group look looked false calls e = absurd cc
 
-    by_look : (found : Result (Look T) Stop) → preparation m s h ≡ found → called_in arguments found ≡ Some call → IsServed call
+    by_look : (found : Result Look Stop) → preparation m s h ≡ found → called_in arguments found ≡ Some call → IsServed call
     by_look (Ok look) looked e = by_group look looked (is_call look.group) refl e
     by_look (Err why) looked e = absurd cc
 

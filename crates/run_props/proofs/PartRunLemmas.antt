@@ -1,10 +1,11 @@
 -- What a part's turns keep, each run of an image keeps in which the part is chosen.
-use Rattle.std.proofs.Common.{◌≡◌, ℕ, true, List, [], ap, subst, sym, ◌∙◌}
+use Rattle.std.proofs.Common.{◌≡◌, true, List, [], ap, subst, sym, ◌∙◌}
 use Rattle.image_format.specs.Conditions.{IsImage}
 use Rattle.image_format.specs.Picture.{Picture}
 use Rattle.policy_trait.specs.Model.{PolicyModel}
 use Rattle.policy_choice.specs.All.{AllState, AllTag, all, choice_state}
-use Rattle.policy_choice.specs.declared.choice.Choice.{Choice}
+use Rattle.policy_choice.specs.declared.basis.Basis.{Basis}
+use Rattle.turn_steps.specs.Feeds.{Tape}
 use Rattle.engine_trait.specs.Events.{Event}
 use Rattle.engine_trait.specs.Machine.{Machine}
 use Rattle.engine_trait.specs.Runs.{Item, Trace, run_along}
@@ -20,20 +21,20 @@ use Rattle.run_props.proofs.ChosenLemmas.{start_holds, start_sound}
 use Rattle.policy_choice.specs.AllLaws.{AllHold, all_laws}
 use Rattle.run_props.proofs.StartLemmas.{seen_start}
 
-module _ (choice : Choice) (g : Picture) (feed : List ℕ) (items : List Item) where
+module _ (basis : Basis) (g : Picture) (feed : Tape) (items : List Item) where
   -- the run of the image, whatever bytes are there to be got at its start
   abbrev pub fed_run : Trace AllState AllTag
-  fed_run = run_along all (start_machine all (choice_state choice g) g) feed items
+  fed_run = run_along all (start_machine all (choice_state basis g) g) feed items
 
   -- v is the part's value at the start
   pub part_keeps : {U V : Type 0} (m : PolicyModel U V) (l : View AllTag AllState U V) (line : List (Event U) → Machine V U → Type 0)
       (promise : List (Event U) → Event U → Type 0) (v : V) → IsImage g → IsPart all m l → Keeps m line promise
-      → l.is_on (choice_state choice g) ≡ true → l.value (choice_state choice g) ≡ v
+      → l.is_on (choice_state basis g) ≡ true → l.value (choice_state basis g) ≡ v
       → line [] (first_machine m v (birth_of g) (memory_of g) g.entries) → RunKeeps l line promise fed_run
   unfolding start_machine
   part_keeps {U} {V} m l line promise v is part keeps on value first =
-      let start = start_machine all (choice_state choice g) g in
-      let seen = seen_start all m l part (choice_state choice g) g on (length-memory_of g is)
+      let start = start_machine all (choice_state basis g) g in
+      let seen = seen_start all m l part (choice_state basis g) g on (length-memory_of g is)
       ∙ ap (λ (x : V). first_machine m x (birth_of g) (memory_of g) g.entries) value in
-      runs_keep all m l AllHold all_laws part line promise keeps start feed items on (start_sound choice g is) (start_holds choice g is)
+      runs_keep all m l AllHold all_laws part line promise keeps start feed items on (start_sound basis g is) (start_holds basis g is)
       (subst (line []) (sym seen) first)

@@ -14,13 +14,15 @@ use Rattle.policy_trait.specs.Model.{PolicyModel}
 use Rattle.policy_choice.specs.All.{AllState, AllTag, all, choice_state, compartments_of, heap_of, pair_of}
 use Rattle.policy_parts.specs.Part.{IsPart}
 use Rattle.policy_parts.specs.View.{View}
-use Rattle.policy_choice.specs.declared.choice.Choice.{Choice}
+use Rattle.policy_choice.specs.declared.basis.Basis.{Basis}
+use Rattle.turn_steps.specs.Feeds.{Tape}
 use Rattle.engine_trait.specs.Events.{Event}
 use Rattle.engine_trait.specs.Machine.{Machine}
 use Rattle.engine_trait.specs.Runs.{Item, Trace}
 use Rattle.part_turns.specs.Keeps.{RunKeeps}
 use Rattle.tag_loader.specs.Births.{birth_of}
 use Rattle.tag_loader.specs.Start.{memory_of, start_machine}
+use Rattle.tag_loader.proofs.MemoryLemmas.{memory_words}
 use Rattle.seal_runs.specs.KeyBook.{key_book}
 use Rattle.seal_runs.specs.SealLine.{SealLine}
 use Rattle.seal_runs.specs.SealSafe.{SealTurn}
@@ -50,19 +52,19 @@ use Rattle.run_props.proofs.PartLemmas.{comp_is_part, flow_is_part, heap_is_part
 use Rattle.run_props.proofs.PartRunLemmas.{fed_run, part_keeps}
 use Rattle.run_props.proofs.StayLemmas.{run_stays}
 
-module _ (choice : Choice) (g : Picture) (feed : List ℕ) (items : List Item) (is : IsImage g) where
+module _ (basis : Basis) (g : Picture) (feed : Tape) (items : List Item) (is : IsImage g) where
   abbrev run : Trace AllState AllTag
-  run = fed_run choice g feed items
+  run = fed_run basis g feed items
 
   -- ---- each policy
 
   abbrev seal_promise : List (Event SealTag) → Event SealTag → Type 0
   seal_promise before event = SealTurn (key_book before) event
 
-  seal_keeps_run : choice.seal ≡ true → RunKeeps seal_view SealLine seal_promise run
+  seal_keeps_run : basis.choice.seal ≡ true → RunKeeps seal_view SealLine seal_promise run
   seal_keeps_run on =
-      part_keeps choice g feed items sealing seal_view SealLine seal_promise 0 is seal_is_part seal_keeps
-      (seal_on choice g on) (seal_value choice g on) (seal_starts (birth_of g) (memory_of g) g.entries)
+      part_keeps basis g feed items sealing seal_view SealLine seal_promise 0 is seal_is_part seal_keeps
+      (seal_on basis g on) (seal_value basis g on) (seal_starts (birth_of g) (memory_of g) g.entries (memory_words g is))
 
   abbrev comp_line : List (Event CompartmentTag) → Machine CompartmentState CompartmentTag → Type 0
   comp_line = CompLine (birth_of g) g.entries
@@ -70,10 +72,10 @@ module _ (choice : Choice) (g : Picture) (feed : List ℕ) (items : List Item) (
   abbrev comp_promise : List (Event CompartmentTag) → Event CompartmentTag → Type 0
   comp_promise = CompTurn (birth_of g) g.entries
 
-  comp_keeps_run : choice.comp ≡ true → RunKeeps comp_view comp_line comp_promise run
+  comp_keeps_run : basis.choice.comp ≡ true → RunKeeps comp_view comp_line comp_promise run
   comp_keeps_run on =
-      part_keeps choice g feed items compartments comp_view comp_line comp_promise (compartments_of g) is comp_is_part
-      (comp_keeps (birth_of g) g.entries) (comp_on choice g on) (comp_value choice g on)
+      part_keeps basis g feed items compartments comp_view comp_line comp_promise (compartments_of g) is comp_is_part
+      (comp_keeps (birth_of g) g.entries) (comp_on basis g on) (comp_value basis g on)
       (comp_starts (birth_of g) (memory_of g) g.entries (compartments_of g) (λ n below. owner_below g (4 * n)))
 
   abbrev edges : List (ℕ × ℕ)
@@ -85,10 +87,10 @@ module _ (choice : Choice) (g : Picture) (feed : List ℕ) (items : List Item) (
   abbrev flow_promise : List (Event FlowTag) → Event FlowTag → Type 0
   flow_promise = FlowTurn (birth_of g) (memory_of g) edges
 
-  flow_keeps_run : choice.flow ≡ true → RunKeeps flow_view flow_line flow_promise run
+  flow_keeps_run : basis.choice.flow ≡ true → RunKeeps flow_view flow_line flow_promise run
   flow_keeps_run on =
-      part_keeps choice g feed items flow flow_view flow_line flow_promise edges is flow_is_part
-      (flow_keeps (birth_of g) (memory_of g) edges) (flow_on choice g on) (flow_value choice g on)
+      part_keeps basis g feed items flow flow_view flow_line flow_promise edges is flow_is_part
+      (flow_keeps (birth_of g) (memory_of g) edges) (flow_on basis g on) (flow_value basis g on)
       (flow_starts (birth_of g) (memory_of g) g.entries edges)
 
   abbrev heap_line : List (Event HeapTag) → Machine HeapState HeapTag → Type 0
@@ -97,16 +99,16 @@ module _ (choice : Choice) (g : Picture) (feed : List ℕ) (items : List Item) (
   abbrev heap_promise : List (Event HeapTag) → Event HeapTag → Type 0
   heap_promise before event = HeapTurn g.heap_base (heap_top g) (block_book before) event
 
-  heap_keeps_run : choice.heap ≡ true → RunKeeps heap_view heap_line heap_promise run
+  heap_keeps_run : basis.choice.heap ≡ true → RunKeeps heap_view heap_line heap_promise run
   heap_keeps_run on =
       let region = region_is g is in
-      part_keeps choice g feed items heap heap_view heap_line heap_promise (heap_of g) is heap_is_part
-      (heap_keeps g.heap_base (heap_top g)) (heap_on choice g on) (heap_value choice g on)
+      part_keeps basis g feed items heap heap_view heap_line heap_promise (heap_of g) is heap_is_part
+      (heap_keeps g.heap_base (heap_top g)) (heap_on basis g on) (heap_value basis g on)
       (heap_starts (birth_of g) (memory_of g) g.entries g.heap_base g.heap_bytes region.aligned region.small (λ n below. heap_told g n))
 
   -- ---- all of them
 
-  pub run_is_safe : IsSafe choice g run.events
+  pub run_is_safe : IsSafe basis g run.events
   run_is_safe = record {
     seal = λ on. (seal_keeps_run on).promises;
     comp = λ on. comp_law (birth_of g) g.entries (events_by comp_view run.events) (comp_keeps_run on).promises;
@@ -115,18 +117,18 @@ module _ (choice : Choice) (g : Picture) (feed : List ℕ) (items : List Item) (
   }
 
   in_line : {U V : Type 0} (m : PolicyModel U V) (l : View AllTag AllState U V) (line : List (Event U) → Machine V U → Type 0)
-      (promise : List (Event U) → Event U → Type 0) → IsPart all m l → l.is_on (choice_state choice g) ≡ true → RunKeeps l line promise run
+      (promise : List (Event U) → Event U → Type 0) → IsPart all m l → l.is_on (choice_state basis g) ≡ true → RunKeeps l line promise run
       → InLine l line (events_by l run.events) run.machine
   unfolding start_machine
   in_line m l line promise part on kept =
-      let stays = run_stays m l part (start_machine all (choice_state choice g) g) feed items
-      (record { sound = start_sound choice g is; valid = start_holds choice g is; on = on }) in
+      let stays = run_stays m l part (start_machine all (choice_state basis g) g) feed items
+      (record { sound = start_sound basis g is; valid = start_holds basis g is; on = on }) in
       record { sound = stays.sound; valid = stays.valid; on = stays.on; held = kept.kept }
 
-  pub run_in_line : IsInLine choice g run.events run.machine
+  pub run_in_line : IsInLine basis g run.events run.machine
   run_in_line = record {
-    seal = λ on. in_line sealing seal_view SealLine seal_promise seal_is_part (seal_on choice g on) (seal_keeps_run on);
-    comp = λ on. in_line compartments comp_view comp_line comp_promise comp_is_part (comp_on choice g on) (comp_keeps_run on);
-    flow = λ on. in_line flow flow_view flow_line flow_promise flow_is_part (flow_on choice g on) (flow_keeps_run on);
-    heap = λ on. in_line heap heap_view heap_line heap_promise heap_is_part (heap_on choice g on) (heap_keeps_run on);
+    seal = λ on. in_line sealing seal_view SealLine seal_promise seal_is_part (seal_on basis g on) (seal_keeps_run on);
+    comp = λ on. in_line compartments comp_view comp_line comp_promise comp_is_part (comp_on basis g on) (comp_keeps_run on);
+    flow = λ on. in_line flow flow_view flow_line flow_promise flow_is_part (flow_on basis g on) (flow_keeps_run on);
+    heap = λ on. in_line heap heap_view heap_line heap_promise heap_is_part (heap_on basis g on) (heap_keeps_run on);
   }

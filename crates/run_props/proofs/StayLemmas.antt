@@ -1,7 +1,8 @@
 -- A run of a sound machine leaves one, in which a policy that was on is still on.
-use Rattle.std.proofs.Common.{◌≡◌, ℕ, true, List, [], ◌∷◌, ◌++◌}
+use Rattle.std.proofs.Common.{◌≡◌, true, List, [], ◌∷◌}
 use Rattle.policy_trait.specs.Model.{PolicyModel}
 use Rattle.policy_choice.specs.All.{AllState, AllTag, all}
+use Rattle.turn_steps.specs.Feeds.{Tape, with_fed}
 use Rattle.engine_trait.proofs.MachineLemmas.{turn_keeps}
 use Rattle.engine_trait.specs.Machine.{IsMachine, Machine}
 use Rattle.engine_trait.specs.Runs.{Item, fed, run_along, turn}
@@ -17,9 +18,9 @@ module _ {U V : Type 0} (m : PolicyModel U V) (l : View AllTag AllState U V) (pa
     pub valid : AllHold s.policy
     pub on : l.is_on s.policy ≡ true
 
-  pub run_stays : (s : Machine AllState AllTag) (feed : List ℕ) (items : List Item) → IsOn s → IsOn (run_along all s feed items).machine
+  pub run_stays : (s : Machine AllState AllTag) (feed : Tape) (items : List Item) → IsOn s → IsOn (run_along all s feed items).machine
   run_stays s feed [] is = is
-  run_stays s feed (fed byte ∷ items) is = run_stays s (feed ++ byte ∷ []) items is
+  run_stays s feed (fed byte ∷ items) is = run_stays s (with_fed feed (byte ∷ [])) items is
   run_stays s feed (turn h ∷ items) is =
       let next = turn_of all s feed h in
       let kept = turn_keeps all AllHold all_laws s is.valid is.sound feed h in

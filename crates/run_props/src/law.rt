@@ -3,6 +3,7 @@
 ghost use Rattle.std.specs.Prelude.{◌≡◌, ℕ, ◌+◌, List, [], map, Some, true};
 ghost use Rattle.image_format.specs.Conditions.{IsImage};
 ghost use Rattle.image_format.specs.Picture.{Picture};
+ghost use Rattle.turn_steps.specs.Feeds.{Tape};
 ghost use Rattle.engine_trait.specs.Runs.{Item, run_along};
 ghost use Rattle.sealing_policy.specs.Sealing.{sealing};
 ghost use Rattle.compartment_policy.specs.Compartments.{compartments};
@@ -11,7 +12,7 @@ ghost use Rattle.heap_policy.specs.Heap.{free_service, heap, malloc_service, poi
 ghost use Rattle.live_blocks.specs.Space.{first_fit};
 ghost use Rattle.live_blocks.specs.declared.block.Block.{Block};
 ghost use Rattle.policy_choice.specs.All.{all, choice_state, pair_of};
-ghost use Rattle.policy_choice.specs.declared.choice.Choice.{Choice};
+ghost use Rattle.policy_choice.specs.declared.basis.Basis.{Basis};
 ghost use Rattle.policy_parts.specs.Part.{IsPart};
 ghost use Rattle.tag_loader.specs.Births.{birth_of};
 ghost use Rattle.tag_loader.specs.Start.{memory_of, start_machine};
@@ -50,57 +51,57 @@ pub fn parts_law()
 
 /// Where sealing is chosen, along any list of turns and fed bytes, each unsealing used its key. The function does nothing.
 pub fn seal_law()
-    ensures { (choice : Choice) (g : Picture) (items : List Item) → IsImage g
-        → choice.seal ≡ true → SealSafe (events_by seal_view (run_of choice g items).events) }
+    ensures { (basis : Basis) (g : Picture) (items : List Item) → IsImage g
+        → basis.choice.seal ≡ true → SealSafe (events_by seal_view (run_of basis g items).events) }
 {}
 
 /// Where compartments are chosen, along any list of turns and fed bytes, each store lies in its compartment's permitted
 /// words, and a compartment is entered by right alone. The function does nothing.
 pub fn comp_law()
-    ensures { (choice : Choice) (g : Picture) (items : List Item) → IsImage g
-        → choice.comp ≡ true
-        → CompSafe (birth_of g) g.entries (events_by comp_view (run_of choice g items).events) }
+    ensures { (basis : Basis) (g : Picture) (items : List Item) → IsImage g
+        → basis.choice.comp ≡ true
+        → CompSafe (birth_of g) g.entries (events_by comp_view (run_of basis g items).events) }
 {}
 
 /// Where control flow is chosen, along any list of turns and fed bytes, each hart runs the image's code alone, and each
 /// indirect jump is a listed edge. The function does nothing.
 pub fn flow_law()
-    ensures { (choice : Choice) (g : Picture) (items : List Item) → IsImage g
-        → choice.flow ≡ true
+    ensures { (basis : Basis) (g : Picture) (items : List Item) → IsImage g
+        → basis.choice.flow ≡ true
         → FlowSafe (birth_of g) (memory_of g) (map pair_of g.edges)
-        (events_by flow_view (run_of choice g items).events) }
+        (events_by flow_view (run_of basis g items).events) }
 {}
 
 /// Where heap safety is chosen, along any list of turns and fed bytes, each heap access lies in its pointer's live block. The
 /// function does nothing.
 pub fn heap_law()
-    ensures { (choice : Choice) (g : Picture) (items : List Item) → IsImage g
-        → choice.heap ≡ true
+    ensures { (basis : Basis) (g : Picture) (items : List Item) → IsImage g
+        → basis.choice.heap ≡ true
         → HeapSafe g.heap_base (heap_top g)
-        (events_by heap_view (run_of choice g items).events) }
+        (events_by heap_view (run_of basis g items).events) }
 {}
 
 /// Each run keeps what is said of each chosen policy, whatever bytes were there to be got at its start. The function does
 /// nothing.
 pub fn run_law()
-    ensures { (choice : Choice) (g : Picture) (feed : List ℕ) (items : List Item) → IsImage g
-        → IsSafe choice g
-        (run_along all (start_machine all (choice_state choice g) g) feed items).events }
+    ensures { (basis : Basis) (g : Picture) (feed : Tape) (items : List Item) → IsImage g
+        → IsSafe basis g
+        (run_along all (start_machine all (choice_state basis g) g) feed items).events }
 {}
 
 /// In each state that a run comes to, the tags say of the places what the books say of the events: it is one of which the
 /// line of each chosen policy speaks, whatever bytes were there to be got at the run's start. The function does nothing.
 pub fn line_law()
-    ensures { (choice : Choice) (g : Picture) (feed : List ℕ) (items : List Item) → IsImage g
-        → IsInLine choice g
-        (run_along all (start_machine all (choice_state choice g) g) feed items).events
-        (run_along all (start_machine all (choice_state choice g) g) feed items).machine }
+    ensures { (basis : Basis) (g : Picture) (feed : Tape) (items : List Item) → IsImage g
+        → IsInLine basis g
+        (run_along all (start_machine all (choice_state basis g) g) feed items).events
+        (run_along all (start_machine all (choice_state basis g) g) feed items).machine }
 {}
 
 /// In every state of which the line of sealing speaks, a ready hart's turn that unseals without the key ends in a stop that is
 /// no exit. The function does nothing.
 pub fn seal_attack_law()
-    ensures { (events : List (Event SealTag)) (s : Machine AllState AllTag) (feed : List ℕ) (h : ℕ)
+    ensures { (events : List (Event SealTag)) (s : Machine AllState AllTag) (feed : Tape) (h : ℕ)
         → InLine seal_view SealLine events s → is_ready_in s.core h ≡ true
         → UnsealsWithoutKey (event_with seal_view.tag (event_of all s feed h))
         → IsStopped (event_of all s feed h) }
@@ -111,7 +112,7 @@ pub fn seal_attack_law()
 /// of entry. The function does nothing.
 pub fn comp_attack_law()
     ensures { (birth : ℕ → Birth) (entries : List ℕ) (events : List (Event CompartmentTag))
-        (s : Machine AllState AllTag) (feed : List ℕ) (h : ℕ)
+        (s : Machine AllState AllTag) (feed : Tape) (h : ℕ)
         → InLine comp_view (CompLine birth entries) events s → is_ready_in s.core h ≡ true
         → Trespasses birth entries s.policy events (event_of all s feed h)
         → IsStopped (event_of all s feed h) }
@@ -134,7 +135,7 @@ pub fn zeroing_law()
 /// word outside the code, or one to which no edge leads from the jump before. The function does nothing.
 pub fn flow_attack_law()
     ensures { (birth : ℕ → Birth) (words : List ℕ) (edges : List (ℕ × ℕ))
-        (events : List (Event FlowTag)) (s : Machine AllState AllTag) (feed : List ℕ) (h : ℕ)
+        (events : List (Event FlowTag)) (s : Machine AllState AllTag) (feed : Tape) (h : ℕ)
         → InLine flow_view (FlowLine birth words edges) events s → is_ready_in s.core h ≡ true
         → GoesAstray birth words edges events (event_with flow_view.tag (event_of all s feed h))
         → IsStopped (event_of all s feed h) }
@@ -144,7 +145,7 @@ pub fn flow_attack_law()
 /// memory by a pointer that does not reach its live block, or the heap by what is no pointer. The function does nothing.
 pub fn heap_attack_law()
     ensures { (base top : ℕ) (events : List (Event HeapTag)) (s : Machine AllState AllTag)
-        (feed : List ℕ) (h : ℕ) → InLine heap_view (HeapLine base top) events s
+        (feed : Tape) (h : ℕ) → InLine heap_view (HeapLine base top) events s
         → is_ready_in s.core h ≡ true
         → MissesBlock base top (block_book events)
         (event_with heap_view.tag (event_of all s feed h))

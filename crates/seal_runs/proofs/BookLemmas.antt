@@ -1,15 +1,14 @@
 -- The key book grows: what fits it at one time fits it ever after.
-use Rattle.std.proofs.Common.{◌≡◌, ℕ, zero, suc, ◌+◌, ◌<◌, List, [], ◌∷◌, ◌++◌, length, get_or, Some, sym, ap, ◌∙◌, subst, arith}
+use Rattle.std.proofs.Common.{◌≡◌, ℕ, zero, suc, ◌+◌, ◌<◌, List, [], ◌∷◌, ◌++◌, length, Some, sym, ap, ◌∙◌, arith}
 use Rattle.std.specs.List.{Contains, range_with_len}
 use Rattle.std.proofs.lemmas.List.{length_push}
 use Rattle.std.proofs.lemmas.List.Elements.{Contains-append_left}
-use Rattle.std.proofs.lemmas.List.FromFn.{get_or-range_with_len, length-range_with_len}
 use Rattle.std.proofs.lemmas.List.Sums.{fold-append}
 use Rattle.engine_trait.specs.Events.{Event}
 use Rattle.sealing_policy.specs.Sealing.{HasFewKeys, key_limit}
 use Rattle.sealing_policy.specs.declared.tag.SealTag.{SealTag}
 use Rattle.sealing_policy.specs.declared.tag.SealTag.TheVariants.{Data, Key, Sealed}
-use Rattle.seal_runs.specs.KeyBook.{KeyBook, key_book, keys_after, no_keys, with_key, with_pair, word_of}
+use Rattle.seal_runs.specs.KeyBook.{KeyBook, key_book, keys_after, no_keys, with_key, with_pair}
 use Rattle.seal_runs.specs.SealLine.{Fits}
 
 -- ---- one event more
@@ -37,37 +36,15 @@ pair_grows book key value = record { made = λ other has. has; pairs = λ pair h
 pub fits_grown : (old new : KeyBook) → Grows old new → (value : ℕ) (tag : SealTag) → Fits old value tag → Fits new value tag
 fits_grown old new grows value Data fits = tt
 fits_grown old new grows value (Key key) fits = (fits.0, grows.made key fits.1)
-fits_grown old new grows value (Sealed key) fits = grows.pairs (key, word_of value) fits
+fits_grown old new grows value (Sealed key) fits = grows.pairs (key, value) fits
 
--- ---- keys are numbers of a word
+-- ---- keys are counted
 
 -- the keys are 0, 1, 2 and so on, and there are so many
 pub record HasKeys (book : KeyBook) (keys : ℕ) : Type 0 where
   pub numbered : book.made ≡ range_with_len 0 (length book.made)
   pub next : keys ≡ length book.made
   pub few : HasFewKeys keys
-
-in_range : (size key : ℕ) → Contains (range_with_len 0 size) key → key < size
-in_range size key has =
-    let below : has.0 < size = subst (λ n. has.0 < n) (length-range_with_len 0 size) has.1 in
-    let item : get_or (range_with_len 0 size) has.0 key ≡ 0 + has.0 = get_or-range_with_len 0 size has.0 key below in
-    let same : key ≡ 0 + has.0 = sym has.2 ∙ item in
-    omega (arith, below, same)
-
-made_small : (book : KeyBook) (keys key : ℕ) → HasKeys book keys → Contains book.made key → key < keys
-made_small book keys key has made =
-    let below : key < length book.made = in_range (length book.made) key (subst (λ list. Contains list key) has.numbered made) in
-    omega (arith, below, has.next)
-
--- a value that is taken as a word fits as it did
-pub fits_word : (book : KeyBook) (keys value : ℕ) (tag : SealTag) → HasKeys book keys → Fits book value tag → Fits book (word_of value) tag
-fits_word book keys value Data has fits = tt
-fits_word book keys value (Key key) has fits =
-    let small : key < keys = made_small book keys key has fits.1 in
-    (omega (arith, small, has.few, fits.0), fits.1)
-fits_word book keys value (Sealed key) has fits =
-    let same : word_of (word_of value) ≡ word_of value = omega arith in
-    subst (λ word. Contains book.pairs (key, word)) (sym same) fits
 
 -- ---- the next key
 

@@ -1,4 +1,4 @@
--- What sealing's rule gives the result of an instruction.
+-- What sealing's rule gives the result and the pc of an instruction.
 use Rattle.std.proofs.Common.{◌≡◌, Bool, true, false, Result, Ok, Err, refl, sym, ap, if◌then◌else◌}
 use Rattle.rv_decode.specs.declared.groups.Group.{Group}
 use Rattle.rv_decode.specs.declared.groups.Group.TheVariants as group
@@ -18,13 +18,18 @@ same_outs : (x y : Outs SealTag) → allowed x ≡ allowed y → x ≡ y
 same_outs x y e = cc
 
 by_meets : (meets : Bool) (g : Group) (result : SealTag) (outs : Outs SealTag)
-    → (if meets then Ok (record { pc = Data; result = result }) else Err (refused_for (why.Rule g))) ≡ Ok outs → outs.result ≡ result
-by_meets true g result outs e = ap (λ (x : Outs SealTag). x.result) (sym (same_outs (record { pc = Data; result = result }) outs e))
+    → (if meets then Ok (record { pc = Data; result = result }) else Err (refused_for (why.Rule g))) ≡ Ok outs
+    → record { pc = Data; result = result } ≡ outs
+by_meets true g result outs e = same_outs (record { pc = Data; result = result }) outs e
 by_meets false g result outs e = absurd cc
 
 -- a result has the tag that the group's row says
 pub result_tag : (g : Group) (x : Ins SealTag) (outs : Outs SealTag) → sealing_rule g x ≡ Ok outs → outs.result ≡ tag_from (row_of g).result x
-result_tag g x outs e = by_meets (meets_row (row_of g) x) g (tag_from (row_of g).result x) outs e
+result_tag g x outs e = ap (λ (y : Outs SealTag). y.result) (sym (by_meets (meets_row (row_of g) x) g (tag_from (row_of g).result x) outs e))
+
+-- a pc is data
+pub pc_tag : (g : Group) (x : Ins SealTag) (outs : Outs SealTag) → sealing_rule g x ≡ Ok outs → outs.pc ≡ Data
+pc_tag g x outs e = ap (λ (y : Outs SealTag). y.pc) (sym (by_meets (meets_row (row_of g) x) g (tag_from (row_of g).result x) outs e))
 
 -- what is computed is data
 pub computed_tag : (g : Group) (x : Ins SealTag) → is_computing g ≡ true → tag_from (row_of g).result x ≡ Data

@@ -22,7 +22,7 @@ use Rattle.shared_terms.proofs.StepLemmas.{ok_is}
 use Rattle.sealing_policy.specs.Sealing.{answering, key_limit, key_plan, refused_plan, seal_plan, sealing, sealing_knows, sealing_plan, unseal_plan}
 use Rattle.sealing_policy.specs.declared.tag.SealTag.{SealTag}
 use Rattle.sealing_policy.specs.declared.tag.SealTag.TheVariants.{Data, Key, Sealed}
-use Rattle.seal_runs.specs.KeyBook.{KeyBook, answer_value, keys_by, with_key, with_pair, word_of}
+use Rattle.seal_runs.specs.KeyBook.{KeyBook, answer_value, keys_by, with_key, with_pair}
 use Rattle.seal_runs.specs.SealLine.{Fits}
 use Rattle.seal_runs.specs.SealSafe.{UsesKey}
 use Rattle.seal_runs.proofs.BookLemmas.{Grows, HasKeys, has_next_key, key_grows, pair_grows, same_grows}
@@ -80,12 +80,12 @@ module _ (book : KeyBook) (keys : ℕ) (has : HasKeys book keys) (a : Args SealT
     sealed : (key : ℕ) → a.t1 ≡ Key key → IsServedBy book keys a 17 (answering 17 pc a.a0 (Sealed key) rest.AsA0)
     sealed key lock =
         let held : (a.a1 ≡ key) × Contains book.made key = subst (Fits book a.a1) lock second in
-        let paired : Contains (book.pairs ++ (a.a1, word_of a.a0) ∷ []) (key, word_of a.a0) =
-        subst (λ k. Contains (book.pairs ++ (a.a1, word_of a.a0) ∷ []) (k, word_of a.a0)) held.0 (Contains-push book.pairs (a.a1, word_of a.a0)) in
+        let paired : Contains (book.pairs ++ (a.a1, a.a0) ∷ []) (key, a.a0) =
+        subst (λ k. Contains (book.pairs ++ (a.a1, a.a0) ∷ []) (k, a.a0)) held.0 (Contains-push book.pairs (a.a1, a.a0)) in
         record {
           grows = pair_grows book _ _;
           has = record { numbered = has.numbered; next = has.next; few = has.few };
-          answer = λ y e. answer_fits (with_pair book a.a1 (word_of a.a0)) (record { value = a.a0; tag = Sealed key; rest = rest.AsA0 }) y paired e;
+          answer = λ y e. answer_fits (with_pair book a.a1 a.a0) (record { value = a.a0; tag = Sealed key; rest = rest.AsA0 }) y paired e;
           words = λ range word old new e. absurd (none-some range e);
           makes = λ is. absurd (omega arith);
           unseals = λ is. absurd (omega arith);

@@ -1,11 +1,13 @@
--- At the start everything is data, and no key was made.
-use Rattle.std.proofs.Common.{◌≡◌, ℕ, zero, suc, ◌-◌, ◌/◌, ◌==◌, Bool, true, false, List, [], length, get_or, refl, sym, ap, ◌∙◌, subst, arith, if◌then◌else◌}
+-- At the start everything is data and a word, and no key was made.
+use Rattle.std.proofs.Common.{◌≡◌, ℕ, zero, suc, ◌-◌, ◌/◌, ◌==◌, Bool, true, false, List, [], All, length, get_or, refl, sym, ap, ◌∙◌, subst, arith, lit<, if◌then◌else◌}
 use Rattle.std.specs.Prelude.{replicate}
 use Rattle.std.specs.List.{range_with_len}
 use Rattle.std.proofs.Math.ListN.{get_or-map}
+use Rattle.std.proofs.lemmas.List.Elements.{All-map, All-replicate}
 use Rattle.policy_trait.specs.declared.birth.Birth.{Birth}
-use Rattle.tag_memory.specs.Hart.{fresh_hart, reg_tag}
-use Rattle.engine_trait.specs.Machine.{hart_at}
+use Rattle.tag_memory.specs.Hart.{HartState, fresh_hart, reg_tag}
+use Rattle.turn_steps.specs.Values.{HartHasWords, IsWord}
+use Rattle.engine_trait.specs.Machine.{HasWords, hart_at}
 use Rattle.part_turns.specs.Start.{first_hart, first_machine}
 use Rattle.sealing_policy.specs.Sealing.{sealing}
 use Rattle.sealing_policy.specs.declared.tag.SealTag.{SealTag}
@@ -36,11 +38,23 @@ module _ (birth : ℕ → Birth) (words entries : List ℕ) where
   hart_data h r =
       ap (λ hart. reg_tag hart r) (get_or-map (first_hart sealing 0 birth words entries) entries h 0) ∙ fresh_data (get_or entries h 0) r
 
-  pub first_line : SealLine [] (first_machine sealing 0 birth words entries)
+  pc_data : (h : ℕ) → (hart_at (first_machine sealing 0 birth words entries).core h).pc_tag ≡ Data
+  pc_data h = ap (λ (hart : HartState SealTag). hart.pc_tag) (get_or-map (first_hart sealing 0 birth words entries) entries h 0)
+
+  first_words : All IsWord words → HasWords (first_machine sealing 0 birth words entries).core
+  first_words are = record {
+    harts = All-map (λ (hart : HartState SealTag). HartHasWords hart) (first_hart sealing 0 birth words entries) entries
+        (λ n default below. All-replicate IsWord 31 0 (lit< tt));
+    ram = are;
+  }
+
+  pub first_line : All IsWord words → SealLine [] (first_machine sealing 0 birth words entries)
   unfolding key_book
-  first_line = record {
+  first_line are = record {
     registers = λ h r. data_fits (key_book {T = SealTag} []) _ _ (hart_data h r);
     words = λ address. data_fits (key_book {T = SealTag} []) _ _ (get_or-map (λ (n : ℕ). Data) (range_with_len 0 (length words)) (address / 4) 0);
+    pcs = pc_data;
+    values = first_words are;
     numbered = refl;
     next = refl;
     few = omega arith;

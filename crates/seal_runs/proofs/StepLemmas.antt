@@ -1,5 +1,6 @@
 -- What an instruction leaves in a register and in memory fits the book.
-use Rattle.std.proofs.Common.{◌≡◌, ℕ, Ok, refl, sym, ap, ◌∙◌, subst}
+use Rattle.std.proofs.Common.{◌≡◌, ℕ, ◌%◌, ◌^◌, Ok, refl, sym, ap, ◌∙◌, subst}
+use Rattle.std.proofs.Math.Nat.{mod-eq_of_lt}
 use Rattle.rv_decode.specs.declared.groups.Group.{Group}
 use Rattle.rv_decode.specs.declared.groups.Group.TheVariants as group
 use Rattle.rv_step.specs.Accesses.{stored_in}
@@ -7,10 +8,14 @@ use Rattle.rv_step.specs.declared.accesses.Access.{Access}
 use Rattle.rv_step.specs.declared.accesses.Access.TheVariants as access
 use Rattle.rv_step.specs.declared.accesses.Width.{Width}
 use Rattle.rv_step.specs.declared.accesses.Width.TheVariants.{Full}
+use Rattle.policy_trait.specs.declared.rules.Ins.{Ins}
 use Rattle.policy_trait.specs.declared.rules.Outs.{Outs}
-use Rattle.tag_memory.specs.Hart.{HartState, IsHart, reg_tag, reg_value}
+use Rattle.tag_memory.specs.Hart.{HartState, IsHart, reg_value}
 use Rattle.tag_memory.specs.Ram.{IsRam, RamState, ram_word}
+use Rattle.turn_steps.proofs.ValueLemmas.{register_word}
 use Rattle.turn_steps.specs.Effects.{with_store, with_tagged}
+use Rattle.turn_steps.specs.Looks.{access_tag, inputs_on}
+use Rattle.turn_steps.specs.Values.{HartHasWords}
 use Rattle.turn_steps.specs.declared.look.Look.{Look}
 use Rattle.part_turns.proofs.PlaceLemmas.{each_register, each_stored}
 use Rattle.part_turns.specs.Turns.{Does, computes, loads, loads_part, moves, stores, stores_part}
@@ -19,21 +24,23 @@ use Rattle.sealing_policy.specs.declared.tag.SealTag.{SealTag}
 use Rattle.sealing_policy.specs.declared.tag.SealTag.TheVariants.{Data}
 use Rattle.seal_runs.specs.KeyBook.{KeyBook}
 use Rattle.seal_runs.specs.SealLine.{Fits}
-use Rattle.seal_runs.proofs.BookLemmas.{HasKeys, fits_word}
 use Rattle.seal_runs.proofs.LineLemmas.{FitHart, FitRam}
 use Rattle.seal_runs.proofs.RuleLemmas.{computed_tag, result_tag}
 
-module _ (book : KeyBook) (keys : ℕ) (has : HasKeys book keys) (hart : HartState SealTag) (ram : RamState SealTag)
-    (hart_is : IsHart hart) (ram_is : IsRam ram) (hart_fits : FitHart book hart) (ram_fits : FitRam book ram)
-    (look : Look SealTag) (outs : Outs SealTag) (rule : sealing_rule look.group look.inputs ≡ Ok outs)
+module _ (book : KeyBook) (hart : HartState SealTag) (ram : RamState SealTag)
+    (hart_is : IsHart hart) (hart_has : HartHasWords hart) (ram_is : IsRam ram) (hart_fits : FitHart book hart) (ram_fits : FitRam book ram)
+    (look : Look) (outs : Outs SealTag) (rule : sealing_rule look.group (inputs_on hart ram look.places look.effect.access) ≡ Ok outs)
   where
+    abbrev inputs : Ins SealTag
+    inputs = inputs_on hart ram look.places look.effect.access
+
     -- a value with its tag, as another that fits
     fits_as : (value other : ℕ) (tag rest : SealTag) → value ≡ other → tag ≡ rest → Fits book other rest → Fits book value tag
     fits_as value other tag rest value_is tag_is fits = subst (λ v. Fits book v tag) (sym value_is) (subst (Fits book other) (sym tag_is) fits)
 
     -- the result's tag is as the row of its group says
-    tag_by : (g : Group) → look.group ≡ g → outs.result ≡ tag_from (row_of g).result look.inputs
-    tag_by g is = result_tag look.group look.inputs outs rule ∙ ap (λ g. tag_from (row_of g).result look.inputs) is
+    tag_by : (g : Group) → look.group ≡ g → outs.result ≡ tag_from (row_of g).result inputs
+    tag_by g is = result_tag look.group inputs outs rule ∙ ap (λ g. tag_from (row_of g).result inputs) is
 
     -- the hart with a result that fits, and with none
 
@@ -59,32 +66,35 @@ module _ (book : KeyBook) (keys : ℕ) (has : HasKeys book keys) (hart : HartSta
       pub memory : FitRam book (with_store ram look.effect.access outs.result)
 
     pub step_fits : (register value : ℕ) → Does hart ram look register value → StepFits register value
-    step_fits register value (moves source is touches value_is tag_is) =
-        let moved = fits_word book keys (reg_value hart source) (reg_tag hart source) has (hart_fits source) in
+    step_fits register value (moves is touches value_is) =
+        let source : ℕ = look.places.first in
+        let whole : reg_value hart source % 2 ^ 32 ≡ reg_value hart source = mod-eq_of_lt (register_word hart source hart_has) in
         record {
-          registers = with_fitting register value (fits_as value _ outs.result _ value_is (tag_by group.Move is ∙ tag_is) moved);
+          registers = with_fitting register value (fits_as value _ outs.result _ (value_is ∙ whole) (tag_by group.Move is) (hart_fits source));
           memory = ram_after access.None touches ram_fits;
         }
-    step_fits register value (loads place is touches value_is tag_is) = record {
-      registers = with_fitting register value (fits_as value _ outs.result _ value_is (tag_by group.LoadWord is ∙ tag_is) (ram_fits _));
+    step_fits register value (loads place is touches value_is) = record {
+      registers = with_fitting register value
+          (fits_as value _ outs.result _ value_is (tag_by group.LoadWord is ∙ ap (access_tag ram hart.plain) touches) (ram_fits _));
       memory = ram_after _ touches ram_fits;
     }
-    step_fits register value (loads_part place width signed is touches tag_is) = record {
+    step_fits register value (loads_part place width signed is touches) = record {
       registers = with_fitting register value (fits_as value value outs.result Data refl (tag_by group.LoadPart is) tt);
       memory = ram_after _ touches ram_fits;
     }
-    step_fits register value (stores place source is touches tag_is old_is none) =
-        let kept = subst (Fits book (reg_value hart source)) (sym (tag_by group.StoreWord is ∙ tag_is)) (hart_fits source) in
+    step_fits register value (stores place is touches none) =
+        let source : ℕ = look.places.second in
+        let kept = subst (Fits book (reg_value hart source)) (sym (tag_by group.StoreWord is)) (hart_fits source) in
         record {
           registers = without register value none;
           memory = ram_after _ touches (stored place Full (reg_value hart source) kept);
         }
-    step_fits register value (stores_part place value_stored width is touches old_is none) = record {
+    step_fits register value (stores_part place value_stored width is touches none) = record {
       registers = without register value none;
       memory = ram_after _ touches (stored place width value_stored (fits_as _ _ outs.result Data refl (tag_by group.StorePart is) tt));
     }
     step_fits register value (computes computing touches) =
-        let plain : outs.result ≡ Data = result_tag look.group look.inputs outs rule ∙ computed_tag look.group look.inputs computing in
+        let plain : outs.result ≡ Data = result_tag look.group inputs outs rule ∙ computed_tag look.group inputs computing in
         record {
           registers = with_fitting register value (fits_as value value outs.result Data refl plain tt);
           memory = ram_after access.None touches ram_fits;

@@ -16,8 +16,9 @@ use Rattle.turn_steps.specs.Services.{args_on, with_answer, with_words}
 use Rattle.turn_steps.specs.declared.look.Look.{Look}
 use Rattle.turn_steps.specs.declared.stop.Stop.{Stop}
 use Rattle.engine_trait.specs.Events.{Event}
-use Rattle.engine_trait.specs.Machine.{IsMachine, Machine, hart_at, is_ready_in}
-use Rattle.engine_trait.specs.Turn.{core_served, stopped_at}
+use Rattle.engine_trait.proofs.ValueLemmas.{hart_words}
+use Rattle.engine_trait.specs.Machine.{HasWords, IsMachine, Machine, hart_at, is_ready_in}
+use Rattle.engine_trait.specs.Turn.{core_served, rule_inputs, stopped_at}
 use Rattle.part_turns.proofs.PlaceLemmas.{IsServed, each_answered, each_served, kept, nth_tag, nth_word, store_plain, words_plain, written}
 use Rattle.part_turns.specs.Keeps.{Keeps}
 use Rattle.part_turns.specs.Moments.{Service, service_of}
@@ -28,7 +29,8 @@ use Rattle.seal_runs.specs.KeyBook.{KeyBook, answer_value, key_book, keys_by}
 use Rattle.seal_runs.specs.SealLine.{Fits, SealLine}
 use Rattle.seal_runs.specs.SealSafe.{SealTurn, UsesKey}
 use Rattle.seal_runs.proofs.BookLemmas.{book_after, fits_grown, same_grows}
-use Rattle.seal_runs.proofs.LineLemmas.{FitHart, Holds, holds_from, line_from, put_back, ready_shape}
+use Rattle.seal_runs.proofs.LineLemmas.{FitHart, Holds, holds_from, line_from, pcs_put_back, put_back, ready_shape}
+use Rattle.seal_runs.proofs.RuleLemmas.{pc_tag}
 use Rattle.seal_runs.proofs.ServiceLemmas.{IsServedBy, book_by, served_by, service_by_plan}
 use Rattle.seal_runs.proofs.StepLemmas.{step_fits}
 
@@ -40,23 +42,26 @@ SealMachine = Machine ℕ SealTag
 
 -- ---- the machine after a turn
 
-module _ (book : KeyBook) (s : SealMachine) (h : ℕ) (sound : IsMachine sealing s) (holds : Holds book s) where
+module _ (book : KeyBook) (s : SealMachine) (h : ℕ) (sound : IsMachine sealing s) (holds : Holds book s) (values : HasWords s.core) where
   stop_holds : (why : Stop) → Holds book (stopped_at s h why)
-  stop_holds why = record { harts = holds.harts; ram = holds.ram; keys = holds.keys }
+  stop_holds why = record { harts = holds.harts; ram = holds.ram; pcs = holds.pcs; keys = holds.keys }
 
   module _ (ready : is_ready_in s.core h ≡ true) where
-    step_holds : (look : Look SealTag) (outs : Outs SealTag) (register value : ℕ) → sealing.rule s.policy look.group look.inputs ≡ Ok outs
+    step_holds : (look : Look) (outs : Outs SealTag) (register value : ℕ) → sealing.rule s.policy look.group (rule_inputs s.core h look) ≡ Ok outs
         → Does (hart_at s.core h) s.core.ram look register value → Holds book (after_step sealing s h look outs register value)
     step_holds look outs register value rule does =
         let hart = hart_at s.core h in
         let fits =
-        step_fits book s.policy holds.keys hart s.core.ram (ready_shape s h sound ready) sound.ram.shape (holds.harts h) holds.ram
+        step_fits book hart s.core.ram (ready_shape s h sound ready) (hart_words s.core values h) sound.ram.shape (holds.harts h) holds.ram
         look outs rule register value does in
         record {
           harts = put_back book book s.core h (moved_to (with_tagged hart register value outs.result) look.effect.next outs.pc)
               (with_store s.core.ram look.effect.access outs.result)
               (same_grows book) (store_plain s.core.ram look.effect.access outs.result) holds.harts fits.registers;
           ram = fits.memory;
+          pcs = pcs_put_back s.core h (moved_to (with_tagged hart register value outs.result) look.effect.next outs.pc)
+              (with_store s.core.ram look.effect.access outs.result) (store_plain s.core.ram look.effect.access outs.result) holds.pcs
+              (pc_tag look.group (rule_inputs s.core h look) outs rule);
           keys = holds.keys;
         }
 
@@ -85,14 +90,17 @@ module _ (book : KeyBook) (s : SealMachine) (h : ℕ) (sound : IsMachine sealing
           each_answered (Fits new_book) (hart_at s.core h) p.answer (ready_shape s h sound ready) served.answer
           (λ r. fits_grown book new_book served.grows (reg_value (hart_at s.core h) r) (reg_tag (hart_at s.core h) r) (holds.harts h r))
 
-      service_holds : (look : Look SealTag) (outs : Outs SealTag) → ForSome p.range (IsRange (ram_bytes s.core.ram))
+      service_holds : (look : Look) (outs : Outs SealTag) → sealing.rule s.policy look.group (rule_inputs s.core h look) ≡ Ok outs
+          → ForSome p.range (IsRange (ram_bytes s.core.ram))
           → retagged_range (beside_others sealing) s.policy (ram_word s.core.ram) (ram_tag s.core.ram) p p.range ≡ Ok words
           → Holds new_book (after_service sealing s h look outs p words)
       unfolding core_served
-      service_holds look outs is_range e = record {
+      service_holds look outs rule is_range e = record {
         harts = put_back book new_book s.core h (moved_to (with_answer (hart_at s.core h) p.answer) look.effect.next outs.pc) new_ram
             served.grows (words_plain s.core.ram words) holds.harts answer_holds;
         ram = λ n. word_holds n (each_served sealing s.policy p s.core.ram sound.ram.shape words is_range e n);
+        pcs = pcs_put_back s.core h (moved_to (with_answer (hart_at s.core h) p.answer) look.effect.next outs.pc) new_ram
+            (words_plain s.core.ram words) holds.pcs (pc_tag look.group (rule_inputs s.core h look) outs rule);
         keys = served.has;
       }
 
@@ -103,44 +111,50 @@ module _ (before : List SealEvent) (e : SealEvent) where
   Kept t = SealTurn (key_book before) e × SealLine (before ++ e ∷ []) t
 
   -- a turn without a service
-  quiet_kept : (t : SealMachine) → service_of e ≡ None → Holds (key_book before) t → Kept t
-  quiet_kept t none holds = (
+  quiet_kept : (t : SealMachine) → service_of e ≡ None → Holds (key_book before) t → HasWords t.core → Kept t
+  quiet_kept t none holds values = (
     record { makes = λ x is. absurd (none-some x (sym none ∙ is)); unseals = λ x is. absurd (none-some x (sym none ∙ is)) },
-    line_from (before ++ e ∷ []) (key_book before) t (book_after before e ∙ ap (keys_by (key_book before)) none) holds,
+    line_from (before ++ e ∷ []) (key_book before) t (book_after before e ∙ ap (keys_by (key_book before)) none) holds values,
   )
 
   -- a turn with that service
   served_kept : (t : SealMachine) (keys : ℕ) (a : Args SealTag) (number : ℕ) (p : Plan SealTag) → service_of e ≡ Some (service_by_plan number a p)
-      → IsServedBy (key_book before) keys a number p → Holds (book_by (key_book before) a number p) t → Kept t
-  served_kept t keys a number p is served holds = (
+      → IsServedBy (key_book before) keys a number p → Holds (book_by (key_book before) a number p) t → HasWords t.core → Kept t
+  served_kept t keys a number p is served holds values = (
     record {
       makes = λ x told.
           subst (λ (y : Service SealTag). y.number ≡ 16 → answer_value y.answer ≡ Some (length (key_book before).made)) (same x told) served.makes;
       unseals = λ x told. subst (λ (y : Service SealTag). y.number ≡ 18 → UsesKey (key_book before) y) (same x told) served.unseals;
     },
-    line_from (before ++ e ∷ []) (book_by (key_book before) a number p) t (book_after before e ∙ ap (keys_by (key_book before)) is) holds,
+    line_from (before ++ e ∷ []) (book_by (key_book before) a number p) t (book_after before e ∙ ap (keys_by (key_book before)) is) holds values,
   )
     where
       same : (x : Service SealTag) → service_of e ≡ Some x → service_by_plan number a p ≡ x
       same x told = same_Some (service_by_plan number a p) x (sym is ∙ told)
 
   module _ (s : SealMachine) (h : ℕ) (sound : IsMachine sealing s) (line : SealLine before s) where
-    turn_kept : (t : SealMachine) → Turns sealing s h e t → Kept t
-    turn_kept t (idles waits hart unretired none left) = subst Kept (sym left) (quiet_kept s none (holds_from before s line))
-    turn_kept t (stops why ready hart unretired none left) =
-        subst Kept (sym left) (quiet_kept (stopped_at s h why) none (stop_holds (key_book before) s h sound (holds_from before s line) why))
-    turn_kept t (exits look outs code allows none is touches left) =
-        subst Kept (sym left) (quiet_kept _ none (stop_holds (key_book before) s h sound (holds_from before s line) _))
-    turn_kept t (goes look outs register value allows none does left) =
-        subst Kept (sym left) (quiet_kept (after_step sealing s h look outs register value) none
-        (step_holds (key_book before) s h sound (holds_from before s line) allows.ready look outs register value allows.rule does))
-    turn_kept t (serves look outs p words allows is touches told planned is_range retagged left) =
-        let holds = holds_from before s line in
+    -- what holds before the turn
+    abbrev first : Holds (key_book before) s
+    first = holds_from before s line
+
+    turn_kept : (t : SealMachine) → Turns sealing s h e t → HasWords t.core → Kept t
+    turn_kept t (idles waits hart unretired none left) values = quiet_kept t none (subst (Holds (key_book before)) (sym left) first) values
+    turn_kept t (stops why ready hart unretired none left) values =
+        quiet_kept t none (subst (Holds (key_book before)) (sym left) (stop_holds (key_book before) s h sound first line.values why)) values
+    turn_kept t (exits look outs code allows none is touches left) values =
+        quiet_kept t none (subst (Holds (key_book before)) (sym left) (stop_holds (key_book before) s h sound first line.values _)) values
+    turn_kept t (goes look outs register value allows none does left) values =
+        quiet_kept t none
+        (subst (Holds (key_book before)) (sym left)
+        (step_holds (key_book before) s h sound first line.values allows.ready look outs register value allows.rule does)) values
+    turn_kept t (serves look outs p words allows is touches told planned is_range retagged left) values =
         let a : Args SealTag = args_on (hart_at s.core h) s.core.ram in
         let served : IsServedBy (key_book before) s.policy a look.service p =
-        served_by (key_book before) s.policy holds.keys a outs.pc (holds.harts h a0) (holds.harts h 11) look.service p planned in
-        subst Kept (sym left) (served_kept (after_service sealing s h look outs p words) s.policy a look.service p told served
-        (service_holds (key_book before) s h sound holds allows.ready look.service p words served look outs is_range retagged))
+        served_by (key_book before) s.policy first.keys a outs.pc (first.harts h a0) (first.harts h 11) look.service p planned in
+        served_kept t s.policy a look.service p told served
+        (subst (Holds (book_by (key_book before) a look.service p)) (sym left)
+        (service_holds (key_book before) s h sound first line.values allows.ready look.service p words served look outs allows.rule is_range retagged))
+        values
 
 pub keeps_line : Keeps sealing SealLine (λ before event. SealTurn (key_book before) event)
-keeps_line = record { turn = λ before s h e t sound line turns. turn_kept before e s h sound line t turns }
+keeps_line = record { turn = λ before s h e t sound line turns stay. turn_kept before e s h sound line t turns (stay line.values) }

@@ -6,7 +6,7 @@ use Rattle.part_turns.specs.Moments.{Moment, Service, service_of}
 use Rattle.sealing_policy.specs.Sealing.{make_key_service, unseal_service}
 use Rattle.sealing_policy.specs.declared.tag.SealTag.{SealTag}
 use Rattle.sealing_policy.specs.declared.tag.SealTag.TheVariants.{Key, Sealed}
-use Rattle.seal_runs.specs.KeyBook.{KeyBook, answer_value, key_book, word_of}
+use Rattle.seal_runs.specs.KeyBook.{KeyBook, answer_value, key_book}
 
 -- An unsealing by its key: a0 was sealed by that key, a1 is that key and has its number as its value, the key was made
 -- before, and it once sealed the value of a0.
@@ -16,7 +16,7 @@ pub record UsesKey (book : KeyBook) (x : Service SealTag) : Type 0 where
   pub held : x.arguments.t1 ≡ Key key
   pub value : x.arguments.a1 ≡ key
   pub made : Contains book.made key
-  pub paired : Contains book.pairs (key, word_of x.arguments.a0)
+  pub paired : Contains book.pairs (key, x.arguments.a0)
 
 -- what a turn does, in the book as it stands before it: keys are 0, 1, 2 and so on, and an unsealing uses its key
 pub record SealTurn (book : KeyBook) (event : Event SealTag) : Type 0 where

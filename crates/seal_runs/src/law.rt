@@ -1,8 +1,10 @@
 //! What sealing keeps.
 
 ghost use Rattle.std.specs.Prelude.{ℕ, List, []};
+ghost use Rattle.std.specs.List.{All};
 ghost use Rattle.policy_trait.specs.declared.birth.Birth.{Birth};
 ghost use Rattle.sealing_policy.specs.Sealing.{sealing};
+ghost use Rattle.turn_steps.specs.Values.{IsWord};
 ghost use Rattle.part_turns.specs.Keeps.{Keeps};
 ghost use Rattle.part_turns.specs.Start.{first_machine};
 ghost use Rattle.seal_runs.specs.KeyBook.{key_book};
@@ -15,8 +17,8 @@ pub fn key_law()
     ensures { Keeps sealing SealLine (λ before event. SealTurn (key_book before) event) }
 {}
 
-/// The line holds at every start. The function does nothing.
+/// The line holds at every start whose memory has words. The function does nothing.
 pub fn start_law()
     ensures { (birth : ℕ → Birth) (words entries : List ℕ)
-        → SealLine [] (first_machine sealing 0 birth words entries) }
+        → All IsWord words → SealLine [] (first_machine sealing 0 birth words entries) }
 {}

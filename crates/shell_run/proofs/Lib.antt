@@ -1,3 +1,4 @@
+pub mod GainLemmas
 pub mod ListingLemmas
 pub mod RunLemmas
 pub mod SessionLemmas

@@ -2,6 +2,7 @@
 use Rattle.std.proofs.Common.{◌≡◌, ℕ, Bool, true, false, nat_lt, List, [], ◌∷◌, ◌++◌, length, map, if◌then◌else◌, refl, sym, subst, ◌∙◌, append-nil, append_assoc}
 use Rattle.std.specs.List.{list_all}
 use Rattle.policy_trait.specs.Model.{PolicyModel}
+use Rattle.turn_steps.specs.Feeds.{Tape, tape_of, with_fed}
 use Rattle.engine_trait.specs.Machine.{Machine}
 use Rattle.engine_trait.specs.Runs.{Item, Trace, fed, run_along, turn}
 use Rattle.engine_trait.specs.Turn.{turn_of}
@@ -20,32 +21,32 @@ record EndAlike {S T : Type 0} (one other : Trace S T) : Type 0 where
 
 module _ {S T : Type 0} (m : PolicyModel T S) where
   -- some items, and then others
-  abbrev after_front : Machine S T → List ℕ → List Item → List Item → Trace S T
+  abbrev after_front : Machine S T → Tape → List Item → List Item → Trace S T
   after_front s feed front back = run_along m (run_along m s feed front).machine (run_along m s feed front).feed back
 
-  run_more : (s : Machine S T) (feed : List ℕ) (front back : List Item) → EndAlike (run_along m s feed (front ++ back)) (after_front s feed front back)
+  run_more : (s : Machine S T) (feed : Tape) (front back : List Item) → EndAlike (run_along m s feed (front ++ back)) (after_front s feed front back)
   run_more s feed [] back = record { machine = refl; feed = refl }
   run_more s feed (turn h ∷ front) back =
       let more = run_more (turn_of m s feed h).machine (turn_of m s feed h).feed front back in
       record { machine = more.machine; feed = more.feed }
   run_more s feed (fed byte ∷ front) back =
-      let more = run_more s (feed ++ byte ∷ []) front back in
+      let more = run_more s (with_fed feed (byte ∷ [])) front back in
       record { machine = more.machine; feed = more.feed }
 
-  run_fed : (s : Machine S T) (feed bytes : List ℕ) → EndAlike (run_along m s feed (map fed bytes)) (record { machine = s; feed = feed ++ bytes; events = [] })
-  run_fed s feed [] = record { machine = refl; feed = sym (append-nil feed) }
+  run_fed : (s : Machine S T) (feed : Tape) (bytes : List ℕ) → EndAlike (run_along m s feed (map fed bytes)) (record { machine = s; feed = with_fed feed bytes; events = [] })
+  run_fed s feed [] = record { machine = refl; feed = λ j. record feed { left = sym (append-nil feed.left) j } }
   run_fed s feed (byte ∷ bytes) =
-      let more = run_fed s (feed ++ byte ∷ []) bytes in
-      record { machine = more.machine; feed = more.feed ∙ append_assoc feed (byte ∷ []) bytes }
+      let more = run_fed s (with_fed feed (byte ∷ [])) bytes in
+      record { machine = more.machine; feed = more.feed ∙ (λ j. record feed { left = append_assoc feed.left (byte ∷ []) bytes j }) }
 
 module _ {S T : Type 0} (eq : T → T → Bool) (m : PolicyModel T S) (s : SessionState S T) (items : List Item) (along : IsAlong eq m s items) where
   abbrev Goes : SessionState S T → List Item → Type 0
   Goes t more = IsAlong eq m t more
 
   -- items behind these
-  behind_end : (back : List Item) → EndAlike (run_along m s.start.machine [] (items ++ back)) (run_along m s.standing.machine s.feed back)
+  behind_end : (back : List Item) → EndAlike (run_along m s.start.machine (tape_of []) (items ++ back)) (run_along m s.standing.machine s.feed back)
   behind_end back =
-      let all = run_more m s.start.machine [] items back in
+      let all = run_more m s.start.machine (tape_of []) items back in
       record {
         machine = all.machine ∙ (λ j. (run_along m (sym along.machine j) (sym along.feed j) back).machine);
         feed = all.feed ∙ (λ j. (run_along m (sym along.machine j) (sym along.feed j) back).feed);
@@ -85,7 +86,7 @@ module _ {S T : Type 0} (eq : T → T → Bool) (m : PolicyModel T S) (s : Sessi
   ran_if false budget order = subst (Goes s) (sym (append-nil items)) along
 
   -- bytes that are fed
-  fed_goes : (bytes : List ℕ) → Goes (record s { feed = s.feed ++ bytes }) (items ++ map fed bytes)
+  fed_goes : (bytes : List ℕ) → Goes (record s { feed = with_fed s.feed bytes }) (items ++ map fed bytes)
   fed_goes bytes =
       let all = behind_end (map fed bytes) in
       let ends = run_fed m s.standing.machine s.feed bytes in

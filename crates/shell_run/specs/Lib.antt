@@ -1,3 +1,4 @@
+pub mod Gains
 pub mod Lines
 pub mod Listings
 pub mod Replies

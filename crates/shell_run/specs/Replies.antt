@@ -3,6 +3,7 @@ use Rattle.std.specs.Prelude.{◌≡◌, ◌⊎◌, ℕ, ◌/◌, ◌==◌, Bool
 use Rattle.std.specs.List.{list_all, list_any}
 use Rattle.host_io.specs.Pieces.{Piece, out}
 use Rattle.policy_trait.specs.Model.{PolicyModel}
+use Rattle.turn_steps.specs.Feeds.{Tape, tape_of, with_fed}
 use Rattle.engine_trait.specs.Accounts.{counts_of}
 use Rattle.engine_trait.specs.Machine.{stop_at}
 use Rattle.engine_trait.specs.Standing.{Standing}
@@ -49,11 +50,11 @@ module _ {S T : Type 0} (s : SessionState S T) where
 
   -- the feed with these bytes behind those that are still to be read
   abbrev pub feeding : List ℕ → Reply S T
-  feeding bytes = record { after = record s { feed = s.feed ++ bytes }; pieces = [] }
+  feeding bytes = record { after = record s { feed = with_fed s.feed bytes }; pieces = [] }
 
   -- the start again, with its account, and an empty feed; the breakpoints stay
   abbrev pub restarting : Reply S T
-  restarting = record { after = record s { standing = s.start; feed = [] }; pieces = [] }
+  restarting = record { after = record s { standing = s.start; feed = tape_of [] }; pieces = [] }
 
 -- turns, at most how many and whose, where `test` holds
 abbrev pub asked_if : Bool → ℕ → Order → Option (ℕ × Order)
@@ -136,7 +137,7 @@ module _ {S T : Type 0} (eq : T → T → Bool) (m : PolicyModel T S) (s : Sessi
 module _ {S T : Type 0} (eq : T → T → Bool) (m : PolicyModel T S) where
   -- Cut short while the number of the turns was told: all of them were made, and all that they tell was put, and a front of that
   -- line.
-  pub record IsCutInCount (breaks : List ℕ) (budget : ℕ) (order : Order) (e : Standing S T) (feed : List ℕ) (f : Standing S T) (fed : List ℕ)
+  pub record IsCutInCount (breaks : List ℕ) (budget : ℕ) (order : Order) (e : Standing S T) (feed : Tape) (f : Standing S T) (fed : Tape)
       (old new : Option (List ℕ)) (end : ObeyEnd) : Type 0 where
     pub standing : f ≡ (turns eq m breaks budget order e feed).standing
     pub left : fed ≡ (turns eq m breaks budget order e feed).feed

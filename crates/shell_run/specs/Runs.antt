@@ -2,6 +2,7 @@
 use Rattle.std.specs.Prelude.{◌≡◌, ℕ, Bool, List, [], ◌++◌, length, map, if◌then◌else◌}
 use Rattle.std.specs.List.{list_all}
 use Rattle.policy_trait.specs.Model.{PolicyModel}
+use Rattle.turn_steps.specs.Feeds.{tape_of}
 use Rattle.engine_trait.specs.Runs.{Item, fed, run_along, turn}
 use Rattle.shell_lang.specs.declared.command.Command.{Command}
 use Rattle.shell_lang.specs.declared.command.Command.TheVariants as command
@@ -30,5 +31,5 @@ module _ {S T : Type 0} (eq : T → T → Bool) (m : PolicyModel T S) where
 
   -- the machine and the feed of the session are those of the run along these items, from its start with an empty feed
   pub record IsAlong (s : SessionState S T) (items : List Item) : Type 0 where
-    pub machine : s.standing.machine ≡ (run_along m s.start.machine [] items).machine
-    pub feed : s.feed ≡ (run_along m s.start.machine [] items).feed
+    pub machine : s.standing.machine ≡ (run_along m s.start.machine (tape_of []) items).machine
+    pub feed : s.feed ≡ (run_along m s.start.machine (tape_of []) items).feed

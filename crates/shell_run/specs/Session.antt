@@ -3,6 +3,7 @@ use Rattle.std.specs.Prelude.{◌≡◌, ℕ, ◌+◌, ◌*◌, ◌%◌, ◌==�
 use Rattle.engine_trait.specs.Accounts.{is_over}
 use Rattle.engine_trait.specs.Standing.{Standing}
 use Rattle.tag_memory.specs.Ram.{ram_bytes}
+use Rattle.turn_steps.specs.Feeds.{Tape, tape_of}
 use Rattle.shell_turns.specs.declared.ends.ObeyEnd.{ObeyEnd}
 
 -- its start, its standing and feed by now, the breakpoints, and its early end, if it had one
@@ -10,14 +11,14 @@ pub record SessionState (S T : Type 0) : Type 0 where
   -- the start, to which a reset goes back
   pub start : Standing S T
   pub standing : Standing S T
-  pub feed : List ℕ
+  pub feed : Tape
   -- the breakpoints, in the order in which they were set
   pub breaks : List ℕ
   -- why it ended before its commands did, if it did
   pub ended : Option ObeyEnd
 
 -- a session from its parts
-abbrev pub session_of : {S T : Type 0} → Standing S T → Standing S T → List ℕ → List ℕ → Option ObeyEnd → SessionState S T
+abbrev pub session_of : {S T : Type 0} → Standing S T → Standing S T → Tape → List ℕ → Option ObeyEnd → SessionState S T
 session_of start standing feed breaks ended = record {
   start = start;
   standing = standing;
@@ -28,7 +29,7 @@ session_of start standing feed breaks ended = record {
 
 -- a session at its start
 abbrev pub fresh : {S T : Type 0} → Standing S T → SessionState S T
-fresh start = session_of start start [] [] None
+fresh start = session_of start start (tape_of []) [] None
 
 -- a session that ended so
 abbrev pub ending : {S T : Type 0} → SessionState S T → ObeyEnd → SessionState S T

@@ -1,4 +1,5 @@
 pub mod ByteLemmas
+pub mod GainLemmas
 pub mod LineLemmas
 pub mod RunLemmas
 pub mod ScriptLemmas

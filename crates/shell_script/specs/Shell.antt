@@ -1,5 +1,5 @@
 -- A session over an input: its lines in their order.
-use Rattle.std.specs.Prelude.{◌≡◌, ℕ, Bool, nat_lt, List, [], length, map, take, Result, Ok, Err, if◌then◌else◌}
+use Rattle.std.specs.Prelude.{◌≡◌, ℕ, Bool, nat_lt, List, [], ◌++◌, length, map, take, Result, Ok, Err, if◌then◌else◌}
 use Rattle.host_io.specs.Causes.{Rose}
 use Rattle.host_io.specs.Pieces.{Piece}
 use Rattle.policy_trait.specs.Model.{PolicyModel}
@@ -25,6 +25,10 @@ lines_in bytes = map line_answer (ended_lines bytes)
 
 abbrev pub last_in : List ℕ → List Answer
 last_in bytes = onto_answers (end_answer (open_line bytes)) []
+
+-- the lines of an input that are obeyed, up to `quit`: of a longer one those that end within the limit
+abbrev pub lines_within : ℕ → List ℕ → List Answer
+lines_within limit input = lines_in (take limit input) ++ (if nat_lt limit (length input) then [] else last_in input)
 
 module _ {S T : Type 0} where
   -- a session that obeyed these lines and ended so

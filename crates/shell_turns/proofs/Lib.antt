@@ -1,3 +1,4 @@
+pub mod EventLemmas
 pub mod PutLemmas
 pub mod RunLemmas
 pub mod TurnLemmas

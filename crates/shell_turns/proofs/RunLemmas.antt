@@ -2,6 +2,7 @@
 use Rattle.std.proofs.Common.{◌≡◌, ℕ, zero, suc, ◌≤◌, Bool, true, false, List, [], ◌∷◌, ◌++◌, length, map, Some, None, if◌then◌else◌, refl, ◌∙◌, arith}
 use Rattle.std.proofs.lemmas.List.{length-append}
 use Rattle.policy_trait.specs.Model.{PolicyModel}
+use Rattle.turn_steps.specs.Feeds.{Tape}
 use Rattle.engine_trait.specs.EngineLaws.{is_made}
 use Rattle.engine_trait.specs.Runs.{run_along, turn}
 use Rattle.engine_trait.specs.Standing.{Standing, Stepped, step}
@@ -14,13 +15,13 @@ use Rattle.shell_turns.specs.Turns.{Turns, going_on, no_turns, pc_after, then_ot
 
 module _ {S T : Type 0} (eq : T → T → Bool) (m : PolicyModel T S) (breaks : List ℕ) where
   -- the turns are a run from there
-  abbrev pub IsRun : Standing S T → List ℕ → Turns S T → Type 0
+  abbrev pub IsRun : Standing S T → Tape → Turns S T → Type 0
   IsRun e feed t = EndsAs (run_along m e.machine feed (map turn t.harts)) t
 
-  stays_run : (e : Standing S T) (feed : List ℕ) → IsRun e feed (no_turns e feed)
+  stays_run : (e : Standing S T) (feed : Tape) → IsRun e feed (no_turns e feed)
   stays_run e feed = record { machine = refl; feed = refl }
 
-  module _ (e : Standing S T) (feed : List ℕ) (h : ℕ) where
+  module _ (e : Standing S T) (feed : Tape) (h : ℕ) where
     abbrev stepped : Stepped S T
     stepped = step eq m e feed h
 
@@ -56,12 +57,12 @@ module _ {S T : Type 0} (eq : T → T → Bool) (m : PolicyModel T S) (breaks : 
         let run = turn_first (is_made stepped.ended) rest refl (rest_runs last others runs) in
         record { machine = run.machine; feed = run.feed }
 
-  next_runs : (next : Next) (e : Standing S T) (feed : List ℕ) (go : ℕ → Order → Turns S T) → ((h : ℕ) (rest : Order) → IsRun e feed (go h rest))
+  next_runs : (next : Next) (e : Standing S T) (feed : Tape) (go : ℕ → Order → Turns S T) → ((h : ℕ) (rest : Order) → IsRun e feed (go h rest))
       → IsRun e feed (going_on next (no_turns e feed) go)
   next_runs None e feed go runs = stays_run e feed
   next_runs (Some next) e feed go runs = runs next.0 next.1
 
-  pub turns_run : (budget : ℕ) (order : Order) (e : Standing S T) (feed : List ℕ) → IsRun e feed (turns eq m breaks budget order e feed)
+  pub turns_run : (budget : ℕ) (order : Order) (e : Standing S T) (feed : Tape) → IsRun e feed (turns eq m breaks budget order e feed)
   unfolding turns
   turns_run zero order e feed = stays_run e feed
   turns_run (suc n) order e feed =
@@ -74,7 +75,7 @@ module _ {S T : Type 0} (eq : T → T → Bool) (m : PolicyModel T S) (breaks : 
   few_counted h true = omega arith
   few_counted h false = omega arith
 
-  rest_few : (n : ℕ) (last : Bool) (e : Standing S T) (feed : List ℕ) (others : Turns S T) → length others.harts ≤ n
+  rest_few : (n : ℕ) (last : Bool) (e : Standing S T) (feed : Tape) (others : Turns S T) → length others.harts ≤ n
       → length (if last then no_turns e feed else others).harts ≤ n
   rest_few n true e feed others few = omega arith
   rest_few n false e feed others few = few
@@ -88,12 +89,12 @@ module _ {S T : Type 0} (eq : T → T → Bool) (m : PolicyModel T S) (breaks : 
       let more = rest_few n last s.standing s.feed others few in
       omega (arith, all, one, more)
 
-  next_few : (n : ℕ) (next : Next) (e : Standing S T) (feed : List ℕ) (go : ℕ → Order → Turns S T) → ((h : ℕ) (rest : Order) → length (go h rest).harts ≤ n)
+  next_few : (n : ℕ) (next : Next) (e : Standing S T) (feed : Tape) (go : ℕ → Order → Turns S T) → ((h : ℕ) (rest : Order) → length (go h rest).harts ≤ n)
       → length (going_on next (no_turns e feed) go).harts ≤ n
   next_few n None e feed go few = omega arith
   next_few n (Some next) e feed go few = few next.0 next.1
 
-  pub turns_few : (budget : ℕ) (order : Order) (e : Standing S T) (feed : List ℕ) → length (turns eq m breaks budget order e feed).harts ≤ budget
+  pub turns_few : (budget : ℕ) (order : Order) (e : Standing S T) (feed : Tape) → length (turns eq m breaks budget order e feed).harts ≤ budget
   unfolding turns
   turns_few zero order e feed = omega arith
   turns_few (suc n) order e feed =

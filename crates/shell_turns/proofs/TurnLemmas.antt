@@ -2,6 +2,7 @@
 use Rattle.std.proofs.Common.{◌≡◌, ℕ, zero, suc, ◌+◌, ◌-◌, ◌<◌, ◌≤◌, inl, inr, Bool, true, false, List, [], ◌++◌, length, Option, Some, None, if◌then◌else◌, refl, ap, sym, subst, ◌∙◌, append-nil, append_assoc, arith}
 use Rattle.host_io.specs.Pieces.{Piece}
 use Rattle.policy_trait.specs.Model.{PolicyModel}
+use Rattle.turn_steps.specs.Feeds.{Tape}
 use Rattle.engine_trait.specs.Standing.{GivesUp, Standing, Stepped, step}
 use Rattle.shell_turns.specs.Cuts.{GaveUp, IsCutInEngine, IsCutInTelling, IsMade, PutsOut, TurnCut, TurnsCut, all_put, cut_by}
 use Rattle.shell_turns.specs.Order.{Order, next_of}
@@ -19,44 +20,44 @@ behind_twice pieces more harts others t =
 
 module _ {S T : Type 0} (eq : T → T → Bool) (m : PolicyModel T S) (breaks : List ℕ) where
   -- no turn is next
-  turns-none : (n : ℕ) (order : Order) (e : Standing S T) (feed : List ℕ) → next_of order e ≡ None → turns eq m breaks n order e feed ≡ no_turns e feed
+  turns-none : (n : ℕ) (order : Order) (e : Standing S T) (feed : Tape) → next_of order e ≡ None → turns eq m breaks n order e feed ≡ no_turns e feed
   unfolding turns
   turns-none zero order e feed none = refl
   turns-none (suc n) order e feed none =
       ap (λ next. going_on next (no_turns e feed) (λ h rest. then_others breaks h (step eq m e feed h) (turns eq m breaks n rest (step eq m e feed h).standing (step eq m e feed h).feed))) none
 
   -- the turn of hart h is next
-  turns-some : (n : ℕ) (order : Order) (e : Standing S T) (feed : List ℕ) (h : ℕ) (rest : Order) → next_of order e ≡ Some (h, rest)
+  turns-some : (n : ℕ) (order : Order) (e : Standing S T) (feed : Tape) (h : ℕ) (rest : Order) → next_of order e ≡ Some (h, rest)
       → turns eq m breaks (suc n) order e feed ≡ then_others breaks h (step eq m e feed h) (turns eq m breaks n rest (step eq m e feed h).standing (step eq m e feed h).feed)
   unfolding turns
   turns-some n order e feed h rest some =
       ap (λ next. going_on next (no_turns e feed) (λ h rest. then_others breaks h (step eq m e feed h) (turns eq m breaks n rest (step eq m e feed h).standing (step eq m e feed h).feed))) some
 
-  pub turns-zero : (order : Order) (e : Standing S T) (feed : List ℕ) → turns eq m breaks 0 order e feed ≡ no_turns e feed
+  pub turns-zero : (order : Order) (e : Standing S T) (feed : Tape) → turns eq m breaks 0 order e feed ≡ no_turns e feed
   unfolding turns
   turns-zero order e feed = refl
 
 -- ---- on the way
 
-module _ {S T : Type 0} (eq : T → T → Bool) (m : PolicyModel T S) (breaks : List ℕ) (first : Order) (start : Standing S T) (fed : List ℕ) where
+module _ {S T : Type 0} (eq : T → T → Bool) (m : PolicyModel T S) (breaks : List ℕ) (first : Order) (start : Standing S T) (fed : Tape) where
   -- so many turns were made, which told this much and of which these were counted; the others are left
-  abbrev pub Way : ℕ → List Piece → List ℕ → Order → Standing S T → List ℕ → Type 0
+  abbrev pub Way : ℕ → List Piece → List ℕ → Order → Standing S T → Tape → Type 0
   Way begun pieces harts order e feed =
       (more : ℕ) → turns eq m breaks (begun + more) first start fed ≡ behind pieces harts (turns eq m breaks more order e feed)
 
   -- all were made
-  pub record IsDone (all : ℕ) (pieces : List Piece) (harts : List ℕ) (e : Standing S T) (feed : List ℕ) : Type 0 where
+  pub record IsDone (all : ℕ) (pieces : List Piece) (harts : List ℕ) (e : Standing S T) (feed : Tape) : Type 0 where
     pub standing : e ≡ (turns eq m breaks all first start fed).standing
     pub left : feed ≡ (turns eq m breaks all first start fed).feed
     pub told : pieces ≡ (turns eq m breaks all first start fed).pieces
     pub count : length harts ≡ length (turns eq m breaks all first start fed).harts
 
   -- all were made, and all that they tell was put
-  pub record Finishes (all : ℕ) (e : Standing S T) (feed : List ℕ) (count : ℕ) (old new : Option (List ℕ)) : Type 0 where
+  pub record Finishes (all : ℕ) (e : Standing S T) (feed : Tape) (count : ℕ) (old new : Option (List ℕ)) : Type 0 where
     pub leaves : Leaves (turns eq m breaks all first start fed) e feed count
     pub puts : PutsOut old new (turns eq m breaks all first start fed).pieces (gives count)
 
-  pub finishes : (all : ℕ) (pieces : List Piece) (harts : List ℕ) (e : Standing S T) (feed : List ℕ) (count : ℕ) (old new : Option (List ℕ))
+  pub finishes : (all : ℕ) (pieces : List Piece) (harts : List ℕ) (e : Standing S T) (feed : Tape) (count : ℕ) (old new : Option (List ℕ))
       → IsDone all pieces harts e feed → count ≡ length harts → PutsOut old new pieces done → Finishes all e feed count old new
   finishes all pieces harts e feed count old new is counts puts = record {
     leaves = record { standing = is.standing; feed = is.left; count = counts ∙ is.count };
@@ -66,7 +67,7 @@ module _ {S T : Type 0} (eq : T → T → Bool) (m : PolicyModel T S) (breaks : 
   pub way_begins : Way 0 [] [] first start fed
   way_begins more = ap (λ n. turns eq m breaks n first start fed) (let e : 0 + more ≡ more = omega arith in e) ∙ (λ j. turns eq m breaks more first start fed)
 
-  done_of : (all : ℕ) (pieces : List Piece) (harts : List ℕ) (e : Standing S T) (feed : List ℕ)
+  done_of : (all : ℕ) (pieces : List Piece) (harts : List ℕ) (e : Standing S T) (feed : Tape)
       → turns eq m breaks all first start fed ≡ behind pieces harts (no_turns e feed) → IsDone all pieces harts e feed
   done_of all pieces harts e feed is = record {
     standing = sym (ap (λ (t : Turns S T). t.standing) is);
@@ -75,7 +76,7 @@ module _ {S T : Type 0} (eq : T → T → Bool) (m : PolicyModel T S) (breaks : 
     count = sym (ap (λ (t : Turns S T). length t.harts) is ∙ ap length (append-nil harts));
   }
 
-  module _ (begun : ℕ) (pieces : List Piece) (harts : List ℕ) (order : Order) (e : Standing S T) (feed : List ℕ) (way : Way begun pieces harts order e feed) where
+  module _ (begun : ℕ) (pieces : List Piece) (harts : List ℕ) (order : Order) (e : Standing S T) (feed : Tape) (way : Way begun pieces harts order e feed) where
     -- no turn is made any more
     pub way_over : turns eq m breaks begun first start fed ≡ behind pieces harts (no_turns e feed)
     way_over =
@@ -119,14 +120,14 @@ module _ {S T : Type 0} (eq : T → T → Bool) (m : PolicyModel T S) (breaks : 
           ap (λ n. turns eq m breaks n first start fed) (let e : all ≡ begun + suc (all - (begun + 1)) = omega (arith, below) in e)
           ∙ one_more (all - (begun + 1))
 
-      pub way_goes_on : is_last breaks (pc_after h stepped) stepped.ended ≡ false → (f : Standing S T) (left : List ℕ) → f ≡ stepped.standing → left ≡ stepped.feed
+      pub way_goes_on : is_last breaks (pc_after h stepped) stepped.ended ≡ false → (f : Standing S T) (left : Tape) → f ≡ stepped.standing → left ≡ stepped.feed
           → Way (begun + 1) told made rest f left
       way_goes_on more_come f left f_is left_is more =
           ap (λ n. turns eq m breaks n first start fed) (let e : begun + 1 + more ≡ begun + suc more = omega arith in e)
           ∙ one_more more ∙ ap (λ last. behind told made (after last more)) more_come
           ∙ (λ j. behind told made (turns eq m breaks more rest (sym f_is j) (sym left_is j)))
 
-      pub way_lasts : is_last breaks (pc_after h stepped) stepped.ended ≡ true → (f : Standing S T) (left : List ℕ) → f ≡ stepped.standing → left ≡ stepped.feed
+      pub way_lasts : is_last breaks (pc_after h stepped) stepped.ended ≡ true → (f : Standing S T) (left : Tape) → f ≡ stepped.standing → left ≡ stepped.feed
           → (all : ℕ) → begun < all → IsDone all told made f left
       way_lasts last f left f_is left_is all below =
           done_of all told made f left
@@ -157,7 +158,7 @@ module _ {S T : Type 0} (eq : T → T → Bool) (m : PolicyModel T S) (breaks : 
       over_pieces = ap (λ (t : Turns S T). t.pieces) way_over ∙ append-nil pieces
 
       -- the turn was made, and told in part
-      way_untold : (all : ℕ) → begun < all → (f : Standing S T) (left : List ℕ) → IsMade eq m e feed h f left → (old now new : Option (List ℕ)) (end : ObeyEnd)
+      way_untold : (all : ℕ) → begun < all → (f : Standing S T) (left : Tape) → IsMade eq m e feed h f left → (old now new : Option (List ℕ)) (end : ObeyEnd)
           → PutsOut old now pieces done → PutsOut now new (step_pieces breaks h stepped) (cut_by end)
           → IsCutInTelling eq m breaks all first start fed f left old new end
       way_untold all below f left made_so old now new end puts front = record {
@@ -175,7 +176,7 @@ module _ {S T : Type 0} (eq : T → T → Bool) (m : PolicyModel T S) (breaks : 
       }
 
       -- the turn was given up
-      way_given_up : (all : ℕ) → begun < all → (f : Standing S T) (left : List ℕ) (old now new : Option (List ℕ)) → GaveUp eq m e feed h f left now new
+      way_given_up : (all : ℕ) → begun < all → (f : Standing S T) (left : Tape) (old now new : Option (List ℕ)) → GaveUp eq m e feed h f left now new
           → PutsOut old now pieces done → IsCutInEngine eq m breaks all first start fed f left old new
       way_given_up all below f left old now new gave puts = record {
         made = begun;
@@ -188,7 +189,7 @@ module _ {S T : Type 0} (eq : T → T → Bool) (m : PolicyModel T S) (breaks : 
             (subst (λ (taken : Option (List ℕ)). PutsOut old taken pieces done) (sym gave.silent) puts);
       }
 
-      pub way_stands : (all : ℕ) → begun < all → (f : Standing S T) (left : List ℕ) (old now new : Option (List ℕ)) (end : ObeyEnd) → PutsOut old now pieces done
+      pub way_stands : (all : ℕ) → begun < all → (f : Standing S T) (left : Tape) (old now new : Option (List ℕ)) (end : ObeyEnd) → PutsOut old now pieces done
           → PutsOut now new (step_pieces breaks h stepped) (cut_by end) → TurnCut eq m e feed h f left now new end
           → TurnsCut eq m breaks all first start fed f left old new end
       way_stands all below f left old now new ends.WriteFault puts front made_so = way_untold all below f left made_so old now new ends.WriteFault puts front

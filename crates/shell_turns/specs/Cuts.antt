@@ -5,6 +5,7 @@ use Rattle.host_io.specs.Pieces.{Piece, Puts}
 use Rattle.host_io.specs.declared.traits.sink.PutEnd.{PutEnd}
 use Rattle.host_io.specs.declared.traits.sink.PutEnd.TheVariants as put_end
 use Rattle.policy_trait.specs.Model.{PolicyModel}
+use Rattle.turn_steps.specs.Feeds.{Tape}
 use Rattle.engine_trait.specs.Standing.{GivesUp, Standing, step}
 use Rattle.shell_turns.specs.Order.{Order}
 use Rattle.shell_turns.specs.Turns.{turns}
@@ -38,25 +39,25 @@ answer_of (Err put_end.Memory) = Err ends.Memory
 
 module _ {S T : Type 0} (eq : T → T → Bool) (m : PolicyModel T S) where
   -- a turn of hart h was made: the standing, with its account, and the feed are those that it leaves
-  pub record IsMade (e : Standing S T) (feed : List ℕ) (h : ℕ) (f : Standing S T) (fed : List ℕ) : Type 0 where
+  pub record IsMade (e : Standing S T) (feed : Tape) (h : ℕ) (f : Standing S T) (fed : Tape) : Type 0 where
     pub standing : f ≡ (step eq m e feed h).standing
     pub left : fed ≡ (step eq m e feed h).feed
 
   -- memory ran out in a turn of hart h: the engine gave it up, and nothing was told of it
-  pub record GaveUp (e : Standing S T) (feed : List ℕ) (h : ℕ) (f : Standing S T) (fed : List ℕ) (old new : Option (List ℕ)) : Type 0 where
+  pub record GaveUp (e : Standing S T) (feed : Tape) (h : ℕ) (f : Standing S T) (fed : Tape) (old new : Option (List ℕ)) : Type 0 where
     pub engine : GivesUp eq m e feed h f fed
     pub silent : new ≡ old
 
   -- A turn that was cut short: where a put failed it was made; where memory ran out, in a put or in the engine, it was made or
   -- given up.
-  abbrev pub TurnCut : Standing S T → List ℕ → ℕ → Standing S T → List ℕ → Option (List ℕ) → Option (List ℕ) → ObeyEnd → Type 0
+  abbrev pub TurnCut : Standing S T → Tape → ℕ → Standing S T → Tape → Option (List ℕ) → Option (List ℕ) → ObeyEnd → Type 0
   TurnCut e feed h f fed old new ends.WriteFault = IsMade e feed h f fed
   TurnCut e feed h f fed old new ends.Memory = IsMade e feed h f fed ⊎ GaveUp e feed h f fed old new
 
-  module _ (breaks : List ℕ) (budget : ℕ) (order : Order) (e : Standing S T) (feed : List ℕ) where
+  module _ (breaks : List ℕ) (budget : ℕ) (order : Order) (e : Standing S T) (feed : Tape) where
     -- Cut short while a turn was told, the last one that was made: the standing, with its account, and the feed are those after
     -- it. What was put is all that the turns before it tell, and a front of what it tells itself.
-    pub record IsCutInTelling (f : Standing S T) (fed : List ℕ) (old new : Option (List ℕ)) (end : ObeyEnd) : Type 0 where
+    pub record IsCutInTelling (f : Standing S T) (fed : Tape) (old new : Option (List ℕ)) (end : ObeyEnd) : Type 0 where
       pub before : ℕ
       pub within : before < budget
       pub standing : f ≡ (turns eq m breaks (before + 1) order e feed).standing
@@ -70,7 +71,7 @@ module _ {S T : Type 0} (eq : T → T → Bool) (m : PolicyModel T S) where
 
     -- Cut short by the engine, for want of memory in the turn behind the last one that was made: that turn was given up, and what
     -- was put is all that those before it tell.
-    pub record IsCutInEngine (f : Standing S T) (fed : List ℕ) (old new : Option (List ℕ)) : Type 0 where
+    pub record IsCutInEngine (f : Standing S T) (fed : Tape) (old new : Option (List ℕ)) : Type 0 where
       pub made : ℕ
       pub within : made < budget
       pub hart : ℕ
@@ -78,6 +79,6 @@ module _ {S T : Type 0} (eq : T → T → Bool) (m : PolicyModel T S) where
       pub whole : PutsOut old new (turns eq m breaks made order e feed).pieces all_put
 
     -- turns that were cut short, of at most so many
-    abbrev pub TurnsCut : Standing S T → List ℕ → Option (List ℕ) → Option (List ℕ) → ObeyEnd → Type 0
+    abbrev pub TurnsCut : Standing S T → Tape → Option (List ℕ) → Option (List ℕ) → ObeyEnd → Type 0
     TurnsCut f fed old new ends.WriteFault = IsCutInTelling f fed old new ends.WriteFault
     TurnsCut f fed old new ends.Memory = IsCutInTelling f fed old new ends.Memory ⊎ IsCutInEngine f fed old new

@@ -1,4 +1,5 @@
 pub mod Cuts
+pub mod Events
 pub mod Order
 pub mod Runs
 pub mod Told

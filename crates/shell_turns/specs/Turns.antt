@@ -2,6 +2,7 @@
 use Rattle.std.specs.Prelude.{◌≡◌, ℕ, zero, suc, Bool, List, [], ◌++◌, length, Some, None, if◌then◌else◌}
 use Rattle.host_io.specs.Pieces.{Piece}
 use Rattle.policy_trait.specs.Model.{PolicyModel}
+use Rattle.turn_steps.specs.Feeds.{Tape}
 use Rattle.engine_trait.specs.Machine.{hart_at}
 use Rattle.engine_trait.specs.Standing.{Standing, Stepped, step}
 use Rattle.shell_turns.specs.Order.{Next, Order, next_of}
@@ -10,12 +11,12 @@ use Rattle.shell_turns.specs.Told.{break_pieces, counted_harts, end_pieces, is_b
 -- after some turns: the standing and the feed; what the turns tell; and the harts of those that were counted, in their order
 pub record Turns (S T : Type 0) : Type 0 where
   pub standing : Standing S T
-  pub feed : List ℕ
+  pub feed : Tape
   pub pieces : List Piece
   pub harts : List ℕ
 
 module _ {S T : Type 0} where
-  abbrev pub no_turns : Standing S T → List ℕ → Turns S T
+  abbrev pub no_turns : Standing S T → Tape → Turns S T
   no_turns e feed = record { standing = e; feed = feed; pieces = []; harts = [] }
 
   -- turns after others that told so much and of which so many were counted
@@ -43,7 +44,7 @@ module _ {S T : Type 0} where
   going_on (Some next) none some = some next.0 next.1
 
 -- the turns leave this standing and this feed, and so many of them were counted
-pub record Leaves {S T : Type 0} (turns : Turns S T) (e : Standing S T) (fed : List ℕ) (counted : ℕ) : Type 0 where
+pub record Leaves {S T : Type 0} (turns : Turns S T) (e : Standing S T) (fed : Tape) (counted : ℕ) : Type 0 where
   pub standing : e ≡ turns.standing
   pub feed : fed ≡ turns.feed
   pub count : counted ≡ length turns.harts
@@ -51,7 +52,7 @@ pub record Leaves {S T : Type 0} (turns : Turns S T) (e : Standing S T) (fed : L
 module _ {S T : Type 0} (eq : T → T → Bool) (m : PolicyModel T S) (breaks : List ℕ) where
   -- At most so many turns, in this order. They end early at a break, where no turn is next, and where the engine runs out of
   -- tag words.
-  unfoldable pub turns : ℕ → Order → Standing S T → List ℕ → Turns S T
+  unfoldable pub turns : ℕ → Order → Standing S T → Tape → Turns S T
   turns zero order e feed = no_turns e feed
   turns (suc n) order e feed =
       going_on (next_of order e) (no_turns e feed) (λ h rest.

@@ -15,7 +15,7 @@ type Row = (&'static [u8], &'static str);
 const HELLO: &[u8] = b".ram 64\n.data\nli a0, 65\nli a7, 1\necall\nli a0, 0\nli a7, 0\necall\n";
 
 /// Its image: one hart, 64 bytes of RAM, and six words at 0 that are no code.
-const HELLO_FILE: [u8; 76] = [
+const HELLO_FILE: &[u8] = &[
     0x50, 0x55, 0x4D, 0x50, 0x01, 0x00, 0x01, 0x00, // magic, version, harts
     0x40, 0x00, 0x00, 0x00, 0x00, 0x00, 0x00, 0x00, // RAM, heap base
     0x00, 0x00, 0x00, 0x00, 0x00, 0x00, 0x00, 0x00, // heap bytes, entry
@@ -29,7 +29,7 @@ const HELLO_FILE: [u8; 76] = [
 ];
 
 /// Words and labels.
-const WORDS: [Row; 13] = [
+const WORDS: &[Row] = &[
     (b"", "65536 0 0 0"),
     (b"nop", "65536 0 0 0 seg 0 00000013 code 0 1"),
     (b".data\nnop", "65536 0 0 0 seg 0 00000013"),
@@ -73,7 +73,7 @@ const WORDS: [Row; 13] = [
 ];
 
 /// Edges and compartments.
-const EDGES_AND_COMPARTMENTS: [Row; 6] = [
+const EDGES_AND_COMPARTMENTS: &[Row] = &[
     (
         b".edge 5, 4\n.edge 1, 10\n.edge 5, 4\n.edge 1, 2",
         "65536 0 0 0 edge 1 2 edge 1 10 edge 5 4",
@@ -98,7 +98,7 @@ const EDGES_AND_COMPARTMENTS: [Row; 6] = [
 ];
 
 /// The sizes of the RAM and of the heap region, and the entries.
-const SIZES: [Row; 5] = [
+const SIZES: &[Row] = &[
     (b"", "65536 0 0 0"),
     (
         b".harts 3\n.entry 2, 8\n.ram 64\n.heap 32, 32",
@@ -113,7 +113,7 @@ const SIZES: [Row; 5] = [
 ];
 
 /// What has no place, or isn't in its range.
-const ERRORS: [Row; 20] = [
+const ERRORS: &[Row] = &[
     (b"nop\n.heap 2, 4", "line 2 range"),
     (b".heap 4, 65536", "line 1 range"),
     (b".heap -4, 8", "line 1 range"),
@@ -209,14 +209,14 @@ fn check<R: Abort + AllocGlobal>(rt: &R, rows: &[Row]) -> Result<(), Fail> {
 
 #[test]
 fn images_have_their_words_lists_and_sizes(rt: HostRuntime) -> Result<(), Fail> {
-    check(&rt, &WORDS)?;
-    check(&rt, &EDGES_AND_COMPARTMENTS)?;
-    check(&rt, &SIZES)
+    check(&rt, WORDS)?;
+    check(&rt, EDGES_AND_COMPARTMENTS)?;
+    check(&rt, SIZES)
 }
 
 #[test]
 fn values_out_of_range_are_told(rt: HostRuntime) -> Result<(), Fail> {
-    check(&rt, &ERRORS)
+    check(&rt, ERRORS)
 }
 
 #[test]
@@ -225,7 +225,7 @@ fn file_of_a_program_is_written(rt: HostRuntime) -> Result<(), Fail> {
         Ok(image) => write_image(rt.alloc(), &image)?,
         Err(_) => Vec::new(rt.alloc()),
     };
-    assert_eq!(rt; file.as_slice(), HELLO_FILE.as_slice());
+    assert_eq!(rt; file.as_slice(), HELLO_FILE);
     Ok(())
 }
 

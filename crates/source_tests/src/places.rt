@@ -11,7 +11,7 @@ use std::test::Fail;
 type Row = (&'static [u8], &'static str);
 
 /// Words, sizes and names.
-const LAYOUTS: [Row; 17] = [
+const LAYOUTS: &[Row] = &[
     (b"", "1 65536: 0"),
     (b"nop\n\n# nop\nnop", "1 65536: 0 4 8"),
     (
@@ -56,7 +56,7 @@ const LAYOUTS: [Row; 17] = [
 ];
 
 /// Numbers that are loaded by one word, and by two.
-const LOADS: [Row; 14] = [
+const LOADS: &[Row] = &[
     (b"li x1, 0", "1 65536: 0 4"),
     (b"li x1, 2047", "1 65536: 0 4"),
     (b"li x1, 2048", "1 65536: 0 8"),
@@ -74,7 +74,7 @@ const LOADS: [Row; 14] = [
 ];
 
 /// Sizes outside their range, which are told before all else, the harts' before the RAM's.
-const BAD_SIZES: [Row; 10] = [
+const BAD_SIZES: &[Row] = &[
     (b".harts 0", "line 1 range"),
     (b"\n.harts 9", "line 2 range"),
     (b".harts -1", "line 1 range"),
@@ -88,7 +88,7 @@ const BAD_SIZES: [Row; 10] = [
 ];
 
 /// Names and directives that stand twice, and an `.org` that goes back.
-const TWICE: [Row; 15] = [
+const TWICE: &[Row] = &[
     (b"a: nop\n\na: nop", "line 3 duplicate"),
     (b"a:\nb:\na:", "line 3 duplicate"),
     (b"a:\n.harts 1\na: .harts 1", "line 3 duplicate"),
@@ -107,7 +107,7 @@ const TWICE: [Row; 15] = [
 ];
 
 /// Places outside their range.
-const BAD_PLACES: [Row; 9] = [
+const BAD_PLACES: &[Row] = &[
     (b".org 2", "line 1 range"),
     (b".org 65540", "line 1 range"),
     (b".ram 4\nnop\nnop", "line 3 range"),
@@ -167,15 +167,15 @@ fn check<R: Abort + AllocGlobal>(rt: &R, rows: &[Row]) -> Result<(), Fail> {
 
 #[test]
 fn lines_and_names_have_their_places(rt: HostRuntime) -> Result<(), Fail> {
-    check(&rt, &LAYOUTS)?;
-    check(&rt, &LOADS)
+    check(&rt, LAYOUTS)?;
+    check(&rt, LOADS)
 }
 
 #[test]
 fn what_has_no_place_is_told(rt: HostRuntime) -> Result<(), Fail> {
-    check(&rt, &BAD_SIZES)?;
-    check(&rt, &TWICE)?;
-    check(&rt, &BAD_PLACES)
+    check(&rt, BAD_SIZES)?;
+    check(&rt, TWICE)?;
+    check(&rt, BAD_PLACES)
 }
 
 #[test]

@@ -11,7 +11,7 @@ use std::test::Fail;
 type Row = (&'static [u8], u32, Emission);
 
 /// Instructions.
-const INSTRUCTIONS: [Row; 20] = [
+const INSTRUCTIONS: &[Row] = &[
     (b"addi x10, x0, 65", 0, Emission::One(0x0410_0513)),
     (b"sltiu x10, x11, -1", 0, Emission::One(0xFFF5_B513)),
     (b"sub x5, x6, x7", 0, Emission::One(0x4073_02B3)),
@@ -39,7 +39,7 @@ const INSTRUCTIONS: [Row; 20] = [
 ];
 
 /// Loads of numbers and data.
-const DATA: [Row; 15] = [
+const DATA: &[Row] = &[
     (b"li x5, 4095", 0, Emission::Two(0x0000_12B7, 0xFFF2_8293)),
     (b"li x5, 2047", 0, Emission::One(0x7FF0_0293)),
     (b"li x5, -2048", 0, Emission::One(0x8000_0293)),
@@ -62,7 +62,7 @@ const DATA: [Row; 15] = [
 ];
 
 /// Statements that emit no words, each with what is wrong.
-const ERRORS: [(&[u8], AsmErrorKind); 18] = [
+const ERRORS: &[(&[u8], AsmErrorKind)] = &[
     (b"addi x1, x1, 2048", AsmErrorKind::Range),
     (b"addi x1, x1, -2049", AsmErrorKind::Range),
     (b"addi x1, x1, 4294967295", AsmErrorKind::Range),
@@ -84,7 +84,7 @@ const ERRORS: [(&[u8], AsmErrorKind); 18] = [
 ];
 
 /// Statements, each with how many words it emits.
-const COUNTS: [(&[u8], Option<u64>); 8] = [
+const COUNTS: &[(&[u8], Option<u64>)] = &[
     (b"add x1, x2, x3", Some(1)),
     (b"li x5, 2047", Some(1)),
     (b"li x5, 4096", Some(1)),
@@ -127,13 +127,13 @@ fn check<R: Abort + AllocGlobal>(rt: &R, rows: &[Row]) -> Result<(), Fail> {
 
 #[test]
 fn statements_have_their_words(rt: HostRuntime) -> Result<(), Fail> {
-    check(&rt, &INSTRUCTIONS)?;
-    check(&rt, &DATA)
+    check(&rt, INSTRUCTIONS)?;
+    check(&rt, DATA)
 }
 
 #[test]
 fn errors_have_their_kinds(rt: HostRuntime) -> Result<(), AllocError> {
-    for (text, kind) in ERRORS {
+    for &(text, kind) in ERRORS {
         assert_eq!(rt; emitted(rt.alloc(), text, 0)?, Err(kind));
     }
     Ok(())
@@ -141,7 +141,7 @@ fn errors_have_their_kinds(rt: HostRuntime) -> Result<(), AllocError> {
 
 #[test]
 fn words_are_counted(rt: HostRuntime) {
-    for (text, count) in COUNTS {
+    for &(text, count) in COUNTS {
         let counted = match line_of(1, text) {
             Ok(line) => match &line.statement {
                 Some(statement) => word_count(statement),

@@ -14,7 +14,7 @@ use std::alloc::{AllocError, Global};
 use std::test::Fail;
 
 /// An address, a word, and its text there. The words are those of LLVM's assembler; two are no instructions of RV32I.
-const TEXTS: [(u32, u32, &[u8]); 21] = [
+const TEXTS: &[(u32, u32, &[u8])] = &[
     (0, 0x0410_0513, b"addi x10, x0, 65"),
     (0, 0xFFF5_B513, b"sltiu x10, x11, -1"),
     (0, 0x0000_12B7, b"lui x5, 0x00001"),
@@ -69,7 +69,7 @@ fn emitted(alloc: Global, pc: u32, text: &[u8]) -> Result<Emission, AsmErrorKind
 #[test]
 fn words_are_shown_and_their_texts_emit_them(rt: HostRuntime) {
     reassembly_law();
-    for (pc, word, text) in TEXTS {
+    for &(pc, word, text) in TEXTS {
         let mut line = Line::new();
         show_instr(pc, word, &mut line);
         assert_eq!(rt; line.as_slice(), text, "{word} at {pc}");

@@ -63,7 +63,7 @@ ecall
 ";
 
 /// Counts of blocks, and of the words, labels and compartment ranges of the image, by the kinds of the blocks.
-const WORKLOADS: [(u32, u32, usize, usize); 4] = [
+const WORKLOADS: &[(u32, u32, usize, usize)] = &[
     (1, 11, 5, 1),
     (2, 26, 3, 1),
     (10, 47, 16, 4),
@@ -91,7 +91,7 @@ fn is_written_for_two_blocks(rt: HostRuntime) -> Result<(), Fail> {
 #[test]
 fn is_assembled_whole(rt: HostRuntime) -> Result<(), Fail> {
     assembles_law();
-    for (count, words, labels, ranges) in WORKLOADS {
+    for &(count, words, labels, ranges) in WORKLOADS {
         let source = write_workload(rt.alloc(), count)?;
         let image = assemble_source(rt.alloc(), &source).ok().ok_or("no image")?;
         assert_eq!(rt; image.segment_count(), 1);

@@ -1,15 +1,20 @@
--- What is read of a memory over which the words of segments were put.
-use Rattle.std.proofs.Common.{◌≡◌, ℕ, ◌+◌, ◌-◌, ◌*◌, ◌/◌, ◌<◌, ◌≤◌, Bool, true, false, ◌&&◌, ◌⊎◌, inl, inr, Option, Some, None, List, [], ◌∷◌, ◌++◌, length, get_or, take, drop, replicate, refl, ap, ◌∙◌, arith}
+-- What is read of a memory over which the words of segments were put, and that each is a word.
+use Rattle.std.proofs.Common.{◌≡◌, ℕ, ◌+◌, ◌-◌, ◌*◌, ◌/◌, ◌^◌, ◌<◌, ◌≤◌, Bool, true, false, ◌&&◌, ◌⊎◌, inl, inr, Option, Some, None, List, [], ◌∷◌, ◌++◌, length, get_or, take, drop, replicate, refl, ap, ◌∙◌, arith, lit<}
 use Rattle.std.specs.Prelude.{nat_le}
 use Rattle.std.specs.List.{All, list_all}
-use Rattle.std.proofs.lemmas.Bool.{leb-true}
+use Rattle.std.proofs.lemmas.Bool.{leb-true, ltb-true}
 use Rattle.std.proofs.lemmas.List.{length-append, length-take, length-take-le, length-drop, length-replicate, get_or_append_left, get_or-append_right, get_or-take, get_or-drop, get_or-replicate}
-use Rattle.std.proofs.lemmas.List.Elements.{All-nil, All-cons, All-head, All-tail}
+use Rattle.std.proofs.lemmas.List.Elements.{All-append, All-cons, All-drop, All-head, All-map, All-nil, All-replicate, All-tail, All-take}
+use Rattle.std.proofs.lemmas.List.Sums.{AllPass-from_list_all}
 use Rattle.std.proofs.lemmas.Option.{slice_get-get_or}
 use Rattle.image_format.specs.Picture.{Picture, Segment}
 use Rattle.image_format.specs.declared.rows.WordRange.{WordRange}
 use Rattle.image_format.specs.Conditions.{IsImage, are_rows, extent_of, in_order, is_clear_of, is_segment, is_range, is_aligned, is_word_count, is_u32}
-use Rattle.tag_loader.specs.Start.{memory_of, words_over, with_segments}
+use Rattle.policy_trait.specs.Model.{PolicyModel}
+use Rattle.tag_memory.specs.Hart.{HartState}
+use Rattle.turn_steps.specs.Values.{HartHasWords, IsWord}
+use Rattle.engine_trait.specs.Machine.{HasWords}
+use Rattle.tag_loader.specs.Start.{memory_of, start_hart, start_harts, start_machine, start_ram, with_segments, words_over}
 use Rattle.tag_loader.specs.Memory.{HoldsWords, LiesOutside, WordAt}
 
 -- ---- words put over others
@@ -123,6 +128,36 @@ all_read size low memory (segment ∷ segments) len up =
     ∙ get_or-overwritten_inside memory place words k (omega arith) lt in
     All-cons (ReadsWords (with_segments over segments)) segment segments first (all_read size (place + length words) over segments over_len up.2)
 
+-- ---- words
+
+-- each word of the segment is one
+abbrev OfWords : Segment → Type 0
+OfWords segment = All IsWord segment.words
+
+-- the rows of segments say so
+of_words : (ram : ℕ) (before : Option WordRange) (segments : List Segment) → are_rows extent_of (is_segment ram) is_clear_of before segments ≡ true
+    → All OfWords segments
+of_words ram before [] e = All-nil OfWords
+of_words ram before (segment ∷ segments) e =
+    let parts =
+    both (is_segment ram segment && in_order is_clear_of before (extent_of segment))
+    (are_rows extent_of (is_segment ram) is_clear_of (Some (extent_of segment)) segments) e in
+    let first = both (is_segment ram segment) (in_order is_clear_of before (extent_of segment)) parts.0 in
+    let fit = (both (is_range ram (extent_of segment)) (list_all is_u32 segment.words) first.0).1 in
+    let here : OfWords segment =
+    λ k default below. ltb-true (get_or segment.words k default) (2 ^ 32) (AllPass-from_list_all is_u32 segment.words fit k default below) in
+    All-cons OfWords segment segments here (of_words ram (Some (extent_of segment)) segments parts.1)
+
+words_with_segments : (memory : List ℕ) (segments : List Segment) → All IsWord memory → All OfWords segments → All IsWord (with_segments memory segments)
+words_with_segments memory [] all are = all
+words_with_segments memory (segment ∷ segments) all are =
+    let place : ℕ = segment.address / 4 in
+    let rest : List ℕ = drop (place + length segment.words) memory in
+    words_with_segments (words_over memory place segment.words) segments
+    (All-append IsWord (take place memory) (segment.words ++ rest) (All-take IsWord place memory all)
+    (All-append IsWord segment.words rest (All-head OfWords segment segments are) (All-drop IsWord (place + length segment.words) memory all)))
+    (All-tail OfWords segment segments are)
+
 -- ---- the memory of an image
 
 start_ascends : (g : Picture) → IsImage g → IsAscending (g.ram / 4) 0 g.segments
@@ -150,3 +185,17 @@ others_are_zero g n is lt outside =
     ∙ ap (λ (word : ℕ). Some word)
     (get_or-with_segments (g.ram / 4) 0 (replicate (g.ram / 4) 0) g.segments n (length-replicate (g.ram / 4) 0) (start_ascends g is) outside
     ∙ get_or-replicate (g.ram / 4) n 0 0 lt)
+
+-- each word of it is one
+pub memory_words : (g : Picture) → IsImage g → All IsWord (memory_of g)
+unfolding memory_of
+memory_words g is =
+    words_with_segments (replicate (g.ram / 4) 0) g.segments (All-replicate IsWord (g.ram / 4) 0 (lit< tt)) (of_words g.ram None g.segments is.segments.rows)
+
+-- and so is every other value at the start
+pub start_words : {S T : Type 0} (m : PolicyModel T S) (policy : S) (g : Picture) → IsImage g → HasWords (start_machine m policy g).core
+unfolding start_machine start_ram start_harts
+start_words {S} {T} m policy g is = record {
+  harts = All-map (λ (hart : HartState T). HartHasWords hart) (start_hart m policy g) g.entries (λ n default below. All-replicate IsWord 31 0 (lit< tt));
+  ram = memory_words g is;
+}

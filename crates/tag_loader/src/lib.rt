@@ -1,4 +1,5 @@
-//! From an image to an engine at its start. `memory_law` says what its memory then holds.
+//! From an image to an engine at its start. `memory_law` says what its memory then holds, and `values_law` that all values are
+//! words.
 #![tactic(auto)]
 
 mod births;
@@ -9,7 +10,7 @@ mod start;
 mod walks;
 
 pub use births::{BirthWalk, birth};
-pub use law::memory_law;
+pub use law::{memory_law, values_law};
 pub use parts::words_of;
 pub use sorted::Run;
 pub use start::start_under;

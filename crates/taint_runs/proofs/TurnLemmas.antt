@@ -14,6 +14,7 @@ use Rattle.tag_memory.specs.Ram.{RamState}
 use Rattle.turn_steps.specs.declared.look.Look.{Look}
 use Rattle.engine_trait.specs.Events.{Event, Touch, is_retirement, touch_of}
 use Rattle.engine_trait.specs.Machine.{Machine}
+use Rattle.engine_trait.specs.Turn.{rule_inputs}
 use Rattle.part_turns.specs.Keeps.{Keeps}
 use Rattle.part_turns.specs.Moments.{is_jalr}
 use Rattle.part_turns.specs.Turns.{Allows, Does, Turns, computes, exits, goes, idles, is_jalr_group, loads, loads_part, moves, serves, stops, stores, stores_part}
@@ -66,27 +67,27 @@ load_stores : {P : Type 0} (address bytes : ℕ) (touch : Touch) → Some (load 
 load_stores address bytes touch same is_store =
     absurd (let h = ap (λ (t : Touch). t.stores) (same_Some (load address bytes) touch same) ∙ is_store in cc)
 
-store_guarded : {hart : HartState TaintTag} {ram : RamState TaintTag} (look : Look TaintTag) (register value : ℕ) → Does hart ram look register value
+store_guarded : {hart : HartState TaintTag} {ram : RamState TaintTag} (look : Look) (register value : ℕ) → Does hart ram look register value
     → (touch : Touch) → touch_of look.effect.access ≡ Some touch → touch.stores ≡ true → (row_of look.group).is_guarded ≡ true
-store_guarded look register value (moves source is touches value_is tag_is) touch told is_store = none_stores look.effect.access touch touches told
-store_guarded look register value (loads place is touches value_is tag_is) touch told is_store =
+store_guarded look register value (moves is touches value_is) touch told is_store = none_stores look.effect.access touch touches told
+store_guarded look register value (loads place is touches value_is) touch told is_store =
     load_stores _ _ touch (sym (ap touch_of touches) ∙ told) is_store
-store_guarded look register value (loads_part place width signed is touches tag_is) touch told is_store =
+store_guarded look register value (loads_part place width signed is touches) touch told is_store =
     load_stores _ _ touch (sym (ap touch_of touches) ∙ told) is_store
-store_guarded look register value (stores place source is touches tag_is old_is none) touch told is_store = ap (λ g. (row_of g).is_guarded) is
-store_guarded look register value (stores_part place value_stored width is touches old_is none) touch told is_store = ap (λ g. (row_of g).is_guarded) is
+store_guarded look register value (stores place is touches none) touch told is_store = ap (λ g. (row_of g).is_guarded) is
+store_guarded look register value (stores_part place value_stored width is touches none) touch told is_store = ap (λ g. (row_of g).is_guarded) is
 store_guarded look register value (computes computing touches) touch told is_store = none_stores look.effect.access touch touches told
 
 -- ---- a turn
 
-module _ (s : Machine Taint TaintTag) (h : ℕ) (e : Event TaintTag) (look : Look TaintTag) (outs : Outs TaintTag) (allows : Allows taint s h look outs e) where
-  clean : AreClean (row_of look.group).is_guarded look.inputs.ci look.inputs.t1
-  clean = allowed_clean look.group look.inputs outs allows.rule
+module _ (s : Machine Taint TaintTag) (h : ℕ) (e : Event TaintTag) (look : Look) (outs : Outs TaintTag) (allows : Allows taint s h look outs e) where
+  clean : AreClean (row_of look.group).is_guarded (rule_inputs s.core h look).ci (rule_inputs s.core h look).t1
+  clean = allowed_clean look.group (rule_inputs s.core h look) outs allows.rule
 
   -- a turn whose stores all have a guarded row
   allowed_turn : ((touch : Touch) → touch_of look.effect.access ≡ Some touch → touch.stores ≡ true → (row_of look.group).is_guarded ≡ true) → GoesByClean e
   allowed_turn guards = record {
-    asked = record { group = look.group; inputs = look.inputs };
+    asked = record { group = look.group; inputs = rule_inputs s.core h look };
     is_asked = allows.asked;
     instruction = clean.instruction;
     jump = λ is. clean.first (jalr_guarded look.group (sym allows.seen.jalr ∙ ap is_jalr (sym allows.word) ∙ is));
@@ -107,4 +108,4 @@ turn_clean s h e t (serves look outs p words allows is touches told planned is_r
     allowed_turn s h e look outs allows (λ touch told stores. none_stores look.effect.access touch touches told)
 
 pub keeps_taint : Keeps taint NoLine TaintTurn
-keeps_taint = record { turn = λ before s h e t sound line turns. (turn_clean s h e t turns, tt) }
+keeps_taint = record { turn = λ before s h e t sound line turns stay. (turn_clean s h e t turns, tt) }

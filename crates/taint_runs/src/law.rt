@@ -1,11 +1,12 @@
 //! What taint keeps.
 
-ghost use Rattle.std.specs.Prelude.{◌≡◌, ℕ, List, true};
+ghost use Rattle.std.specs.Prelude.{◌≡◌, List, true};
 ghost use Rattle.policy_parts.specs.Part.{IsPart};
 ghost use Rattle.policy_parts.specs.View.{View, on_view, right_view};
 ghost use Rattle.policy_product.specs.Both.{both};
 ghost use Rattle.policy_product.specs.Maybe.{maybe};
 ghost use Rattle.sealing_policy.specs.Sealing.{sealing};
+ghost use Rattle.turn_steps.specs.Feeds.{Tape};
 ghost use Rattle.engine_trait.specs.Machine.{IsMachine, Machine};
 ghost use Rattle.engine_trait.specs.Runs.{Item, run_along};
 ghost use Rattle.part_turns.specs.Keeps.{Keeps, RunKeeps};
@@ -27,7 +28,7 @@ pub fn turn_law()
 /// Under every policy of which taint is a part, where it is on, each turn of every run from any sound machine on goes by
 /// clean tags alone. The function does nothing.
 pub fn run_law<P: Policy>()
-    ensures { (l : View P.Tag P TaintTag Taint) (s : Machine P P.Tag) (feed : List ℕ)
+    ensures { (l : View P.Tag P TaintTag Taint) (s : Machine P P.Tag) (feed : Tape)
         (items : List Item)
         → IsPart P.model taint l → l.is_on s.policy ≡ true → IsMachine P.model s
         → P.holds s.policy

@@ -13,7 +13,7 @@ use Rattle.tag_memory.specs.Ram.{IsRamOf, RamState, ram_bytes, ram_word, with_ra
 use Rattle.tag_memory.proofs.HartLemmas.{pc_keeps, tag_keeps, value_keeps}
 use Rattle.tag_memory.proofs.RamLemmas.{word_bytes, word_keeps, word_tag_keeps}
 use Rattle.turn_steps.specs.Effects.{IsCarriedOf, IsSound, carried_by, effect_result, fed_hart, result_value, hart_after, with_store}
-use Rattle.turn_steps.specs.Feeds.{fed_value}
+use Rattle.turn_steps.specs.Feeds.{Tape, fed_value}
 use Rattle.turn_steps.specs.Services.{with_answer, with_words}
 use Rattle.turn_steps.specs.declared.look.Look.{Look}
 
@@ -55,18 +55,18 @@ store_bytes ram (access.Store addr width value) tag = word_bytes ram addr (store
 
 -- ---- an instruction that is carried out
 
-step_keeps : {T : Type 0} (plain : T) (hart : HartState T) (ram : RamState T) (look : Look T) (outs : Outs T) → look.effect.next % 4 ≡ 0 → IsHartOf plain hart → IsHartOf plain (hart_after hart ram look outs)
+step_keeps : {T : Type 0} (plain : T) (hart : HartState T) (ram : RamState T) (look : Look) (outs : Outs T) → look.effect.next % 4 ≡ 0 → IsHartOf plain hart → IsHartOf plain (hart_after hart ram look outs)
 step_keeps plain hart ram look outs aligned is =
     pc_keeps plain _ look.effect.next outs.pc aligned
-    (tagged_keeps plain hart look.result (result_value ram look.effect.value look.effect.access) outs.result is)
+    (tagged_keeps plain hart look.places.result (result_value ram look.effect.value look.effect.access) outs.result is)
 
-by_group : {T : Type 0} (plain : T) (called : Group) (hart : HartState T) (ram : RamState T) (feed : List ℕ) (look : Look T) (outs : Outs T) → look.effect.next % 4 ≡ 0
+by_group : {T : Type 0} (plain : T) (called : Group) (hart : HartState T) (ram : RamState T) (feed : Tape) (look : Look) (outs : Outs T) → look.effect.next % 4 ≡ 0
     → IsHartOf plain hart → IsRamOf plain ram → IsCarriedOf plain (ram_bytes ram) (carried_by called hart ram feed look outs)
 by_group plain group.Exit hart ram feed look outs aligned hart_is ram_is = record { hart = hart_is; ram = ram_is; bytes = refl }
 by_group plain group.Put hart ram feed look outs aligned hart_is ram_is =
     record { hart = pc_keeps plain hart look.effect.next outs.pc aligned hart_is; ram = ram_is; bytes = refl }
 by_group plain group.Get hart ram feed look outs aligned hart_is ram_is = record {
-  hart = pc_keeps plain (fed_hart hart feed outs.result) look.effect.next outs.pc aligned (tagged_keeps plain hart a0 (fed_value feed) outs.result hart_is);
+  hart = pc_keeps plain (fed_hart hart feed outs.result) look.effect.next outs.pc aligned (tagged_keeps plain hart a0 (fed_value feed.left) outs.result hart_is);
   ram = ram_is;
   bytes = refl;
 }
@@ -78,7 +78,7 @@ by_group plain _ hart ram feed look outs aligned hart_is ram_is = record {
   bytes = store_bytes ram look.effect.access outs.result;
 }
 
-pub carried_keeps : {T : Type 0} (plain : T) (hart : HartState T) (ram : RamState T) (feed : List ℕ) (look : Look T) (outs : Outs T) → IsSound (ram_bytes ram) look.effect
+pub carried_keeps : {T : Type 0} (plain : T) (hart : HartState T) (ram : RamState T) (feed : Tape) (look : Look) (outs : Outs T) → IsSound (ram_bytes ram) look.effect
     → IsHartOf plain hart → IsRamOf plain ram → IsCarriedOf plain (ram_bytes ram) (effect_result hart ram feed look outs)
 unfolding effect_result
 carried_keeps plain hart ram feed look outs sound hart_is ram_is = by_group plain look.group hart ram feed look outs sound.to_word hart_is ram_is

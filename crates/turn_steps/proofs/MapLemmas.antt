@@ -1,13 +1,13 @@
 -- A change of each tag goes through the steps of a turn.
-use Rattle.std.proofs.Common.{◌≡◌, ℕ, List, Option, Some, None, Result, Ok, Err, refl, ap, ◌∙◌}
-use Rattle.policy_trait.specs.Maps.{ins_by, ok_by, outs_by}
+use Rattle.std.proofs.Common.{◌≡◌, ℕ, Option, Some, None, Result, Ok, refl, ap, ◌∙◌}
+use Rattle.policy_trait.specs.Maps.{ins_by, outs_by}
 use Rattle.shared_terms.specs.Steps.{◌>>=◌}
-use Rattle.policy_trait.specs.declared.rules.Ins.{Ins}
 use Rattle.policy_trait.specs.declared.rules.Outs.{Outs}
-use Rattle.rv_decode.specs.Groups.{a0, a7, group_of, places_of, reads_of}
+use Rattle.rv_decode.specs.Groups.{a0, reads_of}
 use Rattle.rv_decode.specs.declared.groups.Group.{Group}
 use Rattle.rv_decode.specs.declared.groups.Group.TheVariants as group
 use Rattle.rv_decode.specs.declared.instructions.Instr.{Instr}
+use Rattle.rv_decode.specs.declared.places.Places.{Places}
 use Rattle.rv_step.specs.Accesses.{stored_in}
 use Rattle.rv_step.specs.Checks.{first_fault}
 use Rattle.rv_step.specs.Effects.{effect_of}
@@ -15,21 +15,15 @@ use Rattle.rv_step.specs.declared.accesses.Access.{Access}
 use Rattle.rv_step.specs.declared.accesses.Access.TheVariants as access
 use Rattle.rv_step.specs.declared.effects.Effect.{Effect}
 use Rattle.rv_step.specs.declared.faults.Fault.{Fault}
-use Rattle.tag_memory.specs.Hart.{HartState, moved_to, reg_value, with_reg, with_reg_tag}
+use Rattle.tag_memory.specs.Hart.{HartState, moved_to, with_reg, with_reg_tag}
 use Rattle.tag_memory.specs.Maps.{hart_by, ram_by}
 use Rattle.tag_memory.specs.Ram.{RamState, ram_bytes, ram_word, with_ram_word}
 use Rattle.tag_memory.proofs.MapLemmas.{ram_tag_by, reg_tag_by, with_ram_tag_by, with_reg_by, with_reg_tag_by}
 use Rattle.turn_steps.specs.Effects.{carried_by, effect_result, fed_hart, result_value, hart_after, with_store, with_tagged}
-use Rattle.turn_steps.specs.Feeds.{fed_value}
-use Rattle.turn_steps.specs.Looks.{access_tag, effect_at, fetch_result, inputs_at, look_at, look_result, operand, operand_tag, effect_or_fault, read_instr}
-use Rattle.turn_steps.specs.Maps.{carry_by, look_by}
+use Rattle.turn_steps.specs.Feeds.{Tape, fed_value}
+use Rattle.turn_steps.specs.Looks.{access_tag, effect_at, effect_or_fault, fetch_result, inputs_on, look_at, look_result, operand, read_instr}
+use Rattle.turn_steps.specs.Maps.{carry_by}
 use Rattle.turn_steps.specs.declared.look.Look.{Look}
-
--- steps in a row, of which the last gives what changes
-pub then_by : {A B C E : Type 0} (change : B → C) (first : Result A E) (rest : A → Result B E) (changed : A → Result C E)
-    → ((x : A) → first ≡ Ok x → changed x ≡ ok_by change (rest x)) → (first >>= changed) ≡ ok_by change (first >>= rest)
-then_by change (Ok x) rest changed each = each x refl
-then_by change (Err e) rest changed each = refl
 
 module _ {T U : Type 0} (f : T → U) where
   -- ---- the look
@@ -38,54 +32,39 @@ module _ {T U : Type 0} (f : T → U) where
   operand_by hart None = refl
   operand_by hart (Some r) = refl
 
-  operand_tag_by : (hart : HartState T) (register : Option ℕ) → operand_tag (hart_by f hart) register ≡ f (operand_tag hart register)
-  operand_tag_by hart None = refl
-  operand_tag_by hart (Some r) = reg_tag_by f hart r
+  -- an effect that has no fault
+  abbrev checked : RamState T → Effect → Result Effect Fault
+  checked ram effect = effect_or_fault effect (first_fault effect (ram_bytes ram))
 
   effect_at_by : (hart : HartState T) (instr : Instr) → effect_at (hart_by f hart) instr ≡ effect_at hart instr
   effect_at_by hart instr =
       ap (λ (a : ℕ). effect_of instr hart.pc a (operand (hart_by f hart) (reads_of instr).t2)) (operand_by hart (reads_of instr).t1)
       ∙ ap (effect_of instr hart.pc (operand hart (reads_of instr).t1)) (operand_by hart (reads_of instr).t2)
 
+  -- what is looked at has no tag
+  pub looked_by : (hart : HartState T) (ram : RamState T) → look_result (hart_by f hart) (ram_by f ram) ≡ look_result hart ram
+  unfolding look_result
+  looked_by hart ram =
+      ap (λ (effect_of_instr : Instr → Effect).
+      fetch_result hart ram >>= λ word. read_instr word >>= λ instr. checked ram (effect_of_instr instr) >>= λ effect. Ok (look_at hart word instr effect))
+      (λ j instr. effect_at_by hart instr j)
+
+  -- ---- what its rule is asked with
+
   access_tag_by : (ram : RamState T) (plain : T) (place : Access) → access_tag (ram_by f ram) (f plain) place ≡ f (access_tag ram plain place)
   access_tag_by ram plain access.None = refl
   access_tag_by ram plain (access.Load addr width signed) = ram_tag_by f ram addr
   access_tag_by ram plain (access.Store addr width value) = ram_tag_by f ram addr
 
-  inputs_at_by : (hart : HartState T) (ram : RamState T) (instr : Instr) (effect : Effect)
-      → inputs_at (hart_by f hart) (ram_by f ram) instr effect ≡ ins_by f (inputs_at hart ram instr effect)
-  inputs_at_by hart ram instr effect = λ j. record {
+  pub asked_by : (hart : HartState T) (ram : RamState T) (places : Places) (place : Access)
+      → inputs_on (hart_by f hart) (ram_by f ram) places place ≡ ins_by f (inputs_on hart ram places place)
+  asked_by hart ram places place = λ j. record {
     pc = f hart.pc_tag;
     ci = ram_tag_by f ram hart.pc j;
-    t1 = operand_tag_by hart (reads_of instr).t1 j;
-    t2 = operand_tag_by hart (reads_of instr).t2 j;
-    tm = access_tag_by ram hart.plain effect.access j;
+    t1 = reg_tag_by f hart places.first j;
+    t2 = reg_tag_by f hart places.second j;
+    tm = access_tag_by ram hart.plain place j;
   }
-
-  look_at_by : (hart : HartState T) (ram : RamState T) (word : ℕ) (instr : Instr) (effect : Effect)
-      → look_at (hart_by f hart) (ram_by f ram) word instr effect ≡ look_by f (look_at hart ram word instr effect)
-  look_at_by hart ram word instr effect =
-      ap (λ (inputs : Ins U). record {
-        word = word;
-        effect = effect;
-        service = reg_value hart a7;
-        group = group_of instr (reg_value hart a7);
-        result = (places_of instr (reg_value hart a7)).result;
-        inputs = inputs;
-      })
-      (inputs_at_by hart ram instr effect)
-
-  abbrev checked : HartState T → RamState T → Effect → Result Effect Fault
-  checked hart ram effect = effect_or_fault effect (first_fault effect (ram_bytes ram))
-
-  pub looked_by : (hart : HartState T) (ram : RamState T) → look_result (hart_by f hart) (ram_by f ram) ≡ ok_by (look_by f) (look_result hart ram)
-  unfolding look_result
-  looked_by hart ram =
-      then_by (look_by f) (fetch_result hart ram) _ _ λ word word-is.
-      then_by (look_by f) (read_instr word) _ _ λ instr instr-is.
-      ap (λ effect. checked hart ram effect >>= λ passing. Ok (look_at (hart_by f hart) (ram_by f ram) word instr passing)) (effect_at_by hart instr)
-      ∙ then_by (look_by f) (checked hart ram (effect_at hart instr)) _ _
-      (λ passing passing-is. ap (λ look. Ok look) (look_at_by hart ram word instr passing))
 
   -- ---- the effect
 
@@ -104,25 +83,25 @@ module _ {T U : Type 0} (f : T → U) where
   with_store_by ram (access.Store addr width value) tag =
       with_ram_tag_by f (with_ram_word ram addr (stored_in (ram_word ram addr) addr width value)) addr tag
 
-  module _ (hart : HartState T) (ram : RamState T) (feed : List ℕ) (look : Look T) (outs : Outs T) where
-    stepped_by : hart_after (hart_by f hart) (ram_by f ram) (look_by f look) (outs_by f outs) ≡ hart_by f (hart_after hart ram look outs)
+  module _ (hart : HartState T) (ram : RamState T) (feed : Tape) (look : Look) (outs : Outs T) where
+    stepped_by : hart_after (hart_by f hart) (ram_by f ram) look (outs_by f outs) ≡ hart_by f (hart_after hart ram look outs)
     stepped_by =
-        ap (λ (value : ℕ). moved_to (with_tagged (hart_by f hart) look.result value (f outs.result)) look.effect.next (f outs.pc))
+        ap (λ (value : ℕ). moved_to (with_tagged (hart_by f hart) look.places.result value (f outs.result)) look.effect.next (f outs.pc))
         (result_value_by ram look.effect.value look.effect.access)
         ∙ ap (λ h. moved_to h look.effect.next (f outs.pc))
-        (with_tagged_by hart look.result (result_value ram look.effect.value look.effect.access) outs.result)
+        (with_tagged_by hart look.places.result (result_value ram look.effect.value look.effect.access) outs.result)
 
     fed_by : moved_to (fed_hart (hart_by f hart) feed (f outs.result)) look.effect.next (f outs.pc) ≡ hart_by f (moved_to (fed_hart hart feed outs.result) look.effect.next outs.pc)
-    fed_by = ap (λ h. moved_to h look.effect.next (f outs.pc)) (with_tagged_by hart a0 (fed_value feed) outs.result)
+    fed_by = ap (λ h. moved_to h look.effect.next (f outs.pc)) (with_tagged_by hart a0 (fed_value feed.left) outs.result)
 
     by_group : (called : Group)
-        → carried_by called (hart_by f hart) (ram_by f ram) feed (look_by f look) (outs_by f outs) ≡ carry_by f (carried_by called hart ram feed look outs)
+        → carried_by called (hart_by f hart) (ram_by f ram) feed look (outs_by f outs) ≡ carry_by f (carried_by called hart ram feed look outs)
     by_group group.Exit = refl
     by_group group.Put = refl
     by_group group.Get = λ j. record (carry_by f (carried_by group.Get hart ram feed look outs)) { hart = fed_by j }
     by_group group.Break = λ j. record (carry_by f (carried_by group.Break hart ram feed look outs)) { hart = stepped_by j }
     by_group _ = λ j. record (carry_by f (carried_by group.Const hart ram feed look outs)) { hart = stepped_by j; ram = with_store_by ram look.effect.access outs.result j }
 
-    pub carried_out_by : effect_result (hart_by f hart) (ram_by f ram) feed (look_by f look) (outs_by f outs) ≡ carry_by f (effect_result hart ram feed look outs)
+    pub carried_out_by : effect_result (hart_by f hart) (ram_by f ram) feed look (outs_by f outs) ≡ carry_by f (effect_result hart ram feed look outs)
     unfolding effect_result
     carried_out_by = by_group look.group

@@ -1,5 +1,5 @@
 -- What an allowed instruction does to its hart, to memory and to the feed.
-use Rattle.std.specs.Prelude.{◌≡◌, ℕ, ◌%◌, ◌^◌, List, Option, Some, None}
+use Rattle.std.specs.Prelude.{◌≡◌, ℕ, ◌%◌, ◌^◌, Option, Some, None}
 use Rattle.std.specs.Option.{unwrap_or}
 use Rattle.rv_decode.specs.Groups.{a0}
 use Rattle.rv_decode.specs.declared.groups.Group.{Group}
@@ -13,7 +13,7 @@ use Rattle.rv_step.specs.declared.effects.Effect.{Effect}
 use Rattle.policy_trait.specs.declared.rules.Outs.{Outs}
 use Rattle.tag_memory.specs.Hart.{HartState, IsHartOf, moved_to, reg_value, with_reg, with_reg_tag}
 use Rattle.tag_memory.specs.Ram.{IsRamOf, RamState, ram_bytes, ram_word, with_ram_tag, with_ram_word}
-use Rattle.turn_steps.specs.Feeds.{fed_after, fed_value}
+use Rattle.turn_steps.specs.Feeds.{Tape, fed_after, fed_value}
 use Rattle.turn_steps.specs.declared.effects.Done.{Done}
 use Rattle.turn_steps.specs.declared.effects.Done.TheVariants.{Broke, Exited, Stepped}
 use Rattle.turn_steps.specs.declared.look.Look.{Look}
@@ -27,7 +27,7 @@ pub record IsSound (bytes : ℕ) (effect : Effect) : Type 0 where
 pub record Carried (T : Type 0) : Type 0 where
   pub hart : HartState T
   pub ram : RamState T
-  pub feed : List ℕ
+  pub feed : Tape
   pub done : Done
 
 -- the hart and memory are those of a machine with that plain tag, and memory has so many bytes
@@ -60,17 +60,17 @@ with_store ram (access.Store addr width value) tag =
     with_ram_tag (with_ram_word ram addr (stored_in (ram_word ram addr) addr width value)) addr tag
 
 -- the instruction's own result, and the next pc
-abbrev pub hart_after : {T : Type 0} → HartState T → RamState T → Look T → Outs T → HartState T
+abbrev pub hart_after : {T : Type 0} → HartState T → RamState T → Look → Outs T → HartState T
 hart_after hart ram look outs =
-    moved_to (with_tagged hart look.result (result_value ram look.effect.value look.effect.access) outs.result) look.effect.next outs.pc
+    moved_to (with_tagged hart look.places.result (result_value ram look.effect.value look.effect.access) outs.result) look.effect.next outs.pc
 
 -- a0 takes the next byte of the feed, with the result's tag
-abbrev pub fed_hart : {T : Type 0} → HartState T → List ℕ → T → HartState T
-fed_hart hart feed tag = with_reg_tag (with_reg hart a0 (fed_value feed)) a0 tag
+abbrev pub fed_hart : {T : Type 0} → HartState T → Tape → T → HartState T
+fed_hart hart feed tag = with_reg_tag (with_reg hart a0 (fed_value feed.left)) a0 tag
 
 -- exit stops the hart where it stands, put gives the low byte of a0, get takes the next byte of the feed into a0, a break
 -- is told, and any other instruction steps and stores
-abbrev pub carried_by : {T : Type 0} → Group → HartState T → RamState T → List ℕ → Look T → Outs T → Carried T
+abbrev pub carried_by : {T : Type 0} → Group → HartState T → RamState T → Tape → Look → Outs T → Carried T
 carried_by group.Exit hart ram feed look outs =
     record { hart = hart; ram = ram; feed = feed; done = Exited (reg_value hart a0) }
 carried_by group.Put hart ram feed look outs =
@@ -83,5 +83,5 @@ carried_by _ hart ram feed look outs =
     record { hart = hart_after hart ram look outs; ram = with_store ram look.effect.access outs.result; feed = feed; done = Stepped None }
 
 -- what stands after the effect of a look
-unfoldable pub effect_result : {T : Type 0} → HartState T → RamState T → List ℕ → Look T → Outs T → Carried T
+unfoldable pub effect_result : {T : Type 0} → HartState T → RamState T → Tape → Look → Outs T → Carried T
 effect_result hart ram feed look outs = carried_by look.group hart ram feed look outs

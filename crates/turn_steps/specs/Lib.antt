@@ -3,3 +3,4 @@ pub mod Feeds
 pub mod Looks
 pub mod Maps
 pub mod Services
+pub mod Values

@@ -1,4 +1,4 @@
--- What a hart is about to do: the checks of a turn that no policy decides, in their order, and what a rule is asked with.
+-- What a hart is about to do: the checks of a turn that no policy decides, in their order, and what its rule is asked with.
 use Rattle.std.specs.Prelude.{ℕ, ◌/◌, Bool, true, false, Option, Some, None, Result, Ok, Err, slice_get}
 use Rattle.shared_terms.specs.Steps.{◌>>=◌}
 use Rattle.rv_decode.specs.Decoding.{instr_of_word}
@@ -57,7 +57,7 @@ access_tag ram plain access.None = plain
 access_tag ram plain (access.Load addr width signed) = ram_tag ram addr
 access_tag ram plain (access.Store addr width value) = ram_tag ram addr
 
--- the five tags that the rule is asked with
+-- the five tags that the rule of an instruction is asked with
 abbrev pub inputs_at : {T : Type 0} → HartState T → RamState T → Instr → Effect → Ins T
 inputs_at hart ram instr effect = record {
   pc = hart.pc_tag;
@@ -73,7 +73,7 @@ inputs_at hart ram instr effect = record {
 abbrev pub effect_on : {T : Type 0} → HartState T → Instr → Places → Effect
 effect_on hart instr places = effect_of instr hart.pc (reg_value hart places.first) (reg_value hart places.second)
 
--- the five tags
+-- the five tags that the rule is asked with
 abbrev pub inputs_on : {T : Type 0} → HartState T → RamState T → Places → Access → Ins T
 inputs_on hart ram places access = record {
   pc = hart.pc_tag;
@@ -84,24 +84,23 @@ inputs_on hart ram places access = record {
 }
 
 -- what the hart is about to do by an instruction that has no fault
-abbrev pub look_at : {T : Type 0} → HartState T → RamState T → ℕ → Instr → Effect → Look T
-look_at hart ram word instr effect = record {
+abbrev pub look_at : {T : Type 0} → HartState T → ℕ → Instr → Effect → Look
+look_at hart word instr effect = record {
   word = word;
   effect = effect;
   service = reg_value hart a7;
   group = group_of instr (reg_value hart a7);
-  result = (places_of instr (reg_value hart a7)).result;
-  inputs = inputs_at hart ram instr effect;
+  places = places_of instr (reg_value hart a7);
 }
 
 -- the checks of the effect, alignment and range of the access and then alignment of the jump, and what passes them
-abbrev pub checked_look : {T : Type 0} → HartState T → RamState T → ℕ → Instr → Result (Look T) Fault
+abbrev pub checked_look : {T : Type 0} → HartState T → RamState T → ℕ → Instr → Result Look Fault
 checked_look hart ram word instr = do
   effect ← effect_or_fault (effect_at hart instr) (first_fault (effect_at hart instr) (ram_bytes ram))
-  Ok (look_at hart ram word instr effect)
+  Ok (look_at hart word instr effect)
 
 -- Fetch, decode, checks, one behind the other: the first fault decides.
-unfoldable pub look_result : {T : Type 0} → HartState T → RamState T → Result (Look T) Fault
+unfoldable pub look_result : {T : Type 0} → HartState T → RamState T → Result Look Fault
 look_result hart ram = do
   word ← fetch_result hart ram
   instr ← read_instr word

@@ -36,7 +36,7 @@ pub fn carry_out<T: Copy>(
     hart: &mut Hart<T>,
     ram: &mut Ram<T>,
     feed: &mut Feed,
-    look: &Look<T>,
+    look: &Look,
     outs: Outs<T>,
 ) -> Done
     requires safe { IsSound (ram_bytes ram.old) look.now.effect }
@@ -73,12 +73,12 @@ pub fn carry_out<T: Copy>(
 
 /// The instruction's own result, and the next pc.
 #[inline(always)]
-fn step<T: Copy>(hart: &mut Hart<T>, ram: &Ram<T>, look: &Look<T>, outs: Outs<T>)
+fn step<T: Copy>(hart: &mut Hart<T>, ram: &Ram<T>, look: &Look, outs: Outs<T>)
     requires { IsSound (ram_bytes ram.now) look.now.effect }
     ensures { hart.new ≡ hart_after hart.old ram.now look.now outs }
 {
     let value = value_of(ram, look.effect.value, look.effect.access);
-    set_reg(hart, look.result, value, outs.result);
+    set_reg(hart, look.places.result, value, outs.result);
     go_on(hart, look, outs);
 }
 
@@ -123,7 +123,7 @@ fn take_byte<T: Copy>(hart: &mut Hart<T>, feed: &mut Feed, tag: T)
 
 /// The next pc and its tag.
 #[inline(always)]
-fn go_on<T: Copy>(hart: &mut Hart<T>, look: &Look<T>, outs: Outs<T>)
+fn go_on<T: Copy>(hart: &mut Hart<T>, look: &Look, outs: Outs<T>)
     requires { look.now.effect.next % 4 ≡ 0 }
     ensures { hart.new ≡ moved_to hart.old look.now.effect.next outs.pc }
 {

@@ -1,12 +1,12 @@
 //! The bytes that programs get.
 
-ghost use Rattle.std.specs.Prelude.{◌≡◌, ◌++◌, [], OnErr, OnOk};
-ghost use Rattle.turn_steps.specs.Feeds.{fed_after, first_fed};
+ghost use Rattle.std.specs.Prelude.{◌≡◌, [], OnErr, OnOk};
+ghost use Rattle.turn_steps.specs.Feeds.{fed_after, first_fed, tape_of, with_fed};
 
 use std::alloc::{AllocError, Global};
 use std::marker::Model;
 
-/// The bytes that a program can still get, the next one first. Contracts see it as a list of bytes.
+/// The bytes that programs get, the next one first: contracts see those that were read and those that are left.
 #[derive(Drop)]
 pub struct Feed {
     bytes: Vec<u8>,
@@ -14,11 +14,15 @@ pub struct Feed {
 }
 
 impl Model for Feed {
-    ghost use Rattle.std.specs.Prelude.{ℕ, ◌≤◌, List, drop, length};
+    ghost use Rattle.std.specs.Prelude.{◌≤◌, drop, length, take};
+    ghost use Rattle.turn_steps.specs.Feeds.{Tape};
 
-    ghost Value = { List ℕ };
+    ghost Value = { Tape };
 
-    ghost view = { λ f. drop f.place f.bytes.items };
+    ghost view = { λ f. record {
+      read = take f.place f.bytes.items;
+      left = drop f.place f.bytes.items;
+    } };
 
     ghost invariant = { λ f. f.place ≤ length f.bytes.items };
 }
@@ -26,7 +30,7 @@ impl Model for Feed {
 impl Feed {
     /// A feed with no byte.
     pub fn new(alloc: Global) -> Feed
-        ensures { result ≡ [] }
+        ensures { result ≡ tape_of [] }
     {
         Feed {
             bytes: Vec::new(alloc),
@@ -34,25 +38,25 @@ impl Feed {
         }
     }
 
-    /// A feed of these bytes, which takes no memory.
+    /// A feed of these bytes, of which none is read yet. It takes no memory.
     pub fn of(bytes: Vec<u8>) -> Feed
-        ensures { result ≡ bytes.items }
+        ensures { result ≡ tape_of bytes.items }
     {
         Feed { bytes, place: 0 }
     }
 
     /// Puts bytes behind those that are left. The only error is want of memory, which leaves the feed as it was.
     pub fn append(&mut self, bytes: &[u8]) -> Result<(), AllocError>
-        ensures ok { OnOk result (self.new ≡ self.old ++ bytes.now) }
+        ensures ok { OnOk result (self.new ≡ with_fed self.old bytes.now) }
         ensures err { OnErr result (self.new ≡ self.old) }
     {
         self.bytes.extend_from_slice(bytes)
     }
 
-    /// Takes the next byte, `None` where none is left.
+    /// Reads the next byte, `None` where none is left.
     pub fn next(&mut self) -> Option<u8>
-        ensures byte { result ≡ first_fed self.old }
-        ensures left { self.new ≡ fed_after self.old }
+        ensures byte { result ≡ first_fed self.old.left }
+        ensures tape { self.new ≡ fed_after self.old }
     {
         let byte = self.bytes.get(self.place).copied()?;
         self.place += 1;

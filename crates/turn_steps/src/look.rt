@@ -3,13 +3,13 @@
 ghost use Rattle.std.specs.Prelude.{◌≡◌};
 ghost use Rattle.turn_steps.specs.Looks.{is_call};
 
-use policy_trait::Ins;
-use rv_decode::{Group, Register};
+use rv_decode::{Group, Places};
 use rv_step::Effect;
 
-/// What a hart is about to do, once the checks have passed.
+/// What a hart is about to do, once the checks have passed. It has no tag: the rule is asked with those that stand at its
+/// places.
 #[derive(Clone, Copy)]
-pub struct Look<T> {
+pub struct Look {
     /// The word at the pc.
     pub word: u32,
     /// What its instruction computes, and its access.
@@ -18,10 +18,8 @@ pub struct Look<T> {
     pub service: u32,
     /// The operation group.
     pub group: Group,
-    /// The register of the result, x0 where it goes to memory or nowhere.
-    pub result: Register,
-    /// The five tags that the rule is asked with.
-    pub inputs: Ins<T>,
+    /// The registers of the operands and of the result, x0 for each that there is not.
+    pub places: Places,
 }
 
 /// Whether the group is that of an ECALL whose number is no service of the machine: a call of a policy's service.

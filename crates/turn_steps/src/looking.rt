@@ -1,5 +1,5 @@
 //! The checks of a turn that no policy decides, in three steps: fetch, decode, and the checks of the
-//! effect.
+//! effect; and the tags that the rule is asked with then.
 
 ghost use Rattle.std.specs.Prelude.{◌≡◌, ◌+◌, ◌%◌, ◌≤◌, IfOk, IsFalse, OnOk};
 ghost use Rattle.rv_step.specs.Accesses.{EndsWithin};
@@ -45,8 +45,7 @@ pub fn checked<T: Copy>(
     ram: &Ram<T>,
     word: u32,
     instr: &Instr,
-) -> Result<Look<T>, Fault>
-    requires { hart.now.pc + 4 ≤ ram_bytes ram.now }
+) -> Result<Look, Fault>
     ensures value { result ≡ checked_look hart.now ram.now word instr.now }
     ensures safe { IfOk result (λ look. IsSound (ram_bytes ram.now) look.effect) }
 {
@@ -60,8 +59,7 @@ pub fn checked<T: Copy>(
         effect,
         service,
         group,
-        result: places.result,
-        inputs: inputs_of(hart, ram, &places, effect.access),
+        places,
     })
 }
 
@@ -69,8 +67,9 @@ pub fn checked<T: Copy>(
 /// unprivileged ISA; the order is this project's profile).
 #[inline(always)]
 #[tactic(auto, unfolding(crate::specs::Looks::look_result))]
-pub fn look_ahead<T: Copy>(hart: &Hart<T>, ram: &Ram<T>) -> Result<Look<T>, Fault>
+pub fn look_ahead<T: Copy>(hart: &Hart<T>, ram: &Ram<T>) -> Result<Look, Fault>
     ensures value { result ≡ look_result hart.now ram.now }
+    ensures within { OnOk result (hart.now.pc + 4 ≤ ram_bytes ram.now) }
     ensures safe { IfOk result (λ look. IsSound (ram_bytes ram.now) look.effect) }
 {
     let word = fetch(hart, ram)?;
@@ -89,19 +88,20 @@ fn effect_of<T: Copy>(hart: &Hart<T>, instr: &Instr, places: &Places) -> Effect
     exec(instr, hart.pc(), first, second)
 }
 
-/// The five tags that the rule is asked with.
+/// The five tags that the rule is asked with, as hart and memory stand: of the pc, of the word there, of the two operands,
+/// and of the memory word that holds the access. The look is one of this hart, whose pc and access are in memory.
 #[inline(always)]
-fn inputs_of<T: Copy>(hart: &Hart<T>, ram: &Ram<T>, places: &Places, access: Access) -> Ins<T>
+pub fn inputs_of<T: Copy>(hart: &Hart<T>, ram: &Ram<T>, look: &Look) -> Ins<T>
     requires fetched { hart.now.pc + 4 ≤ ram_bytes ram.now }
-    requires in_memory { EndsWithin (ram_bytes ram.now) access }
-    ensures { result ≡ inputs_on hart.now ram.now places.now access }
+    requires in_memory { EndsWithin (ram_bytes ram.now) look.now.effect.access }
+    ensures { result ≡ inputs_on hart.now ram.now look.now.places look.now.effect.access }
 {
     Ins {
         pc: hart.pc_tag(),
         ci: ram.tag(hart.pc()),
-        t1: reg_tag(hart, places.first),
-        t2: reg_tag(hart, places.second),
-        tm: memory_tag(ram, hart.plain(), access),
+        t1: reg_tag(hart, look.places.first),
+        t2: reg_tag(hart, look.places.second),
+        tm: memory_tag(ram, hart.plain(), look.effect.access),
     }
 }
 

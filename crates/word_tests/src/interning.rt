@@ -14,7 +14,7 @@ enum Call {
 }
 
 /// The calls on a table for three tags, in order.
-const CALLS: [Call; 22] = [
+const CALLS: &[Call] = &[
     Call::Len(0),
     Call::WordOf(70, None),
     Call::Intern(70, Ok(0)),
@@ -44,7 +44,7 @@ const CALLS: [Call; 22] = [
 #[test]
 fn words_of_tags(rt: HostRuntime) -> Result<(), Fail> {
     let mut table: Interner<u32> = Interner::made(rt.alloc(), 3)?;
-    for (at, call) in CALLS.into_iter().enumerate() {
+    for (at, &call) in CALLS.iter().enumerate() {
         assert!(rt; answers_as_stated(&mut table, call), "call {at}");
     }
     Ok(())

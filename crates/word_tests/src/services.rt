@@ -29,7 +29,7 @@ struct Written {
     answer: Option<(u32, u32, Rest)>,
 }
 
-const ROWS: [Row; 8] = [
+const ROWS: &[Row] = &[
     // nothing is written
     Row {
         range: &[],
@@ -106,7 +106,7 @@ const ROWS: [Row; 8] = [
 
 /// Addresses of a memory of three words, and what a service sees there: the word and its tag. The last word of memory has
 /// a word for its tag that no tag has.
-const SEEN: [(u32, Option<(u32, u32)>); 4] = [
+const SEEN: &[(u32, Option<(u32, u32)>)] = &[
     (0, Some((11, 50))),
     (4, Some((12, 70))),
     (8, Some((13, 5))),
@@ -115,7 +115,7 @@ const SEEN: [(u32, Option<(u32, u32)>); 4] = [
 
 #[test]
 fn jobs_in_words(rt: HostRuntime) -> Result<(), Fail> {
-    for (at, row) in ROWS.into_iter().enumerate() {
+    for (at, &row) in ROWS.iter().enumerate() {
         let mut table = table_of(rt.alloc())?;
         let job = job_of(rt.alloc(), &row)?;
         let written = intern_job(rt.alloc(), &mut table, &job);
@@ -130,7 +130,7 @@ fn memory_of_words(rt: HostRuntime) -> Result<(), Fail> {
     let table = table_of(rt.alloc())?;
     let words = [11, 12, 13].to_vec(rt.alloc())?;
     let ram = Ram::from_parts(words, [1, 0, 2].to_vec(rt.alloc())?, 0);
-    for (address, seen) in SEEN {
+    for &(address, seen) in SEEN {
         assert_eq!(rt; seen_at(&ram, &table, address), seen, "at {address}");
     }
     Ok(())

@@ -9,7 +9,7 @@ use tag_text::{write_number, write_stop_line};
 use turn_steps::Stop;
 
 /// A fault, and the line of hart 1 stopped by it.
-const FAULTS: [(Fault, &[u8]); 9] = [
+const FAULTS: &[(Fault, &[u8])] = &[
     (Fault::Fetch(0x4), b"stop 1 fault fetch 00000004\n"),
     (Fault::Illegal(0x100F), b"stop 1 fault illegal 0000100F\n"),
     (Fault::LoadAlign(2), b"stop 1 fault loadalign 00000002\n"),
@@ -28,7 +28,7 @@ const FAULTS: [(Fault, &[u8]); 9] = [
 ];
 
 /// A policy, why it refused, and the line of hart 3 stopped at 0000001C.
-const REFUSALS: [(Part, Why, &[u8]); 10] = [
+const REFUSALS: &[(Part, Why, &[u8])] = &[
     (
         Part::Seal,
         Why::WrongKey,
@@ -82,7 +82,7 @@ const REFUSALS: [(Part, Why, &[u8]); 10] = [
 ];
 
 /// A group, and the line where its rule is refused at 89ABCDE0.
-const GROUPS: [(Group, &[u8]); 21] = [
+const GROUPS: &[(Group, &[u8])] = &[
     (
         Group::Const,
         b"stop 0 violation seal rule(const) pc 89ABCDE0\n",
@@ -165,14 +165,14 @@ fn exits_are_told(rt: HostRuntime) {
 
 #[test]
 fn faults_are_told(rt: HostRuntime) {
-    for (fault, wanted) in FAULTS {
+    for &(fault, wanted) in FAULTS {
         check_line(&rt, 1, Stop::Fault(fault), wanted);
     }
 }
 
 #[test]
 fn refusals_are_told(rt: HostRuntime) {
-    for (part, why, wanted) in REFUSALS {
+    for &(part, why, wanted) in REFUSALS {
         check_line(
             &rt,
             3,
@@ -184,7 +184,7 @@ fn refusals_are_told(rt: HostRuntime) {
             wanted,
         );
     }
-    for (group, wanted) in GROUPS {
+    for &(group, wanted) in GROUPS {
         let (part, why) = (Part::Seal, Why::Rule(group));
         check_line(
             &rt,

@@ -1,4 +1,4 @@
-use Rattle.part_turns.proofs.MachineLemmas.{seen_sound}
+use Rattle.part_turns.proofs.MachineLemmas.{seen_sound, words_stay}
 use Rattle.part_turns.proofs.TurnLemmas.{turn_shown}
 use Rattle.part_turns.proofs.law.turn_law.Goals as goal
 
@@ -12,3 +12,6 @@ returns-clause-on g c l s feed h part on =
 
 pub returns-clause-sound : goal.returns-clause-sound
 returns-clause-sound g c l s part on is = seen_sound g.P.Policy.model g.Q.Policy.model l part s on is
+
+pub returns-clause-words : goal.returns-clause-words
+returns-clause-words g c l s feed h is valid = words_stay g.P.Policy.model l g.P.Policy.holds g.met.P.Policy.lawful s is valid feed h

@@ -6,6 +6,7 @@ use Rattle.pump_cli.proofs.CauseLemmas.{out_run, spent_run}
 use Rattle.pump_cli.proofs.ListLemmas.{listed_back}
 use Rattle.pump_cli.proofs.LoadLemmas.{load_due}
 use Rattle.pump_cli.proofs.SafeRunLemmas.{safe_runs}
+use Rattle.pump_cli.proofs.SessionRunLemmas.{session_told}
 use Rattle.pump_cli.proofs.program.pump.Goals as goal
 
 pub returns-in-Ok-clause-safe : goal.returns-in-Ok-clause-safe
@@ -19,6 +20,12 @@ returns-in-Ok-clause-safe_here g c = safe_runs (texts_of c.args.words.now.items)
 
 pub returns-in-Err-clause-safe_here : goal.returns-in-Err-clause-safe_here
 returns-in-Err-clause-safe_here g c = safe_runs (texts_of c.args.words.now.items) _ _ (g.met.F.Files.tells_bytes c.args.files.now)
+
+pub returns-in-Ok-clause-replies : goal.returns-in-Ok-clause-replies
+returns-in-Ok-clause-replies g c = session_told (texts_of c.args.words.now.items)
+
+pub returns-in-Err-clause-replies : goal.returns-in-Err-clause-replies
+returns-in-Err-clause-replies g c = session_told (texts_of c.args.words.now.items)
 
 pub returns-in-Ok-clause-loads : goal.returns-in-Ok-clause-loads
 returns-in-Ok-clause-loads g c task is = load_due (texts_of c.args.words.now.items) _ _ task is

@@ -1,6 +1,6 @@
 use Rattle.std.proofs.Common.{rules, ◌≡◌, ◌∙◌}
-use Rattle.turn_steps.specs.Looks.{effect_at, inputs_at}
-use Rattle.turn_steps.proofs.PlaceLemmas.{effect_is, inputs_are}
+use Rattle.turn_steps.specs.Looks.{effect_at}
+use Rattle.turn_steps.proofs.PlaceLemmas.{effect_is}
 use Rattle.turn_steps.proofs.looking.checked.Goals as goal
 
 pub returns-in_err-check-clause-value : goal.returns-in_err-check-clause-value
@@ -13,6 +13,4 @@ pub returns-clause-value : goal.returns-clause-value
 returns-clause-value g c =
     let effect : c.effect_of-effect.result ≡ effect_at c.args.hart.now c.args.instr.now =
     c.effect_of-effect.ensures.value ∙ effect_is c.args.hart.now c.args.instr.now c.places-places.result c.reg-service.result c.places-places.ensures in
-    let inputs : c.inputs_of.result ≡ inputs_at c.args.hart.now c.args.ram.now c.args.instr.now c.effect_of-effect.result =
-    c.inputs_of.ensures ∙ inputs_are c.args.hart.now c.args.ram.now c.args.instr.now c.places-places.result c.reg-service.result c.effect_of-effect.result c.places-places.ensures in
     search rules

@@ -1,7 +1,7 @@
 use Rattle.std.proofs.Common.{◌<◌, length, sym, subst}
 use Rattle.tag_memory.specs.Ram.{ram_bytes}
 use Rattle.turn_steps.specs.Effects.{IsSound}
-use Rattle.miss_handler.specs.Asked.{AreInWords, AreOutWords}
+use Rattle.miss_handler.specs.Asked.{AreOutWords}
 use Rattle.pump_engine.proofs.StayLemmas.{pump_at, pump_effected}
 use Rattle.pump_engine.proofs.pump.Pump.effect.Goals as goal
 use Rattle.pump_engine.specs.Pump.{PumpState, pump_of}
@@ -13,11 +13,10 @@ invariant_of-self g c =
     pump_of c.self.inside.policy c.self.inside.core (g.T.TagTable.state c.self.inside.tags) (g.C.RuleStore.state c.self.inside.store) c.self.inside.turns c.self.inside.halt in
     let there = subst (λ (q : PumpState g.row.P.Denot g.row.P-Tag.Denot). c.args.h < length q.core.harts) (sym c.self.view_is) c.requires.hart in
     let sound = subst (λ (q : PumpState g.row.P.Denot g.row.P-Tag.Denot). IsSound (ram_bytes q.core.ram) c.args.look.now.effect) (sym c.self.view_is) c.requires.sound in
-    let inputs = subst (λ (q : PumpState g.row.P.Denot g.row.P-Tag.Denot). AreInWords (length q.table.tags) c.args.look.now.inputs) (sym c.self.view_is) c.requires.in_words in
     let outputs = subst (λ (q : PumpState g.row.P.Denot g.row.P-Tag.Denot). AreOutWords (length q.table.tags) c.args.outs) (sym c.self.view_is) c.requires.out_words in
     record {
       pump = pump_at g.P.Policy.model (after_effect p c.args.feed.now c.args.h c.args.look.now c.args.outs)
-          (pump_effected g.P.Policy.model p c.self.invariant.pump c.args.feed.now c.args.h c.args.look.now c.args.outs there sound inputs outputs)
+          (pump_effected g.P.Policy.model p c.self.invariant.pump c.args.feed.now c.args.h c.args.look.now c.args.outs there sound outputs)
           c.effect-end.new.self c.effect-end.ensures.core c.saturating_add-self-inside.result c.self.inside.halt;
       masks_are = c.self.invariant.masks_are;
     }

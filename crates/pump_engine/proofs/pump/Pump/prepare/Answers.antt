@@ -1,10 +1,23 @@
-use Rattle.std.proofs.Common.{length, sym, ◌∙◌, subst}
-use Rattle.miss_handler.specs.Asked.{AreInWords}
+use Rattle.std.proofs.Common.{true, false, Err, ap, sym, ◌∙◌}
+use Rattle.turn_steps.specs.Looks.{look_result}
+use Rattle.engine_trait.specs.Machine.{hart_at}
 use Rattle.pump_engine.specs.Pump.{PumpState}
-use Rattle.pump_engine.proofs.LowLemmas.{low_look}
+use Rattle.pump_engine.proofs.CountLemmas.{offered_by_words, prepared_by_words}
 use Rattle.pump_engine.proofs.pump.Pump.prepare.Goals as goal
 
-pub returns-clause-in_words : goal.returns-clause-in_words
-returns-clause-in_words g c =
-    subst (λ (p : PumpState g.row.P.Denot g.row.P-Tag.Denot). AreInWords (length p.table.tags) c.in-Ok.look.inputs) c.self.view_is
-    (low_look (length (g.T.TagTable.state c.self.inside.tags).tags) c.self.inside.core c.self.invariant.pump.words c.args.h c.in-Ok.look (sym c.look.ensures.value ∙ c.in-Ok.is))
+pub returns-in-Err-clause-value : goal.returns-in-Err-clause-value
+returns-in-Err-clause-value g c =
+    sym (prepared_by_words g.P.Policy.model c.args.self.now c.args.h (Err c.in-Err.fault)
+    (ap (λ (q : PumpState g.row.P.Denot g.row.P-Tag.Denot). look_result (hart_at q.core c.args.h) q.core.ram) (sym c.self.view_is) ∙ sym c.look.ensures.value ∙ c.in-Err.is))
+
+pub returns-then-not-is_offered-clause-value : goal.returns-then-not-is_offered-clause-value
+returns-then-not-is_offered-clause-value g c =
+    sym (offered_by_words g.P.Policy.model c.args.self.now c.args.h c.in-Ok.look false
+    (ap (λ (q : PumpState g.row.P.Denot g.row.P-Tag.Denot). look_result (hart_at q.core c.args.h) q.core.ram) (sym c.self.view_is) ∙ sym c.look.ensures.value ∙ c.in-Ok.is)
+    (sym c.is_offered.ensures ∙ c.if-not-is_offered.true))
+
+pub returns-clause-value : goal.returns-clause-value
+returns-clause-value g c =
+    sym (offered_by_words g.P.Policy.model c.args.self.now c.args.h c.in-Ok.look true
+    (ap (λ (q : PumpState g.row.P.Denot g.row.P-Tag.Denot). look_result (hart_at q.core c.args.h) q.core.ram) (sym c.self.view_is) ∙ sym c.look.ensures.value ∙ c.in-Ok.is)
+    (sym c.is_offered.ensures ∙ c.if-not-is_offered.false))
