@@ -48,7 +48,7 @@
 # err: stop 0 exit 0\n
 # status: 0
 #
-# Under the policy it is stopped at its first word, which is no code: a word outside the code ranges is never obeyed.
+# Under the policy it is stopped at its first word, which is no code: a word outside the code ranges is never executed.
 #
 # run: ./pump run examples/hijack.img --policy flow
 # input: AAAA\xC0\x00\x00\x00\x03\x25\x40\x07\x67\x00\x00\x02\n

@@ -69,21 +69,21 @@ line_edges draft place (additions.Compartment protection) = sym (append-nil draf
 
 -- ---- all lines
 
-lists_append : (lists : WordLists) (front back : List Word) → lists_of lists (front ++ back) ≡ lists_of (lists_of lists front) back
+lists_append : (lists : WordLists) (prefix back : List Word) → lists_of lists (prefix ++ back) ≡ lists_of (lists_of lists prefix) back
 unfolding lists_of
 lists_append lists [] back = refl
-lists_append lists (word ∷ front) back = lists_append (with_next_word lists word) front back
+lists_append lists (word ∷ prefix) back = lists_append (with_next_word lists word) prefix back
 
 all_lists : (draft : Draft) (all : List (ℕ × Addition)) → lists_in (with_additions draft all) ≡ lists_of (lists_in draft) (words_of_additions draft.marks all)
 unfolding lists_of words_of_additions
 all_lists draft [] = refl
 all_lists draft (first ∷ more) =
     let next = with_addition draft first.0 first.1 in
-    let front = marked_words draft.marks first.0 (words_in first.1) in
-    let here : lists_of (lists_in next) (words_of_additions next.marks more) ≡ lists_of (lists_of (lists_in draft) front) (words_of_additions (marks_behind draft.marks first.1) more) =
+    let prefix = marked_words draft.marks first.0 (words_in first.1) in
+    let here : lists_of (lists_in next) (words_of_additions next.marks more) ≡ lists_of (lists_of (lists_in draft) prefix) (words_of_additions (marks_behind draft.marks first.1) more) =
     ap (λ (lists : WordLists). lists_of lists (words_of_additions next.marks more)) (line_lists draft first.0 first.1)
-    ∙ ap (λ (marks : Marks). lists_of (lists_of (lists_in draft) front) (words_of_additions marks more)) (line_marks draft first.0 first.1) in
-    all_lists next more ∙ here ∙ sym (lists_append (lists_in draft) front (words_of_additions (marks_behind draft.marks first.1) more))
+    ∙ ap (λ (marks : Marks). lists_of (lists_of (lists_in draft) prefix) (words_of_additions marks more)) (line_marks draft first.0 first.1) in
+    all_lists next more ∙ here ∙ sym (lists_append (lists_in draft) prefix (words_of_additions (marks_behind draft.marks first.1) more))
 
 all_edges : (draft : Draft) (all : List (ℕ × Addition)) → (with_additions draft all).edges ≡ draft.edges ++ edges_of all
 unfolding edges_of

@@ -97,8 +97,8 @@ first_place ram before place [] r inside is = let none : [] ≡ r.0 = ap places_
 first_place ram before place (line ∷ lines) r inside is =
     let behind = passes (at_line line.number (next_place ram before place line)) _ r is in
     let others = passes (places_from ram (before ++ line ∷ []) behind.value lines) _ r behind.rest in
-    let front : place ∷ others.value.0 ≡ r.0 = ap places_or_none others.rest in
-    subst (λ (ps : List ℕ). place ≤ place_or ram ps) front (omega arith)
+    let prefix : place ∷ others.value.0 ≡ r.0 = ap places_or_none others.rest in
+    subst (λ (ps : List ℕ). place ≤ place_or ram ps) prefix (omega arith)
 
 all_placed : (ram : ℕ) (before : List Line) (place : ℕ) (lines : List Line) (r : List ℕ × ℕ) → place % 4 ≡ 0 → places_from ram before place lines ≡ Ok r → ArePlaced ram lines r.0
 unfolding places_from
@@ -111,10 +111,10 @@ all_placed ram before place (line ∷ lines) r aligned is =
     let behind = passes (at_line line.number (next_place ram before place line)) _ r is in
     let b = line_behind ram place behind.value before line aligned (of_line line.number (next_place ram before place line) behind.value behind.first) in
     let others = passes (places_from ram (before ++ line ∷ []) behind.value lines) _ r behind.rest in
-    let front : place ∷ others.value.0 ≡ r.0 = ap places_or_none others.rest in
+    let prefix : place ∷ others.value.0 ≡ r.0 = ap places_or_none others.rest in
     let first = first_place ram (before ++ line ∷ []) behind.value lines others.value b.inside others.first in
     let more = all_placed ram (before ++ line ∷ []) behind.value lines others.value b.aligned others.first in
-    subst (λ (ps : List ℕ). ArePlaced ram (line ∷ lines) ps) front (aligned, omega (arith, b.words, first), more)
+    subst (λ (ps : List ℕ). ArePlaced ram (line ∷ lines) ps) prefix (aligned, omega (arith, b.words, first), more)
 
 -- the lines of a layout stand at its places
 pub are_placed : (lines : List Line) (layout : Layout) → layout_of lines ≡ Ok layout → ArePlaced layout.ram lines layout.places

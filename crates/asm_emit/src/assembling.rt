@@ -68,7 +68,7 @@ fn builder_of<'a>(
 
 /// The image of what was built, for so many bytes of RAM.
 ///
-/// Want of memory is an error, and so are more than 2^32 - 1 edges, which no image can hold.
+/// Running out of memory is an error, and so are more than 2^32 - 1 edges, which no image can hold.
 fn image_of(alloc: Global, ram: u32, builder: Builder) -> Result<Image, AllocError>
     requires harts { IsTrue (is_harts (length builder.entries.items)) }
     requires ram { IsTrue (is_ram ram) }

@@ -32,7 +32,7 @@ pub(crate) struct Builder {
 impl Builder {
     /// No heap region, and each hart starts at 0.
     ///
-    /// Only want of memory is an error.
+    /// Only running out of memory is an error.
     pub fn new(alloc: Global, harts: u32) -> Result<Builder, AllocError>
         ensures { IfOk result (λ builder. draft_of builder ≡ empty_draft harts) }
     {
@@ -52,7 +52,7 @@ impl Builder {
 
     /// Puts a word at an address behind those before it, with its marks.
     ///
-    /// Only want of memory is an error.
+    /// Only running out of memory is an error.
     fn put_word(&mut self, address: u32, word: u32) -> Result<(), AllocError>
         ensures { OnOk result (draft_of self.new ≡ with_marked (draft_of self.old) address word) }
     {
@@ -66,7 +66,7 @@ impl Builder {
 
     /// Puts that many words of 0 from an address on.
     ///
-    /// Only want of memory is an error.
+    /// Only running out of memory is an error.
     #[tactic(auto, using(crate::proofs::DraftLemmas::zero_put, crate::proofs::DraftLemmas::zeros_done))]
     fn put_zeros(&mut self, place: u32, count: u64) -> Result<(), AllocError>
         requires { place + 4 * count < 2 ^ 32 }
@@ -83,7 +83,7 @@ impl Builder {
 
     /// Puts the words of a statement from an address on.
     ///
-    /// Only want of memory is an error.
+    /// Only running out of memory is an error.
     #[tactic(auto, unfolding(crate::specs::Draft::with_words))]
     fn put_words(&mut self, place: u32, emission: Emission) -> Result<(), AllocError>
         requires { place + 4 * length (words_of emission) < 2 ^ 32 }
@@ -103,7 +103,7 @@ impl Builder {
 
     /// Adds what a line at a place adds.
     ///
-    /// Only want of memory is an error.
+    /// Only running out of memory is an error.
     #[tactic(auto, unfolding(crate::specs::Draft::with_addition))]
     pub fn add(&mut self, place: u32, addition: Addition) -> Result<(), AllocError>
         requires { HasRoom (length self.old.entries.items) place addition }

@@ -2,7 +2,7 @@
 
 /// Who owns words, a compartment from 0 to 31. Bit i of `into` lets compartment i jump to them, and bit i of `write` lets it
 /// write them.
-#[derive(Clone, Copy, Debug, PartialEq, Eq)]
+#[derive(Clone, Copy, PartialEq, Eq)]
 pub struct Protection {
     pub owner: u32,
     pub into: u32,
@@ -19,7 +19,7 @@ impl Protection {
 }
 
 /// The marks of the next word.
-#[derive(Clone, Copy, Debug)]
+#[derive(Clone, Copy)]
 pub struct Marks {
     /// Whether it is code.
     pub is_code: bool,

@@ -84,7 +84,7 @@ fn one_word(address: u32) -> WordRange
 
 /// Appends the next word.
 ///
-/// Only want of memory is an error.
+/// Only running out of memory is an error.
 fn put_run<R: Run>(runs: &mut Vec<R>, next: R) -> Result<(), AllocError>
     ensures { OnOk result (runs.new.items ≡ with_run R.joins runs.old.items next) }
 {
@@ -107,7 +107,7 @@ fn put_run<R: Run>(runs: &mut Vec<R>, next: R) -> Result<(), AllocError>
 
 /// Appends the word at an address, where it is code.
 ///
-/// Only want of memory is an error.
+/// Only running out of memory is an error.
 pub(crate) fn put_code(
     code: &mut Vec<WordRange>,
     is_code: bool,
@@ -123,7 +123,7 @@ pub(crate) fn put_code(
 
 /// Appends the word at an address, where it is protected.
 ///
-/// Only want of memory is an error.
+/// Only running out of memory is an error.
 pub(crate) fn put_protected(
     rows: &mut Vec<CompartmentRange>,
     protection: Protection,
@@ -139,7 +139,7 @@ pub(crate) fn put_protected(
 
 /// Appends the label of the word at an address, where it has one.
 ///
-/// Only want of memory is an error.
+/// Only running out of memory is an error.
 pub(crate) fn put_label(
     labels: &mut Vec<Label>,
     label: Option<u32>,

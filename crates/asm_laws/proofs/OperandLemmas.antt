@@ -61,9 +61,9 @@ place_piece offset base first second = record {
   solid = joined is_solid offset (40 ∷ (base ++ 41 ∷ [])) first.solid (joined is_solid base (41 ∷ []) second.solid refl);
 }
   where
-    filled_joined : (front text : Text) → is_filled front ≡ true → is_filled (front ++ text) ≡ true
+    filled_joined : (prefix text : Text) → is_filled prefix ≡ true → is_filled (prefix ++ text) ≡ true
     filled_joined [] text e = absurd cc
-    filled_joined (b ∷ front) text e = refl
+    filled_joined (b ∷ prefix) text e = refl
 
 -- ---- a line
 

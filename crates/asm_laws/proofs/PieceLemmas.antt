@@ -49,8 +49,8 @@ weaken p q each [] all = refl
 weaken p q each (b ∷ text) all =
     and_from (q b) (list_all q text) (each b (and_parts (p b) (list_all p text) all).0) (weaken p q each text (and_parts (p b) (list_all p text) all).1)
 
-pub joined : (p : ℕ → Bool) (front text : Text) → list_all p front ≡ true → list_all p text ≡ true → list_all p (front ++ text) ≡ true
-joined p front text x y = list_all-append p front text ∙ and_from (list_all p front) (list_all p text) x y
+pub joined : (p : ℕ → Bool) (prefix text : Text) → list_all p prefix ≡ true → list_all p text ≡ true → list_all p (prefix ++ text) ≡ true
+joined p prefix text x y = list_all-append p prefix text ∙ and_from (list_all p prefix) (list_all p text) x y
 
 abbrev pub is_filled : Text → Bool
 is_filled [] = false
@@ -139,17 +139,17 @@ ends [] = false
 ends (b ∷ []) = not (is_blank b)
 ends (b ∷ c ∷ text) = ends (c ∷ text)
 
-pub starts_joined : (front text : Text) → starts front ≡ true → starts (front ++ text) ≡ true
+pub starts_joined : (prefix text : Text) → starts prefix ≡ true → starts (prefix ++ text) ≡ true
 starts_joined [] text e = absurd cc
-starts_joined (b ∷ front) text e = e
+starts_joined (b ∷ prefix) text e = e
 
 pub ends_after : (b : ℕ) (text : Text) → ends text ≡ true → ends (b ∷ text) ≡ true
 ends_after b [] e = absurd cc
 ends_after b (c ∷ text) e = e
 
-pub ends_joined : (front text : Text) → ends text ≡ true → ends (front ++ text) ≡ true
+pub ends_joined : (prefix text : Text) → ends text ≡ true → ends (prefix ++ text) ≡ true
 ends_joined [] text e = e
-ends_joined (b ∷ front) text e = ends_after b (front ++ text) (ends_joined front text e)
+ends_joined (b ∷ prefix) text e = ends_after b (prefix ++ text) (ends_joined prefix text e)
 
 pub starts_piece : (text : Text) → Piece text → starts text ≡ true
 starts_piece [] piece = let no : false ≡ true = piece.filled in absurd cc
@@ -169,15 +169,15 @@ starts_reversed (b ∷ []) e = e
 starts_reversed (b ∷ c ∷ text) e =
     ap starts (reverse-append (b ∷ []) (c ∷ text)) ∙ starts_joined (reverse (c ∷ text)) (b ∷ []) (starts_reversed (c ∷ text) e)
 
-front_kept : (text : Text) → starts text ≡ true → without_front text ≡ text
-front_kept [] e = refl
-front_kept (b ∷ text) e = let here : is_blank b ≡ false = not-true (is_blank b) e in rw here refl
+prefix_kept : (text : Text) → starts text ≡ true → without_front text ≡ text
+prefix_kept [] e = refl
+prefix_kept (b ∷ text) e = let here : is_blank b ≡ false = not-true (is_blank b) e in rw here refl
 
 end_kept : (text : Text) → ends text ≡ true → without_end text ≡ text
-end_kept text e = ap (λ (t : Text). reverse t) (front_kept (reverse text) (starts_reversed text e)) ∙ reverse-reverse text
+end_kept text e = ap (λ (t : Text). reverse t) (prefix_kept (reverse text) (starts_reversed text e)) ∙ reverse-reverse text
 
 pub trimmed_is : (text : Text) → starts text ≡ true → ends text ≡ true → without_blanks text ≡ text
-trimmed_is text start end = ap (λ (t : Text). without_end t) (front_kept text start) ∙ end_kept text end
+trimmed_is text start end = ap (λ (t : Text). without_end t) (prefix_kept text start) ∙ end_kept text end
 
 -- behind a space
 pub trimmed_piece : (text : Text) → Piece text → without_blanks (32 ∷ text) ≡ text

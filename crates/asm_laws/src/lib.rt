@@ -1,5 +1,5 @@
 //! What holds of the texts of words and of assembler source together: a word that is shown can be read back.
-//! The function does nothing; its contract is a law for callers that reason about texts.
+//! Its contract is a law for callers that reason about texts.
 #![tactic(auto)]
 
 ghost use Rattle.std.specs.Prelude.{ℕ, ◌^◌, ◌<◌};

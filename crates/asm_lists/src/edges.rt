@@ -9,7 +9,7 @@ use std::alloc::{AllocError, Global};
 
 /// The edges of an image, from pairs of a source and a target in any order: each once, by source and then by target.
 ///
-/// Only want of memory is an error.
+/// Only running out of memory is an error.
 #[tactic(auto, using(crate::proofs::EdgeLemmas::one_more))]
 pub fn sorted_edges(alloc: Global, mut pairs: Vec<(u32, u32)>) -> Result<Vec<Edge>, AllocError>
     ensures rows { IfOk result (λ edges. AreEdgeRows edges.items) }

@@ -45,7 +45,7 @@ impl<'a> Names<'a> {
 
     /// Gives a name its place, instead of the one that it had.
     ///
-    /// Only want of memory is an error, and leaves the names as they were.
+    /// Only running out of memory is an error, and leaves the names as they were.
     pub fn give(&mut self, name: &'a [u8], place: u32) -> Result<(), AllocError>
         ensures ok { OnOk result (self.new ≡ map.insert self.old name.now place) }
         ensures err { OnErr result (self.new ≡ self.old) }

@@ -20,58 +20,58 @@ use Rattle.asm_places.proofs.SizeLemmas.{refused}
 -- ---- all lines
 
 -- what was placed before, and what is still placed
-abbrev pub with_front : List ℕ → Result (List ℕ × ℕ) AsmError → Result (List ℕ × ℕ) AsmError
-with_front front (Ok placed) = Ok (front ++ placed.0, placed.1)
-with_front front (Err error) = Err error
+abbrev pub with_prefix : List ℕ → Result (List ℕ × ℕ) AsmError → Result (List ℕ × ℕ) AsmError
+with_prefix prefix (Ok placed) = Ok (prefix ++ placed.0, placed.1)
+with_prefix prefix (Err error) = Err error
 
-regroup : (front : List ℕ) (place : ℕ) (placed : Result (List ℕ × ℕ) AsmError)
-    → with_front front (placed >>= λ others. Ok (place ∷ others.0, others.1)) ≡ with_front (front ++ place ∷ []) placed
-regroup front place (Ok others) = ap (λ (all : List ℕ). Ok (all, others.1)) (sym (append_assoc front (place ∷ []) others.0))
-regroup front place (Err error) = refl
+regroup : (prefix : List ℕ) (place : ℕ) (placed : Result (List ℕ × ℕ) AsmError)
+    → with_prefix prefix (placed >>= λ others. Ok (place ∷ others.0, others.1)) ≡ with_prefix (prefix ++ place ∷ []) placed
+regroup prefix place (Ok others) = ap (λ (all : List ℕ). Ok (all, others.1)) (sym (append_assoc prefix (place ∷ []) others.0))
+regroup prefix place (Err error) = refl
 
 -- nothing is placed yet
-pub starts : (total : Result (List ℕ × ℕ) AsmError) → with_front [] total ≡ total
+pub starts : (total : Result (List ℕ × ℕ) AsmError) → with_prefix [] total ≡ total
 starts (Ok placed) = refl
 starts (Err error) = refl
 
-one : (front : List ℕ) (ram place behind : ℕ) (before more : List Line) (line : Line) → at_line line.number (next_place ram before place line) ≡ Ok behind
-    → with_front front (places_from ram before place (line ∷ more)) ≡ with_front (front ++ place ∷ []) (places_from ram (before ++ line ∷ []) behind more)
+one : (prefix : List ℕ) (ram place behind : ℕ) (before more : List Line) (line : Line) → at_line line.number (next_place ram before place line) ≡ Ok behind
+    → with_prefix prefix (places_from ram before place (line ∷ more)) ≡ with_prefix (prefix ++ place ∷ []) (places_from ram (before ++ line ∷ []) behind more)
 unfolding places_from
-one front ram place behind before more line is = rw is (regroup front place (places_from ram (before ++ line ∷ []) behind more))
+one prefix ram place behind before more line is = rw is (regroup prefix place (places_from ram (before ++ line ∷ []) behind more))
 
 -- the lines up to the next
 pub take_line : (lines : List Line) (i : ℕ) (line : Line) → i < length lines → line ≡ get_or lines i line → take (i + 1) lines ≡ take i lines ++ line ∷ []
 take_line lines i line below is = take_more lines i line below ∙ ap (λ (l : Line). take i lines ++ l ∷ []) (sym is)
 
 -- a line was placed: the loop goes on behind it
-pub goes_on : (front : List ℕ) (ram place behind : ℕ) (lines : List Line) (i : ℕ) (line : Line) (total : Result (List ℕ × ℕ) AsmError) → i < length lines → line ≡ get_or lines i line
-    → at_line line.number (next_place ram (take i lines) place line) ≡ Ok behind → with_front front (places_from ram (take i lines) place (drop i lines)) ≡ total
-    → with_front (front ++ place ∷ []) (places_from ram (take (i + 1) lines) behind (drop (i + 1) lines)) ≡ total
-goes_on front ram place behind lines i line total below is placed so_far =
+pub goes_on : (prefix : List ℕ) (ram place behind : ℕ) (lines : List Line) (i : ℕ) (line : Line) (total : Result (List ℕ × ℕ) AsmError) → i < length lines → line ≡ get_or lines i line
+    → at_line line.number (next_place ram (take i lines) place line) ≡ Ok behind → with_prefix prefix (places_from ram (take i lines) place (drop i lines)) ≡ total
+    → with_prefix (prefix ++ place ∷ []) (places_from ram (take (i + 1) lines) behind (drop (i + 1) lines)) ≡ total
+goes_on prefix ram place behind lines i line total below is placed so_far =
     let here : drop i lines ≡ line ∷ drop (i + 1) lines = drop_more lines i line below ∙ ap (λ (l : Line). l ∷ drop (i + 1) lines) (sym is) in
-    ap (λ before. with_front (front ++ place ∷ []) (places_from ram before behind (drop (i + 1) lines))) (take_line lines i line below is)
-    ∙ sym (ap (λ left. with_front front (places_from ram (take i lines) place left)) here ∙ one front ram place behind (take i lines) (drop (i + 1) lines) line placed)
+    ap (λ before. with_prefix (prefix ++ place ∷ []) (places_from ram before behind (drop (i + 1) lines))) (take_line lines i line below is)
+    ∙ sym (ap (λ left. with_prefix prefix (places_from ram (take i lines) place left)) here ∙ one prefix ram place behind (take i lines) (drop (i + 1) lines) line placed)
     ∙ so_far
 
-stop : (error : AsmError) (front : List ℕ) (ram place : ℕ) (before more : List Line) (line : Line) → at_line line.number (next_place ram before place line) ≡ Err error
-    → with_front front (places_from ram before place (line ∷ more)) ≡ Err error
+stop : (error : AsmError) (prefix : List ℕ) (ram place : ℕ) (before more : List Line) (line : Line) → at_line line.number (next_place ram before place line) ≡ Err error
+    → with_prefix prefix (places_from ram before place (line ∷ more)) ≡ Err error
 unfolding places_from
-stop error front ram place before more line is = rw is refl
+stop error prefix ram place before more line is = rw is refl
 
 -- a line was refused, and so is the whole
-pub stops : (error : AsmError) (front : List ℕ) (ram place : ℕ) (lines : List Line) (i : ℕ) (line : Line) (total : Result (List ℕ × ℕ) AsmError) → i < length lines → line ≡ get_or lines i line
-    → at_line line.number (next_place ram (take i lines) place line) ≡ Err error → with_front front (places_from ram (take i lines) place (drop i lines)) ≡ total
+pub stops : (error : AsmError) (prefix : List ℕ) (ram place : ℕ) (lines : List Line) (i : ℕ) (line : Line) (total : Result (List ℕ × ℕ) AsmError) → i < length lines → line ≡ get_or lines i line
+    → at_line line.number (next_place ram (take i lines) place line) ≡ Err error → with_prefix prefix (places_from ram (take i lines) place (drop i lines)) ≡ total
     → total ≡ Err error
-stops error front ram place lines i line total below is placed so_far =
+stops error prefix ram place lines i line total below is placed so_far =
     let here : drop i lines ≡ line ∷ drop (i + 1) lines = drop_more lines i line below ∙ ap (λ (l : Line). l ∷ drop (i + 1) lines) (sym is) in
-    sym so_far ∙ ap (λ left. with_front front (places_from ram (take i lines) place left)) here ∙ stop error front ram place (take i lines) (drop (i + 1) lines) line placed
+    sym so_far ∙ ap (λ left. with_prefix prefix (places_from ram (take i lines) place left)) here ∙ stop error prefix ram place (take i lines) (drop (i + 1) lines) line placed
 
 -- no line is left
-pub is_done : (front : List ℕ) (ram place : ℕ) (lines : List Line) (i : ℕ) (total : Result (List ℕ × ℕ) AsmError) → length lines ≤ i
-    → with_front front (places_from ram (take i lines) place (drop i lines)) ≡ total → total ≡ Ok (front, place)
+pub is_done : (prefix : List ℕ) (ram place : ℕ) (lines : List Line) (i : ℕ) (total : Result (List ℕ × ℕ) AsmError) → length lines ≤ i
+    → with_prefix prefix (places_from ram (take i lines) place (drop i lines)) ≡ total → total ≡ Ok (prefix, place)
 unfolding places_from
-is_done front ram place lines i total all so_far =
-    sym so_far ∙ at_drop_all (λ left. with_front front (places_from ram (take i lines) place left)) lines i all ∙ ap (λ (places : List ℕ). Ok (places, place)) (append-nil front)
+is_done prefix ram place lines i total all so_far =
+    sym so_far ∙ at_drop_all (λ left. with_prefix prefix (places_from ram (take i lines) place left)) lines i all ∙ ap (λ (places : List ℕ). Ok (places, place)) (append-nil prefix)
 
 -- ---- what is reached
 

@@ -13,7 +13,7 @@ use asm_read::{AsmEnd, Line};
 use std::alloc::Global;
 
 /// The sizes that a source asks for, and where its lines lie.
-#[derive(Debug, Drop)]
+#[derive(Drop)]
 pub struct Layout {
     /// How many harts there are: 1 to 8.
     pub harts: u32,

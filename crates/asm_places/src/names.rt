@@ -24,7 +24,7 @@ fn next_word(statement: &Option<Statement<'_>>, place: u32, behind: u32) -> u32
 /// The names of the lines, each with the place of the next word that is emitted at its line or behind it, also where an `.org`
 /// comes between, or with the place at the end where no word follows. The layout is that of the lines.
 ///
-/// Only want of memory is an error. The time is O(n log n).
+/// Only running out of memory is an error. The time is O(n log n).
 pub fn names_of<'a>(
     alloc: Global,
     lines: &[Line<'a>],

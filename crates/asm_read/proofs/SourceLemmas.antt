@@ -60,9 +60,9 @@ lines-last (b ∷ text) none some = go (b == 10) refl
     go : (t : Bool) → (b == 10) ≡ t → lines (b ∷ text) ≡ before 10 (b ∷ text) ∷ []
     go true e = let found : Some text ≡ None = rw e at none in cc
     go false e =
-        let front : before 10 (b ∷ text) ≡ b ∷ before 10 text = rw e refl in
+        let prefix : before 10 (b ∷ text) ≡ b ∷ before 10 text = rw e refl in
         let filled : (length (b ∷ before 10 text) == 0) ≡ false = grind (arith, nat_tests) in
-        rw (split-last (b ∷ text) none, front, filled) refl
+        rw (split-last (b ∷ text) none, prefix, filled) refl
 
 -- a line that a newline ends
 pub lines-more : (text rest : Text) → after 10 text ≡ Some rest → lines text ≡ strip_carriage_return (before 10 text) ∷ lines rest
@@ -83,44 +83,44 @@ after-shorter (b ∷ text) rest found = go (b == 10) refl (after-shorter text re
 -- ---- all lines
 
 -- what was read before, and what is still read
-abbrev pub with_front : List Line → Result (List Line) AsmError → Result (List Line) AsmError
-with_front front (Ok read) = Ok (front ++ read)
-with_front front (Err error) = Err error
+abbrev pub with_prefix : List Line → Result (List Line) AsmError → Result (List Line) AsmError
+with_prefix prefix (Ok read) = Ok (prefix ++ read)
+with_prefix prefix (Err error) = Err error
 
--- one more line behind the front, and what comes behind it
-regroup : (front : List Line) (line : Line) (read : Result (List Line) AsmError) → with_front front (read >>= λ others. Ok (line_if_said line ++ others)) ≡ with_front (front ++ line_if_said line) read
-regroup front line (Ok others) = ap (λ (all : List Line). Ok all) (sym (append_assoc front (line_if_said line) others))
-regroup front line (Err error) = refl
+-- one more line behind the prefix, and what comes behind it
+regroup : (prefix : List Line) (line : Line) (read : Result (List Line) AsmError) → with_prefix prefix (read >>= λ others. Ok (line_if_said line ++ others)) ≡ with_prefix (prefix ++ line_if_said line) read
+regroup prefix line (Ok others) = ap (λ (all : List Line). Ok all) (sym (append_assoc prefix (line_if_said line) others))
+regroup prefix line (Err error) = refl
 
 -- nothing was read yet
-pub starts : (source : Text) → with_front [] (lines_of 1 (lines source)) ≡ source_of source
+pub starts : (source : Text) → with_prefix [] (lines_of 1 (lines source)) ≡ source_of source
 unfolding source_of
 starts source = go (lines_of 1 (lines source))
   where
-    go : (read : Result (List Line) AsmError) → with_front [] read ≡ read
+    go : (read : Result (List Line) AsmError) → with_prefix [] read ≡ read
     go (Ok read) = refl
     go (Err error) = refl
 
 -- a line was read: the loop goes on behind it
-pub goes_on : (front : List Line) (number : ℕ) (text : Text) (left more : List Text) (line : Line) (total : Result (List Line) AsmError) → left ≡ text ∷ more → at_line number (line_of number text) ≡ Ok line
-    → with_front front (lines_of number left) ≡ total → with_front (front ++ line_if_said line) (lines_of (number + 1) more) ≡ total
+pub goes_on : (prefix : List Line) (number : ℕ) (text : Text) (left more : List Text) (line : Line) (total : Result (List Line) AsmError) → left ≡ text ∷ more → at_line number (line_of number text) ≡ Ok line
+    → with_prefix prefix (lines_of number left) ≡ total → with_prefix (prefix ++ line_if_said line) (lines_of (number + 1) more) ≡ total
 unfolding lines_of
-goes_on front number text left more line total first read so_far =
-    let one : with_front front (lines_of number left) ≡ with_front (front ++ line_if_said line) (lines_of (number + 1) more) = rw (first, read) (regroup front line (lines_of (number + 1) more)) in
+goes_on prefix number text left more line total first read so_far =
+    let one : with_prefix prefix (lines_of number left) ≡ with_prefix (prefix ++ line_if_said line) (lines_of (number + 1) more) = rw (first, read) (regroup prefix line (lines_of (number + 1) more)) in
     sym one ∙ so_far
 
 -- a line was refused, and so is the whole
-pub stops : (error : AsmError) (front : List Line) (number : ℕ) (text : Text) (left more : List Text) (total : Result (List Line) AsmError) → left ≡ text ∷ more → at_line number (line_of number text) ≡ Err error
-    → with_front front (lines_of number left) ≡ total → total ≡ Err error
+pub stops : (error : AsmError) (prefix : List Line) (number : ℕ) (text : Text) (left more : List Text) (total : Result (List Line) AsmError) → left ≡ text ∷ more → at_line number (line_of number text) ≡ Err error
+    → with_prefix prefix (lines_of number left) ≡ total → total ≡ Err error
 unfolding lines_of
-stops error front number text left more total first refused so_far =
-    let one : with_front front (lines_of number left) ≡ Err error = rw (first, refused) refl in
+stops error prefix number text left more total first refused so_far =
+    let one : with_prefix prefix (lines_of number left) ≡ Err error = rw (first, refused) refl in
     sym so_far ∙ one
 
 -- nothing is left
-pub is_done : (front : List Line) (number : ℕ) (rest : Text) (total : Result (List Line) AsmError) → length rest ≡ 0 → with_front front (lines_of number (lines rest)) ≡ total → total ≡ Ok front
+pub is_done : (prefix : List Line) (number : ℕ) (rest : Text) (total : Result (List Line) AsmError) → length rest ≡ 0 → with_prefix prefix (lines_of number (lines rest)) ≡ total → total ≡ Ok prefix
 unfolding lines_of
-is_done front number [] total none so_far =
-    let one : with_front front (lines_of number (lines [])) ≡ Ok front = ap (λ (all : List Line). Ok all) (append-nil front) in
+is_done prefix number [] total none so_far =
+    let one : with_prefix prefix (lines_of number (lines [])) ≡ Ok prefix = ap (λ (all : List Line). Ok all) (append-nil prefix) in
     sym so_far ∙ one
-is_done front number (b ∷ rest) total none so_far = absurd (omega arith)
+is_done prefix number (b ∷ rest) total none so_far = absurd (omega arith)

@@ -54,7 +54,7 @@ pub struct AsmError {
 }
 
 /// How reading or assembling a source ends without what was asked for.
-#[derive(Clone, Copy, Debug, PartialEq, Eq)]
+#[derive(Clone, Copy)]
 pub enum AsmEnd {
     /// The source is refused, with its first error.
     Bad(AsmError),

@@ -16,7 +16,7 @@ fn without_return(text: &[u8]) -> &[u8]
     ensures { result.now ≡ strip_carriage_return text.now }
 {
     match text {
-        [front @ .., b'\r'] => front,
+        [prefix @ .., b'\r'] => prefix,
         _ => text,
     }
 }

@@ -8,7 +8,7 @@ use crate::bytes::is_blank;
 
 /// What stands before the first such byte, and what stands behind it; the whole text and `None` where there is no such byte.
 pub fn cut(text: &[u8], byte: u8) -> (&[u8], Option<&[u8]>)
-    ensures front { result.0.now ≡ before byte text.now }
+    ensures prefix { result.0.now ≡ before byte text.now }
     ensures rest { option_copied result.1 ≡ after byte text.now }
 {
     for (i, here) in text.iter().enumerate() {

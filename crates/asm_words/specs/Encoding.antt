@@ -1,5 +1,5 @@
 -- The word of an instruction as a function, by putting its fields at their places.
--- It promises nothing by itself: that it is the word of the instruction's line in the table is what `encoding_law` ensures.
+-- It guarantees nothing by itself: that it is the word of the instruction's line in the table is what `encoding_law` ensures.
 use Rattle.std.specs.Prelude.{ℕ, ◌+◌, ◌*◌, ◌^◌}
 use Rattle.rv_decode.specs.Fields.{bits_of}
 use Rattle.rv_decode.specs.declared.instructions.Instr.{Instr}

@@ -64,8 +64,8 @@ bare_word word = bare_each (hex_digit_of word) (λ k. hex_passes (word / 2 ^ (28
 
 -- ---- the tags' texts, most of them with something in parentheses
 
-bare_within : (front inner back : List ℕ) → is_bare front ≡ true → is_bare inner ≡ true → is_bare back ≡ true → is_bare (front ++ inner ++ back) ≡ true
-bare_within front inner back f i b = bare_join (front ++ inner) back (bare_join front inner f i) b
+bare_within : (prefix inner back : List ℕ) → is_bare prefix ≡ true → is_bare inner ≡ true → is_bare back ≡ true → is_bare (prefix ++ inner ++ back) ≡ true
+bare_within prefix inner back f i b = bare_join (prefix ++ inner) back (bare_join prefix inner f i) b
 
 pub seal_piece : (x : SealTag) → HasSmallKey x → IsPiece (sealing_text x)
 seal_piece seals.Data small = record { some = omega arith; bare = refl }

@@ -29,10 +29,10 @@ use Rattle.choice_texts.proofs.PieceLemmas.{comp_piece, flow_piece, heap_piece, 
 
 -- ---- sealing: by the first letter, and by the number in the parentheses
 
-same_key : (front : List ℕ) (k j : ℕ) → k < 2 ^ 32 → j < 2 ^ 32 → front ++ decimal k ++ codes ")" ≡ front ++ decimal j ++ codes ")" → k ≡ j
-same_key front k j k_small j_small e =
+same_key : (prefix : List ℕ) (k j : ℕ) → k < 2 ^ 32 → j < 2 ^ 32 → prefix ++ decimal k ++ codes ")" ≡ prefix ++ decimal j ++ codes ")" → k ≡ j
+same_key prefix k j k_small j_small e =
     decimal_injective k j (omega (arith, k_small)) (omega (arith, j_small))
-    (append_cancel_left front (decimal k) (decimal j) (append_cancel_right (front ++ decimal k) (front ++ decimal j) (codes ")") e))
+    (append_cancel_left prefix (decimal k) (decimal j) (append_cancel_right (prefix ++ decimal k) (prefix ++ decimal j) (codes ")") e))
 
 seal_apart : (x y : SealTag) → HasSmallKey x → HasSmallKey y → sealing_text x ≡ sealing_text y → x ≡ y
 seal_apart Data Data x_small y_small e = refl

@@ -16,24 +16,24 @@ use Rattle.compartment_policy.specs.declared.tag.CompartmentTag.TheVariants.{Pc}
 use Rattle.part_turns.specs.Moments.{is_jalr}
 use Rattle.part_turns.specs.Turns.{Allows, is_jal_group}
 use Rattle.part_turns.proofs.PlaceLemmas.{hart_other, hart_same, ready_same, there}
-use Rattle.comp_runs.specs.CompLine.{Last, Standing, place_of, stands_after}
+use Rattle.comp_runs.specs.CompInvariant.{Last, Standing, place_of, stands_after}
 use Rattle.comp_runs.specs.CompSafe.{MayFollow, WritesByRight, is_jump, owner_at, is_permitted}
 use Rattle.comp_runs.specs.OwnerBook.{Owned}
 use Rattle.comp_runs.proofs.RuleLemmas.{Obeys, obeys, same_jump}
 use Rattle.comp_runs.proofs.StandingLemmas.{is_own, last_other, last_own}
-use Rattle.comp_runs.proofs.LineLemmas.{Promises, Stands}
+use Rattle.comp_runs.proofs.InvariantLemmas.{Guarantees, Stands}
 
-module _ (old : Standing) (s : Machine CompartmentState CompartmentTag) (line : Stands old s) (h : ℕ) (look : Look)
+module _ (old : Standing) (s : Machine CompartmentState CompartmentTag) (invariant : Stands old s) (h : ℕ) (look : Look)
     (outs : Outs CompartmentTag) (e : Event CompartmentTag)
     (allows : Allows compartments s h look outs e) where
   -- the word that the turn obeys
-  abbrev pub obeyed : Owned
-  obeyed = old.owners ((hart_at s.core h).pc / 4)
+  abbrev pub executed : Owned
+  executed = old.owners ((hart_at s.core h).pc / 4)
 
-  pub obeys_rule : Obeys (old.last h).owner (old.last h).jumped obeyed look.group (rule_inputs s.core h look).tm outs
+  pub obeys_rule : Obeys (old.last h).owner (old.last h).jumped executed look.group (rule_inputs s.core h look).tm outs
   obeys_rule =
-      obeys (old.last h).owner (old.last h).jumped obeyed look.group (rule_inputs s.core h look) outs (line.pcs h allows.ready)
-      (line.words ((hart_at s.core h).pc / 4) allows.seen.there).tag_is allows.rule
+      obeys (old.last h).owner (old.last h).jumped executed look.group (rule_inputs s.core h look) outs (invariant.pcs h allows.ready)
+      (invariant.words ((hart_at s.core h).pc / 4) allows.seen.there).tag_is allows.rule
 
   follows_by_right : MayFollow (old.last e.hart).owner (old.last e.hart).jumped (old.owners (e.pc / 4))
   follows_by_right =
@@ -45,11 +45,11 @@ module _ (old : Standing) (s : Machine CompartmentState CompartmentTag) (line : 
       ap is_jump allows.word ∙ ap (λ jal. jal || is_jalr look.word) allows.seen.jal
       ∙ ap (λ jalr. is_jal_group look.group || jalr) allows.seen.jalr ∙ same_jump look.group
 
-  last_here : (stands_after old e).last h ≡ record { owner = obeyed.owner; jumped = is_jumping look.group }
+  last_here : (stands_after old e).last h ≡ record { owner = executed.owner; jumped = is_jumping look.group }
   last_here =
       last_own old e h (is_own h e allows.is_retired allows.hart)
       ∙ ap (λ pc. record { owner = (old.owners (pc / 4)).owner; jumped = is_jump e.word }) allows.pc
-      ∙ ap (λ jumped. record { owner = obeyed.owner; jumped = jumped }) jumps_as
+      ∙ ap (λ jumped. record { owner = executed.owner; jumped = jumped }) jumps_as
 
   pub last_elsewhere : (n : ℕ) → n ≢ h → (stands_after old e).last n ≡ old.last n
   last_elsewhere n differs =
@@ -70,7 +70,7 @@ module _ (old : Standing) (s : Machine CompartmentState CompartmentTag) (line : 
 
     pc_elsewhere : (n : ℕ) → n ≢ h → is_ready_in s.core n ≡ true → HasPc n
     pc_elsewhere n differs ready =
-        ap (λ (x : HartState CompartmentTag). x.pc_tag) (hart_other s.core h n hart ram differs plain) ∙ line.pcs n ready
+        ap (λ (x : HartState CompartmentTag). x.pc_tag) (hart_other s.core h n hart ram differs plain) ∙ invariant.pcs n ready
         ∙ ap (λ (last : Last). Pc last.owner last.jumped) (sym (last_elsewhere n differs))
 
     pub pcs_after : (n : ℕ) → is_ready_in core_after n ≡ true → HasPc n
@@ -80,14 +80,14 @@ module _ (old : Standing) (s : Machine CompartmentState CompartmentTag) (line : 
         by_hart (inl same) = subst HasPc (sym same) pc_here
         by_hart (inr differs) = pc_elsewhere n differs (sym (ready_same s.core h n hart ram) ∙ ready)
 
-  -- ---- what is promised
+  -- ---- what is guaranteed
 
   -- a word that the turn's compartment may write
-  pub permitted : (n : ℕ) → may_write obeyed.owner (place_of (old.owners n)) ≡ true → is_permitted (owner_at old.owners e) (old.owners n) ≡ true
+  pub permitted : (n : ℕ) → may_write executed.owner (place_of (old.owners n)) ≡ true → is_permitted (owner_at old.owners e) (old.owners n) ≡ true
   permitted n writes = subst (λ pc. is_permitted (old.owners (pc / 4)).owner (old.owners n) ≡ true) (sym allows.pc) writes
 
-  pub promised : WritesByRight old.owners e → Promises old e
-  promised writes = record { writes = λ is. writes; follows = λ is. follows_by_right }
+  pub guaranteed : WritesByRight old.owners e → Guarantees old e
+  guaranteed writes = record { writes = λ is. writes; follows = λ is. follows_by_right }
 
   -- without an access nothing is stored
   pub stores_nothing : look.effect.access ≡ access.None → (touch : Touch) → e.access ≡ Some touch → touch.stores ≡ true

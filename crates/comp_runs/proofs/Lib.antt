@@ -1,7 +1,7 @@
 pub mod AccessLemmas
 pub mod AllowedLemmas
 pub mod GoLemmas
-pub mod LineLemmas
+pub mod InvariantLemmas
 pub mod RuleLemmas
 pub mod SafeLemmas
 pub mod ServeLemmas

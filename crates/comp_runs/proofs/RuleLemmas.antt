@@ -13,7 +13,7 @@ use Rattle.compartment_policy.specs.Compartments.{is_jump as is_jumping}
 use Rattle.compartment_policy.specs.declared.tag.CompartmentTag.{CompartmentTag}
 use Rattle.compartment_policy.specs.declared.tag.CompartmentTag.TheVariants.{Pc, Plain}
 use Rattle.part_turns.specs.Turns.{is_jal_group, is_jalr_group}
-use Rattle.comp_runs.specs.CompLine.{place_of}
+use Rattle.comp_runs.specs.CompInvariant.{place_of}
 use Rattle.comp_runs.specs.CompSafe.{MayFollow}
 use Rattle.comp_runs.specs.OwnerBook.{Owned}
 

@@ -4,13 +4,13 @@ use Rattle.policy_trait.specs.declared.birth.Birth.{Birth}
 use Rattle.engine_trait.specs.Events.{Event}
 use Rattle.compartment_policy.specs.declared.tag.CompartmentTag.{CompartmentTag}
 use Rattle.part_turns.specs.Moments.{First, Moment, Successive}
-use Rattle.comp_runs.specs.CompLine.{Last, first_standing}
+use Rattle.comp_runs.specs.CompInvariant.{Last, first_standing}
 use Rattle.comp_runs.specs.CompSafe.{CompSafe, MayFollow}
 use Rattle.comp_runs.specs.CompTurn.{CompTurn, last_of}
 use Rattle.comp_runs.specs.OwnerBook.{Owned, owner_book}
 use Rattle.comp_runs.proofs.StandingLemmas.{is_own, last_at, last_at_first, last_since}
 
--- a word that is obeyed without a jump has the same owner
+-- a word that is executed without a jump has the same owner
 no_jump : (from : ℕ) (owned : Owned) → MayFollow from false owned → owned.owner ≡ from
 no_jump from owned (inl same) = same
 no_jump from owned (inr jumped) = absurd cc

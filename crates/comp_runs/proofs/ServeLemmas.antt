@@ -24,12 +24,12 @@ use Rattle.policy_parts.specs.Part.{Planned, beside_others, value_after}
 use Rattle.part_turns.specs.Moments.{service_of, Service}
 use Rattle.part_turns.specs.Turns.{Allows, after_service}
 use Rattle.part_turns.proofs.PlaceLemmas.{nth_tag, IsServed, each_served, kept, words_plain, written}
-use Rattle.comp_runs.specs.CompLine.{Standing, place_of}
+use Rattle.comp_runs.specs.CompInvariant.{Standing, place_of}
 use Rattle.comp_runs.specs.CompSafe.{WritesByRight, owner_at, is_permitted}
 use Rattle.comp_runs.specs.OwnerBook.{owners_by, covers, is_covered, owned_after}
 use Rattle.comp_runs.proofs.ServiceLemmas.{IsKnown, known_outside, known_within, service_of_plan, zeroed_by_right}
-use Rattle.comp_runs.proofs.LineLemmas.{IsKept, Stands}
-use Rattle.comp_runs.proofs.AllowedLemmas.{obeys_rule, pcs_after, permitted, promised, stores_nothing}
+use Rattle.comp_runs.proofs.InvariantLemmas.{IsKept, Stands}
+use Rattle.comp_runs.proofs.AllowedLemmas.{obeys_rule, pcs_after, permitted, guaranteed, stores_nothing}
 
 same_service : (x y : Service CompartmentTag) → Some x ≡ Some y → x ≡ y
 same_service x y e = cc
@@ -52,7 +52,7 @@ covered_in_memory range n count inside covered = grind (arith, nat_tests)
 
 -- ---- the turn
 
-module _ (old : Standing) (s : Machine CompartmentState CompartmentTag) (line : Stands old s) (h : ℕ) (look : Look)
+module _ (old : Standing) (s : Machine CompartmentState CompartmentTag) (invariant : Stands old s) (h : ℕ) (look : Look)
     (outs : Outs CompartmentTag) (e : Event CompartmentTag)
     (allows : Allows compartments s h look outs e) (p : Plan CompartmentTag) where
   abbrev arguments : Args CompartmentTag
@@ -71,19 +71,19 @@ module _ (old : Standing) (s : Machine CompartmentState CompartmentTag) (line : 
         → IsKnown (value_after compartments s.policy p).count (nth_tag new n) (owners_by old.owners (Some service) n)
     word_known (written range range_is low high tag word) =
         subst KnownWhere (sym (covered_within range p.range n range_is low high))
-        (known_within s.policy look.service arguments outs.pc p (nth_tag s.core.ram n) (nth_tag new n) tag (old.owners n) planned (line.words n within))
+        (known_within s.policy look.service arguments outs.pc p (nth_tag s.core.ram n) (nth_tag new n) tag (old.owners n) planned (invariant.words n within))
     word_known (kept outside tag word) =
         subst KnownWhere (sym (not_covered p.range n outside))
         (known_outside s.policy look.service arguments outs.pc p (nth_tag new n) (old.owners n)
-        (subst (λ tag. IsKnown s.policy.count tag (old.owners n)) (sym tag) (line.words n within)))
+        (subst (λ tag. IsKnown s.policy.count tag (old.owners n)) (sym tag) (invariant.words n within)))
 
     -- a word of the range that becomes zero
     zeroes_by_right : p.zero ≡ true → is_covered p.range n ≡ true → IsServed compartments s.policy p s.core.ram new n
         → is_permitted (owner_at old.owners e) (old.owners n) ≡ true
     zeroes_by_right zeroed covered (written given given_is low high tag word) =
-        permitted old s line h look outs e allows n
-        (ap (λ pc. is_writer pc (place_of (old.owners n))) (sym (obeys_rule old s line h look outs e allows).pc)
-        ∙ ap (is_writer outs.pc) (sym (line.words n within).tag_is)
+        permitted old s invariant h look outs e allows n
+        (ap (λ pc. is_writer pc (place_of (old.owners n))) (sym (obeys_rule old s invariant h look outs e allows).pc)
+        ∙ ap (is_writer outs.pc) (sym (invariant.words n within).tag_is)
         ∙ zeroed_by_right s.policy look.service arguments outs.pc p (nth_tag s.core.ram n) (nth_tag new n) tag planned zeroed)
     zeroes_by_right zeroed covered (kept outside tag word) = let apart = not_covered p.range n outside in absurd cc
 
@@ -108,7 +108,7 @@ module _ (old : Standing) (s : Machine CompartmentState CompartmentTag) (line : 
 
     service_writes : WritesByRight old.owners e
     service_writes = record {
-      stores = stores_nothing old s line h look outs e allows none;
+      stores = stores_nothing old s invariant h look outs e allows none;
       zeroes = λ x range n x_called zeroed range_is covered.
           let same : service ≡ x = same_service service x (sym called ∙ x_called) in
           zeroes range n (ap (λ (y : Service CompartmentTag). y.zero) same ∙ zeroed)
@@ -118,12 +118,12 @@ module _ (old : Standing) (s : Machine CompartmentState CompartmentTag) (line : 
     pub served : IsKept old e (after_service compartments s h look outs p words)
     unfolding core_served
     served = record {
-      promises = promised old s line h look outs e allows service_writes;
+      guarantees = guaranteed old s invariant h look outs e allows service_writes;
       stands = record {
         words = λ n within.
             subst (λ service. IsKnown (value_after compartments s.policy p).count (nth_tag ram_after n) (owners_by old.owners service n)) (sym called)
             (word_known planned ram_after n (subst (λ count. n < count) same_count within) (word_served n));
-        pcs = pcs_after old s line h look outs e allows (moved_to (with_answer (hart_at s.core h) p.answer) look.effect.next outs.pc) ram_after refl
+        pcs = pcs_after old s invariant h look outs e allows (moved_to (with_answer (hart_at s.core h) p.answer) look.effect.next outs.pc) ram_after refl
             (words_plain s.core.ram words);
       };
     }

@@ -15,7 +15,7 @@ use Rattle.policy_product.specs.Both.{tag_beside}
 use Rattle.policy_parts.specs.Part.{Planned, value_after, others, own, word_tag}
 use Rattle.part_turns.specs.Moments.{Service}
 use Rattle.shared_terms.proofs.StepLemmas.{ok_is}
-use Rattle.comp_runs.specs.CompLine.{place_of}
+use Rattle.comp_runs.specs.CompInvariant.{place_of}
 use Rattle.comp_runs.specs.OwnerBook.{Owned, owned_after, split_off}
 
 -- ---- the policy's own plans

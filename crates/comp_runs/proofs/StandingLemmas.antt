@@ -6,7 +6,7 @@ use Rattle.std.proofs.lemmas.List.Sums.{fold-append}
 use Rattle.policy_trait.specs.declared.birth.Birth.{Birth}
 use Rattle.engine_trait.specs.Events.{Event, is_retirement}
 use Rattle.part_turns.specs.Moments.{is_turn_of, turns_of}
-use Rattle.comp_runs.specs.CompLine.{Last, Standing, first_standing, last_after, standing_of, stands_after}
+use Rattle.comp_runs.specs.CompInvariant.{Last, Standing, first_standing, last_after, standing_of, stands_after}
 use Rattle.comp_runs.specs.CompSafe.{is_jump, owner_at}
 use Rattle.comp_runs.specs.OwnerBook.{OwnerBook, owner_book, owners_after}
 

@@ -1,4 +1,4 @@
--- The line holds at the start.
+-- The invariant holds at the start.
 use Rattle.std.proofs.Common.{◌≡◌, ℕ, ◌*◌, ◌<◌, true, List, [], length, ap, subst, arith, nat_lt}
 use Rattle.std.proofs.lemmas.Bool.{and_parts, ltb-true}
 use Rattle.std.proofs.lemmas.List.{get_or-map, length-map}
@@ -10,7 +10,7 @@ use Rattle.compartment_policy.specs.Compartments.{CompartmentState, compartments
 use Rattle.compartment_policy.specs.declared.tag.CompartmentTag.{CompartmentTag}
 use Rattle.compartment_policy.specs.declared.tag.CompartmentTag.TheVariants.{Plain}
 use Rattle.part_turns.specs.Start.{first_hart, first_machine}
-use Rattle.comp_runs.specs.CompLine.{CompLine, place_of, standing_of}
+use Rattle.comp_runs.specs.CompInvariant.{CompInvariant, place_of, standing_of}
 use Rattle.comp_runs.specs.OwnerBook.{first_owners}
 
 module _ (birth : ℕ → Birth) (words entries : List ℕ) (state : CompartmentState) (few : (n : ℕ) → n < length words → (birth (4 * n)).owner < state.count) where
@@ -25,7 +25,7 @@ module _ (birth : ℕ → Birth) (words entries : List ℕ) (state : Compartment
       subst (λ (n : ℕ). h < n) (length-map entries starting)
       (ltb-true h (length machine.core.harts) (and_parts (nat_lt h (length machine.core.harts)) (has_no_stop (stop_at machine.core h)) ready).0)
 
-  pub starts : CompLine birth entries [] machine
+  pub starts : CompInvariant birth entries [] machine
   unfolding standing_of
   starts = record {
     tags = λ n there. get_or-map-range_with_len (λ k. place_of (first_owners birth k)) 0 (length words) n n Plain there (omega arith);

@@ -20,7 +20,7 @@ owner_at book event = (book (event.pc / 4)).owner
 abbrev pub is_jump : ℕ → Bool
 is_jump word = is_jal word || is_jalr word
 
--- a word that may be obeyed after one of compartment `from`: the same compartment's, or one that lets it in, by a jump
+-- a word that may be executed after one of compartment `from`: the same compartment's, or one that lets it in, by a jump
 abbrev pub MayFollow : ℕ → Bool → Owned → Type 0
 MayFollow from jumped owned = (owned.owner ≡ from) ⊎ ((jumped ≡ true) × (has owned.into from ≡ true))
 

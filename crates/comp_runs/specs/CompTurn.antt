@@ -3,7 +3,7 @@ use Rattle.std.specs.Prelude.{◌≡◌, ℕ, ◌/◌, true, List}
 use Rattle.policy_trait.specs.declared.birth.Birth.{Birth}
 use Rattle.engine_trait.specs.Events.{Event, is_retirement}
 use Rattle.compartment_policy.specs.declared.tag.CompartmentTag.{CompartmentTag}
-use Rattle.comp_runs.specs.CompLine.{Last, standing_of}
+use Rattle.comp_runs.specs.CompInvariant.{Last, standing_of}
 use Rattle.comp_runs.specs.CompSafe.{MayFollow, WritesByRight}
 use Rattle.comp_runs.specs.OwnerBook.{owner_book}
 

@@ -1,4 +1,4 @@
-pub mod CompLine
+pub mod CompInvariant
 pub mod CompSafe
 pub mod CompTurn
 pub mod OwnerBook

@@ -7,22 +7,21 @@ ghost use Rattle.engine_trait.specs.Events.{Event};
 ghost use Rattle.part_turns.specs.Keeps.{Keeps};
 ghost use Rattle.part_turns.specs.Moments.{Moment};
 ghost use Rattle.part_turns.specs.Start.{first_machine};
-ghost use Rattle.comp_runs.specs.CompLine.{CompLine, standing_of};
+ghost use Rattle.comp_runs.specs.CompInvariant.{CompInvariant, standing_of};
 ghost use Rattle.comp_runs.specs.CompSafe.{CompSafe};
 ghost use Rattle.comp_runs.specs.CompTurn.{CompTurn};
 ghost use Rattle.comp_runs.specs.OwnerBook.{owner_book};
 
 use compartment_policy::CompartmentTag;
 
-/// Each turn under compartments keeps its line, writes by right and follows by right; so does each turn in which other
-/// policies are chosen too. The function does nothing.
+/// Each turn under compartments keeps its invariant, writes by right and follows by right; so does each turn in which other
+/// policies are chosen too.
 pub fn owner_law()
     ensures { (birth : ℕ → Birth) (entries : List ℕ)
-        → Keeps compartments (CompLine birth entries) (CompTurn birth entries) }
+        → Keeps compartments (CompInvariant birth entries) (CompTurn birth entries) }
 {}
 
-/// A run in which each turn does so is safe. The owners that the line speaks of are those of the book. The function does
-/// nothing.
+/// A run in which each turn does so is safe. The owners that the invariant speaks of are those of the book.
 pub fn safe_law()
     ensures safe { (birth : ℕ → Birth) (entries : List ℕ) (events : List (Event CompartmentTag))
         → ((x : Moment events) → CompTurn birth entries x.before x.event)
@@ -31,9 +30,9 @@ pub fn safe_law()
         → (standing_of birth entries events).owners ≡ owner_book birth events }
 {}
 
-/// The line holds at every start whose owners are all below the count of compartments. The function does nothing.
+/// The invariant holds at every start whose owners are all below the count of compartments.
 pub fn start_law()
     ensures { (birth : ℕ → Birth) (words entries : List ℕ) (state : CompartmentState)
         → ((n : ℕ) → n < length words → (birth (4 * n)).owner < state.count)
-        → CompLine birth entries [] (first_machine compartments state birth words entries) }
+        → CompInvariant birth entries [] (first_machine compartments state birth words entries) }
 {}

@@ -6,12 +6,12 @@ ghost use Rattle.compartment_policy.specs.Compartments.{CompartmentState, IsOfWo
 ghost use Rattle.compartment_policy.specs.declared.tag.CompartmentTag.{CompartmentTag};
 
 /// However many compartments there are and may be, a rule uses exactly the inputs that its mask does not ignore: an ignored
-/// one changes no answer, and each other one changes some. The function does nothing.
+/// one changes no answer, and each other one changes some.
 pub fn ignores_law()
     ensures { (state : CompartmentState) → UsesExactly compartments state }
 {}
 
-/// Two tags of one text are one, where their numbers are words. The function does nothing.
+/// Two tags of one text are one, where their numbers are words.
 pub fn text_law()
     ensures { (left right : CompartmentTag) → IsOfWords left → IsOfWords right
         → compartment_text left ≡ compartment_text right → left ≡ right }

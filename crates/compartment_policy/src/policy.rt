@@ -193,12 +193,12 @@ impl Policy for Compartments {
 }
 
 /// Appends a text and a compartment's number in decimal.
-fn show_owner(to: &mut Line, front: &[u8], owner: u32)
-    requires { array_vec_len to.old + length front.now + 20 ≤ 512 }
-    ensures text { to.new.items ≡ to.old.items ++ front.now ++ decimal owner }
-    ensures short { array_vec_len to.new ≤ array_vec_len to.old + length front.now + 20 }
+fn show_owner(to: &mut Line, prefix: &[u8], owner: u32)
+    requires { array_vec_len to.old + length prefix.now + 20 ≤ 512 }
+    ensures text { to.new.items ≡ to.old.items ++ prefix.now ++ decimal owner }
+    ensures short { array_vec_len to.new ≤ array_vec_len to.old + length prefix.now + 20 }
 {
-    write_text(to, front);
+    write_text(to, prefix);
     dec(to, u64::from(owner));
 }
 

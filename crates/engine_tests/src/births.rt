@@ -72,17 +72,7 @@ fn births_are_what_the_lists_say(rt: HostRuntime) -> Result<(), Fail> {
         };
         assert!(rt; birth(&image, address) == expected, "at {address}");
     }
-    Ok(())
-}
-
-// A walk through the same file, which passes over some words.
-#[test]
-fn a_walk_tells_of_each_address_what_a_search_tells(rt: HostRuntime) -> Result<(), Fail> {
-    let mut bytes = Vec::new(rt.alloc());
-    for word in LISTED {
-        bytes.extend_from_slice(&word.to_le_bytes())?;
-    }
-    let image = read_image(rt.alloc(), &bytes).ok().ok_or("no image")?;
+    // a walk through the same file, which passes over some words
     let mut births = BirthWalk::new(&image);
     for &(address, ..) in BIRTHS {
         assert!(rt;

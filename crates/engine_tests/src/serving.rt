@@ -7,45 +7,42 @@ use std::alloc::{AllocError, Global};
 use std::test::Fail;
 use tag_memory::Ram;
 
+/// Whether the service zeroes, tags of memory, and address, value and tag of each word of the range, or why the first word that
+/// is refused is. Words outside the range refuse nothing.
+const ROWS: &[(bool, [u32; 4], Result<&[(u32, u32, u32)], Why>)] = &[
+    (true, [20, 21, 22, 23], Ok(&[(4, 0, 79), (8, 0, 78)])),
+    (false, [20, 21, 22, 23], Ok(&[(4, 12, 79), (8, 13, 78)])),
+    (false, [9, 20, 21, 8], Ok(&[(4, 12, 80), (8, 13, 79)])),
+    (true, [9, 20, 9, 9], Err(Why::NotLive)),
+    (true, [0, 9, 8, 0], Err(Why::NotLive)),
+    (true, [0, 8, 9, 0], Err(Why::NotOwner)),
+];
+
+/// Whether a service was served with these words, or refused as it should be.
+fn is_served(
+    served: &Result<Job<u32>, ServeEnd>,
+    zero: bool,
+    wanted: Result<&[(u32, u32, u32)], Why>,
+) -> bool {
+    match (served, wanted) {
+        (Ok(job), Ok(words)) => { job.words.as_slice() == words && job.plan.zero == zero }
+        (Err(ServeEnd::Refused(refused)), Err(why)) => {
+            *refused
+                == Refused {
+                    part: Part::Heap,
+                    why,
+                }
+        }
+        _ => false,
+    }
+}
+
 #[test]
 fn words_of_a_range(rt: HostRuntime) -> Result<(), Fail> {
-    // whether the service zeroes, and address, value and tag of each word
-    let rows = [
-        (true, [(4, 0, 79), (8, 0, 78)]),
-        (false, [(4, 12, 79), (8, 13, 78)]),
-    ];
-    for (zero, words) in rows {
-        let served = serve_toy(rt.alloc(), zero, [20, 21, 22, 23])?;
-        let served = served.ok().ok_or("nothing refuses it")?;
-        assert!(rt; served.words.as_slice() == words.as_slice(), "at {zero}");
-        assert!(rt; served.plan.zero == zero);
+    for &(zero, tags, wanted) in ROWS {
+        let served = serve_toy(rt.alloc(), zero, tags)?;
+        assert!(rt; is_served(&served, zero, wanted), "{tags:?}");
     }
-    Ok(())
-}
-
-#[test]
-fn first_refused_word(rt: HostRuntime) -> Result<(), Fail> {
-    // tags of memory, and why the first refused word is
-    let rows = [
-        ([9, 20, 9, 9], Why::NotLive),
-        ([0, 9, 8, 0], Why::NotLive),
-        ([0, 8, 9, 0], Why::NotOwner),
-    ];
-    for (tags, why) in rows {
-        let end = serve_toy(rt.alloc(), true, tags)?.err();
-        let refused = Refused {
-            part: Part::Heap,
-            why,
-        };
-        assert!(rt; end == Some(ServeEnd::Refused(refused)));
-    }
-    Ok(())
-}
-
-#[test]
-fn words_outside_the_range_refuse_nothing(rt: HostRuntime) -> Result<(), Fail> {
-    let served = serve_toy(rt.alloc(), false, [9, 20, 21, 8])?;
-    assert!(rt; served.is_ok());
     Ok(())
 }
 

@@ -4,7 +4,7 @@ ghost use Rattle.std.specs.Prelude.{◌≡◌};
 
 use crate::images::{image_of, keeping, turn_of};
 use engine_trait::{Engine, Feed, Stop};
-use policy_product::{Both, Maybe};
+use policy_product::Both;
 use policy_trait::{Part, Policy, Why};
 use rv_decode::Group;
 use sealing_policy::Sealing;
@@ -162,11 +162,7 @@ fn no_turn_goes_by_input(rt: HostRuntime) -> Result<(), Fail> {
 fn no_turn_goes_by_input_beside_sealing(rt: HostRuntime) -> Result<(), Fail> {
     for (at, row) in TAINT_ROWS.iter().enumerate() {
         for cache in [0, 8] {
-            let sealing = Maybe {
-                part: Some(Sealing::new()),
-            };
-            let taint = Maybe { part: Some(Taint) };
-            let end = end_under(rt.alloc(), Both::new(sealing, taint), cache, row)?;
+            let end = end_under(rt.alloc(), Both::new(Sealing::new(), Taint), cache, row)?;
             assert!(rt; end == Some(end_of(row)), "row {at}, cache {cache}");
         }
     }

@@ -33,7 +33,7 @@ is_running (Some why) = false
 abbrev pub is_ready : {S T : Type 0} → Standing S T → ℕ → Bool
 is_ready e h = is_running e.account.halt && is_ready_in e.machine.core h
 
--- the account stopped for want of memory
+-- the account stopped since memory ran out
 abbrev pub wanting : {T : Type 0} → Account T → Account T
 wanting account = record account { halt = Some halt.Memory }
 
@@ -59,11 +59,11 @@ module _ {S T : Type 0} (eq : T → T → Bool) (m : PolicyModel T S) (e : Stand
     ended = (turn_of m e.machine feed h).ended;
   }
 
-  -- the engine ran out of tag words: the look-up is counted, and the rule is kept where its outputs have words; the turn is
+  -- the engine ran out of tag numbers: the look-up is counted, and the rule is kept where its outputs have words; the turn is
   -- not counted, and nothing else changes
   abbrev pub out_of_words : Stepped S T
   out_of_words = record {
-    standing = record e { account = record (before_out eq m e.machine h e.account) { halt = Some halt.TagWords } };
+    standing = record e { account = record (before_out eq m e.machine h e.account) { halt = Some halt.TagNumbers } };
     feed = feed;
     ended = ends.TagsOut;
   }
@@ -82,7 +82,7 @@ module _ {S T : Type 0} (eq : T → T → Bool) (m : PolicyModel T S) (e : Stand
   unfoldable pub step : Stepped S T
   step = step_by (is_ready e h) (is_over (account_after_turn eq m e.machine h e.account))
 
-  -- Memory ran out in a turn whose rule allows, and not where tag words had run out: the engine is stopped, the turn is not
+  -- Memory ran out in a turn whose rule allows, and not where tag numbers had run out: the engine is stopped, the turn is not
   -- counted, and nothing else changes.
   pub record GivesUp (f : Standing S T) (fed : Tape) : Type 0 where
     pub ready : is_ready e h ≡ true

@@ -13,7 +13,7 @@ pub enum TurnEnd {
     Stopped(Stop),
     /// The hart or the engine had stopped before, and nothing changed.
     Idle,
-    /// The engine ran out of tag words, and is stopped. Nothing else changed.
+    /// The engine ran out of tag numbers, and is stopped. Nothing else changed.
     TagsOut,
     /// Memory ran out, and the engine is stopped. Nothing else changed.
     Memory,
@@ -22,8 +22,8 @@ pub enum TurnEnd {
 /// Why an engine as a whole is stopped.
 #[derive(Clone, Copy, PartialEq, Eq)]
 pub enum Halt {
-    /// It ran out of tag words. A reset revives it.
-    TagWords,
+    /// It ran out of tag numbers. A reset revives it.
+    TagNumbers,
     /// It ran out of memory.
     Memory,
 }
@@ -40,7 +40,7 @@ pub struct Counts {
 /// Why a start gave no engine.
 #[derive(Clone, Copy, PartialEq, Eq)]
 pub enum LoadEnd {
-    /// The start needs more tag words than the limit.
+    /// The start needs more tag numbers than the limit.
     TagsOut,
     /// Memory ran out.
     Memory,

@@ -1,4 +1,4 @@
-//! What engines and loaders promise.
+//! What engines and loaders guarantee.
 
 ghost use Rattle.std.specs.Prelude.{◌≡◌, ◌≢◌, ◌+◌, ◌%◌, ◌<◌, ◌≤◌, false, true, Err, IfOk, is_some, length};
 ghost use Rattle.tag_memory.specs.Hart.{reg_tag, reg_value};
@@ -91,7 +91,7 @@ pub trait Engine {
         requires { h < length (standing self.now).machine.core.harts }
         ensures { result ≡ stop_at (standing self.now).machine.core h };
 
-    /// Whether the engine as a whole is stopped, for want of memory or of tag words.
+    /// Whether the engine as a whole is stopped, since memory or tag numbers ran out.
     fn stopped(&self) -> bool
         ensures { result ≡ is_some (standing self.now).account.halt };
 
@@ -116,7 +116,7 @@ pub trait Loader: Drop {
 
     ghost start: { Self → Standing Self.E.P Self.E.P.Tag };
 
-    /// An engine at the start. It needs no more tag words than the limit; `TagsOut` says that it would.
+    /// An engine at the start. It needs no more tag numbers than the limit; `TagsOut` says that it would.
     fn load(&self) -> Result<Self::E, LoadEnd>
         ensures start { IfOk result (λ engine. Self.E.standing engine ≡ start self.now) }
         ensures within { IfOk result (λ engine. is_over (start self.now).account ≡ false) }

@@ -16,7 +16,7 @@ use crate::ends::TurnEnd;
 use policy_trait::Policy;
 
 /// A turn leaves a sound machine, with as many harts, as much memory and the same plain tag, under any policy; before
-/// and after it x0 of each hart is 0 and plain, and each pc a multiple of 4. The function does nothing.
+/// and after it x0 of each hart is 0 and plain, and each pc a multiple of 4.
 pub fn turn_law<P: Policy>()
     ensures stays { (s : Machine P P.Tag) (feed : Tape) (h : ℕ)
         → P.holds s.policy → IsMachine P.model s
@@ -29,7 +29,7 @@ pub fn turn_law<P: Policy>()
 {}
 
 /// A turn of a sound machine whose values are words leaves one whose values are words, under any policy and whatever stands in
-/// the feed. The function does nothing.
+/// the feed.
 pub fn words_law<P: Policy>()
     ensures { (s : Machine P P.Tag) (feed : Tape) (h : ℕ)
         → P.holds s.policy → IsMachine P.model s → HasWords s.core
@@ -37,7 +37,7 @@ pub fn words_law<P: Policy>()
 {}
 
 /// The turn of a number that is no hart's, or of a hart that has stopped, changes nothing, and its event has not
-/// retired. The function does nothing.
+/// retired.
 pub fn idle_law<P: Policy>()
     ensures absent { (s : Machine P P.Tag) (h : ℕ) → length s.core.harts ≤ h
         → is_ready_in s.core h ≡ false }
@@ -48,7 +48,7 @@ pub fn idle_law<P: Policy>()
 {}
 
 /// A step in which the hart had its turn is the machine's turn, counted, and the engine runs on; a step that ran out of
-/// tag words, and an idle one, is the defined one; there is no other. The function does nothing.
+/// tag numbers, and an idle one, is the defined one; there is no other.
 pub fn step_law<P: Policy>()
     ensures made { (e : Standing P P.Tag) (feed : Tape) (h : ℕ)
         → is_made (step P.Tag.eq P.model e feed h).ended ≡ true
@@ -63,7 +63,7 @@ pub fn step_law<P: Policy>()
         → (step P.Tag.eq P.model e feed h).ended ≢ TurnEnd.Memory }
 {}
 
-/// An engine that keeps no rules is never out of tag words, has no hit, and keeps none. The function does nothing.
+/// An engine that keeps no rules is never out of tag numbers, has no hit, and keeps none.
 pub fn plain_law<P: Policy>()
     ensures in_words { (e : Standing P P.Tag) (feed : Tape) (h : ℕ) → IsUncached e.account
         → (step P.Tag.eq P.model e feed h).ended ≢ TurnEnd.TagsOut }
@@ -74,7 +74,7 @@ pub fn plain_law<P: Policy>()
 {}
 
 /// Under a policy that mirrors the machine's, the machine with changed tags has the same turn with changed tags; and two
-/// engines of which one is the other so mirrored stay that in every step. The function does nothing.
+/// engines of which one is the other so mirrored stay that in every step.
 pub fn mirror_law<P: Policy, Q: Policy>()
     ensures turn { (f : P.Tag → Q.Tag) (s : Machine P P.Tag) (t : Q) (feed : Tape) (h : ℕ)
         → Mirrors f P.model s.policy Q.model t

@@ -1,4 +1,4 @@
-//! The machine and its turn, and what an engine and a loader promise.
+//! The machine and its turn, and what an engine and a loader guarantee.
 //!
 //! The definitions (`specs/`) are those of the whole project: the state of a machine, one turn of one hart, events, and
 //! runs along any list of harts. An engine's turn is the defined turn; a loader gives the defined start.

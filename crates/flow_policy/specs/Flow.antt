@@ -1,4 +1,4 @@
--- Control-flow integrity: code is obeyed and not written, and jumps by register go along edges between labels. The
+-- Control-flow integrity: code is executed and not written, and jumps by register go along edges between labels. The
 -- policy's value is the list of its edges (s, d): a jump labelled s may go to a word labelled d.
 use Rattle.std.specs.Prelude.{ℕ, ◌==◌, Bool, true, false, not, ◌&&◌, List, ◌++◌, codes, Option, Some, None, option_map, Result, Ok, Err, if◌then◌else◌}
 use Rattle.std.specs.Fmt.{decimal}

@@ -1,4 +1,4 @@
-//! The policy of control-flow integrity: only words of the code ranges are obeyed and none is written, and a jump by
+//! The policy of control-flow integrity: only words of the code ranges are executed and none is written, and a jump by
 //! register goes only from a label to a label that an edge joins to it.
 #![tactic(auto)]
 

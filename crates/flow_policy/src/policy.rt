@@ -36,7 +36,7 @@ impl Model for Flow {
 
 impl Flow {
     /// The policy of these edges, in any order and however often each. An edge (s, d) says that a JALR labelled s may go
-    /// to a word labelled d. The only error is want of memory.
+    /// to a word labelled d. The only error is running out of memory.
     pub fn new(alloc: Global, edges: &[(u32, u32)]) -> Result<Flow, AllocError>
         ensures { IfOk result (λ flow. flow ≡ edges.now) }
     {

@@ -16,7 +16,7 @@ use Rattle.flow_policy.specs.declared.tag.FlowTag.{FlowTag}
 use Rattle.flow_policy.specs.declared.tag.FlowTag.TheVariants.{Plain, Still, From, Code, Data}
 use Rattle.part_turns.proofs.PlaceLemmas.{store_tag, store_tag_other, store_word_other}
 
--- what the line says of memory
+-- what the invariant says of memory
 pub record HoldsImage (birth : ℕ → Birth) (words : List ℕ) (ram : RamState FlowTag) : Type 0 where
   pub count : length ram.words ≡ length words
   pub tags : (n : ℕ) → n < length words → slice_index_or ram.tags n ram.plain ≡ flow_start_word (birth (4 * n))

@@ -1,4 +1,4 @@
--- Each turn that control flow alone allows keeps the line, and is as promised.
+-- Each turn that control flow alone allows keeps the invariant, and is as guaranteed.
 use Rattle.std.proofs.Common.{◌≡◌, ℕ, ◌<◌, false, List, [], ◌∷◌, ◌++◌, length, Some, Ok, refl, sym, ap, ◌∙◌, subst, arith}
 use Rattle.std.specs.Option.{ForSome}
 use Rattle.std.proofs.lemmas.List.{length-set}
@@ -32,12 +32,12 @@ use Rattle.flow_policy.specs.Flow.{effect_of, flow, outs_by}
 use Rattle.flow_policy.specs.declared.tag.FlowTag.{FlowTag}
 use Rattle.flow_policy.specs.declared.tag.FlowTag.TheVariants.{Data}
 use Rattle.flow_runs.specs.EdgeWalk.{visit_of}
-use Rattle.flow_runs.specs.FlowLine.{FlowLine, pc_after}
+use Rattle.flow_runs.specs.FlowInvariant.{FlowInvariant, pc_after}
 use Rattle.flow_runs.specs.FlowTurn.{FlowTurn}
 use Rattle.flow_runs.proofs.ImageLemmas.{HoldsImage, IsAsBefore, image_stays, service_stays, store_stays}
-use Rattle.flow_runs.proofs.LineLemmas.{exit_keeps, idle_keeps, image_of, move_keeps, stop_keeps}
+use Rattle.flow_runs.proofs.InvariantLemmas.{exit_keeps, idle_keeps, image_of, move_keeps, stop_keeps}
 use Rattle.flow_runs.proofs.RuleLemmas.{store_outs}
-use Rattle.flow_runs.proofs.TurnLemmas.{does_as_promised, entered, next_pc, no_promise}
+use Rattle.flow_runs.proofs.TurnLemmas.{does_as_guaranteed, entered, next_pc, no_guarantee}
 
 -- ---- a word after a service of another policy
 
@@ -47,34 +47,34 @@ each_as_before list p ram new n (written range ranged from within tag word) = se
 each_as_before list p ram new n (kept outside tag word) = record { tag = tag; word = λ label code. word }
 
 module _ (birth : ℕ → Birth) (words : List ℕ) (edges : List (ℕ × ℕ)) (before : List (Event FlowTag))
-    (s : Machine (List (ℕ × ℕ)) FlowTag) (h : ℕ) (e : Event FlowTag) (is : IsMachine flow s) (line : FlowLine birth words edges before s) where
+    (s : Machine (List (ℕ × ℕ)) FlowTag) (h : ℕ) (e : Event FlowTag) (is : IsMachine flow s) (invariant : FlowInvariant birth words edges before s) where
   abbrev Kept : Machine (List (ℕ × ℕ)) FlowTag → Type 0
-  Kept t = FlowTurn birth words edges before e × FlowLine birth words edges (before ++ e ∷ []) t
+  Kept t = FlowTurn birth words edges before e × FlowInvariant birth words edges (before ++ e ∷ []) t
 
   abbrev Image : RamState FlowTag → Type 0
   Image ram = HoldsImage birth words ram
 
   unstored : Image s.core.ram
-  unstored = image_of birth words edges before s line
+  unstored = image_of birth words edges before s invariant
 
   -- a hart that is there has a place for its stop
   has_stop : h < length s.core.harts → h < length s.core.stops
   has_stop lt = omega (arith, is.core.few, is.core.stops)
 
   module _ (look : Look) (outs : Outs FlowTag) (allows : Allows flow s h look outs e) where
-    promised : FlowTurn birth words edges before e
-    promised = does_as_promised birth words edges before s h is line look outs e allows
+    guaranteed : FlowTurn birth words edges before e
+    guaranteed = does_as_guaranteed birth words edges before s h is invariant look outs e allows
 
     after_exit : (code : ℕ) → Kept (stopped_at s h (stop.Exit code))
     after_exit code =
-        (promised, exit_keeps birth words edges before s h e line (stop.Exit code) (has_stop (there s.core h allows.ready)) allows.hart)
+        (guaranteed, exit_keeps birth words edges before s h e invariant (stop.Exit code) (has_stop (there s.core h allows.ready)) allows.hart)
 
     after_move : (hart : HartState FlowTag) (ram : RamState FlowTag) → ram.plain ≡ s.core.ram.plain → hart.pc_tag ≡ outs.pc → Image ram
         → Kept (record s { core = with_hart s.core h hart ram })
     after_move hart ram plain goes_on image =
         let goes : hart.pc_tag ≡ pc_after birth words edges (Some (visit_of e)) =
-        goes_on ∙ next_pc birth words edges before s h is line look outs e allows in
-        (promised, move_keeps birth words edges before s h e line hart ram plain allows.is_retired allows.hart goes image)
+        goes_on ∙ next_pc birth words edges before s h is invariant look outs e allows in
+        (guaranteed, move_keeps birth words edges before s h e invariant hart ram plain allows.is_retired allows.hart goes image)
 
     -- ---- an instruction
 
@@ -85,7 +85,7 @@ module _ (birth : ℕ → Birth) (words : List ℕ) (edges : List (ℕ × ℕ)) 
     -- a store's word was data, and the result is data
     store_is : (g : Group) → look.group ≡ g → effect_of g ≡ effect_of group.StoreWord → (word ≡ Data) × (outs.result ≡ Data)
     store_is g grouped stores_so =
-        let known = entered birth words edges before s h is line look outs e allows in
+        let known = entered birth words edges before s h is invariant look outs e allows in
         let given = store_outs known.label word outs
         (ap (λ effect. outs_by effect known.label word) (sym (ap effect_of grouped ∙ stores_so)) ∙ known.outs_are) in
         (given.0, ap (λ (o : Outs FlowTag). o.result) (sym given.1))
@@ -148,14 +148,14 @@ module _ (birth : ℕ → Birth) (words : List ℕ) (edges : List (ℕ × ℕ)) 
 
   after_turn : (t : Machine (List (ℕ × ℕ)) FlowTag) → Turns flow s h e t → Kept t
   after_turn t (idles waits own not_retired no_service same) =
-      subst Kept (sym same) (no_promise birth words edges before e not_retired, idle_keeps birth words edges before s h e line not_retired)
+      subst Kept (sym same) (no_guarantee birth words edges before e not_retired, idle_keeps birth words edges before s h e invariant not_retired)
   after_turn t (stops why ready own not_retired no_service same) =
-      subst Kept (sym same) (no_promise birth words edges before e not_retired, stop_keeps birth words edges before s h e line why not_retired)
+      subst Kept (sym same) (no_guarantee birth words edges before e not_retired, stop_keeps birth words edges before s h e invariant why not_retired)
   after_turn t (exits look outs code allows no_service called accessed same) = subst Kept (sym same) (after_exit look outs allows code)
   after_turn t (goes look outs register value allows no_service does same) =
       subst Kept (sym same) (after_instruction look outs allows register value does)
   after_turn t (serves look outs p given allows called accessed service planned ranged retagged same) =
       subst Kept (sym same) (after_call look outs allows p given (record { ranged = ranged; retagged = retagged }))
 
-pub turns_keep : (birth : ℕ → Birth) (words : List ℕ) (edges : List (ℕ × ℕ)) → Keeps flow (FlowLine birth words edges) (FlowTurn birth words edges)
-turns_keep birth words edges = record { turn = λ before s h e t is line turn stay. after_turn birth words edges before s h e is line t turn }
+pub turns_keep : (birth : ℕ → Birth) (words : List ℕ) (edges : List (ℕ × ℕ)) → Keeps flow (FlowInvariant birth words edges) (FlowTurn birth words edges)
+turns_keep birth words edges = record { turn = λ before s h e t is invariant turn stay. after_turn birth words edges before s h e is invariant t turn }

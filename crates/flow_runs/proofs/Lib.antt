@@ -1,6 +1,6 @@
 pub mod ImageLemmas
 pub mod KeepsLemmas
-pub mod LineLemmas
+pub mod InvariantLemmas
 pub mod RuleLemmas
 pub mod SafeLemmas
 pub mod StartLemmas

@@ -9,7 +9,7 @@ use Rattle.flow_policy.specs.Flow.{outs_or_refusal, effect_of, entry_label, flow
 use Rattle.flow_policy.specs.declared.tag.FlowTag.{FlowTag}
 use Rattle.flow_policy.specs.declared.tag.FlowTag.TheVariants.{Plain, Still, From, Code, Data}
 use Rattle.part_turns.specs.Turns.{is_jalr_group}
-use Rattle.flow_runs.specs.FlowLine.{from_label}
+use Rattle.flow_runs.specs.FlowInvariant.{from_label}
 
 abbrev allowed : Outs FlowTag → Result (Outs FlowTag) Refused
 allowed outs = Ok outs

@@ -1,11 +1,11 @@
--- A run each of whose turns does as control flow promises is safe.
+-- A run each of whose turns does as control flow guarantees is safe.
 use Rattle.std.proofs.Common.{◌≡◌, ℕ, suc, Bool, true, false, ◌⊎◌, inl, inr, List, [], ◌∷◌, ◌++◌, Some, slice_get, append_assoc, append-nil, refl, sym, ap, ◌∙◌, subst}
 use Rattle.policy_trait.specs.declared.birth.Birth.{Birth}
 use Rattle.engine_trait.specs.Events.{Event}
 use Rattle.part_turns.specs.Moments.{Moment, is_jalr, is_turn_of}
 use Rattle.flow_policy.specs.declared.tag.FlowTag.{FlowTag}
 use Rattle.flow_runs.specs.EdgeWalk.{Visit, visit_of, walk_of}
-use Rattle.flow_runs.specs.FlowLine.{last_of}
+use Rattle.flow_runs.specs.FlowInvariant.{last_of}
 use Rattle.flow_runs.specs.FlowSafe.{FlowSafe, HasLabel, IsCode, IsListed, IsWalk}
 use Rattle.flow_runs.specs.FlowTurn.{FlowTurn}
 use Rattle.flow_runs.proofs.WalkLemmas.{pair_appended, retired_there, visit_appended, walk_grows, walk_stays}

@@ -1,4 +1,4 @@
--- The line holds at every start.
+-- The invariant holds at every start.
 use Rattle.std.proofs.Common.{◌≡◌, ℕ, ◌*◌, ◌<◌, true, List, [], length, map, slice_index_or, refl, ap, arith}
 use Rattle.std.proofs.lemmas.List.{get_or-map, length-map}
 use Rattle.std.proofs.lemmas.List.FromFn.{get_or-map-range_with_len}
@@ -10,7 +10,7 @@ use Rattle.tag_memory.specs.Hart.{HartState, fresh_hart}
 use Rattle.engine_trait.specs.Machine.{Machine, hart_at, is_ready_in}
 use Rattle.part_turns.specs.Start.{first_hart, first_machine}
 use Rattle.flow_runs.specs.EdgeWalk.{walk_of}
-use Rattle.flow_runs.specs.FlowLine.{FlowLine}
+use Rattle.flow_runs.specs.FlowInvariant.{FlowInvariant}
 use Rattle.part_turns.proofs.PlaceLemmas.{there}
 
 module _ (birth : ℕ → Birth) (words entries : List ℕ) (edges : List (ℕ × ℕ)) where
@@ -27,7 +27,7 @@ module _ (birth : ℕ → Birth) (words entries : List ℕ) (edges : List (ℕ �
       ap (λ (hart : HartState FlowTag). hart.pc_tag)
       (get_or-map first entries h 0 (fresh_hart 0 Plain Plain) (omega (arith, length-map entries first)))
 
-  pub holds_at_the_start : FlowLine birth words edges [] start
+  pub holds_at_the_start : FlowInvariant birth words edges [] start
   unfolding walk_of
   holds_at_the_start = record {
     count = refl;

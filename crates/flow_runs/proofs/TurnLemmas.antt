@@ -1,4 +1,4 @@
--- What a retired turn does under control flow, in a state that the line speaks of.
+-- What a retired turn does under control flow, in a state that the invariant speaks of.
 use Rattle.std.proofs.Common.{◌≡◌, ℕ, ◌*◌, ◌/◌, ◌%◌, ◌<◌, ◌==◌, Bool, true, false, ◌&&◌, List, length, Option, Some, None, slice_index, if◌then◌else◌, refl, sym, ap, ◌∙◌, subst, arith}
 use Rattle.std.specs.List.{Contains}
 use Rattle.std.proofs.lemmas.Bool.Decides.{nat_tests}
@@ -17,7 +17,7 @@ use Rattle.flow_policy.specs.Flow.{flow, may_enter}
 use Rattle.flow_policy.specs.declared.tag.FlowTag.{FlowTag}
 use Rattle.flow_policy.specs.declared.tag.FlowTag.TheVariants.{Plain, Still, Code, Data}
 use Rattle.flow_runs.specs.EdgeWalk.{Visit, visit_of, walk_of}
-use Rattle.flow_runs.specs.FlowLine.{FlowLine, from_label, last_of, pc_after}
+use Rattle.flow_runs.specs.FlowInvariant.{FlowInvariant, from_label, last_of, pc_after}
 use Rattle.flow_runs.specs.FlowSafe.{HasLabel, IsCode, IsListed}
 use Rattle.flow_runs.specs.FlowTurn.{FlowTurn}
 use Rattle.part_turns.proofs.PlaceLemmas.{there}
@@ -56,7 +56,7 @@ enters edges None None may = absurd cc
 -- ---- a retired turn
 
 module _ (birth : ℕ → Birth) (words : List ℕ) (edges : List (ℕ × ℕ)) (before : List (Event FlowTag)) (s : Machine (List (ℕ × ℕ)) FlowTag) (h : ℕ)
-    (is : IsMachine flow s) (line : FlowLine birth words edges before s) (look : Look) (outs : Outs FlowTag) (e : Event FlowTag)
+    (is : IsMachine flow s) (invariant : FlowInvariant birth words edges before s) (look : Look) (outs : Outs FlowTag) (e : Event FlowTag)
     (allows : Allows flow s h look outs e) where
   abbrev inputs : Ins FlowTag
   inputs = rule_inputs s.core h look
@@ -72,14 +72,14 @@ module _ (birth : ℕ → Birth) (words : List ℕ) (edges : List (ℕ × ℕ)) 
       omega arith
 
   within : (hart_at s.core h).pc / 4 < length words
-  within = omega (arith, allows.seen.there, line.count)
+  within = omega (arith, allows.seen.there, invariant.count)
 
   -- the image says that a code word stands there, with the label that the rule found
   born : ((birth e.pc).code ≡ true) × ((birth e.pc).label ≡ entered.label)
   born =
       let n : ℕ = (hart_at s.core h).pc / 4 in
       let at : ((birth (4 * n)).code ≡ true) × ((birth (4 * n)).label ≡ entered.label) =
-      born_code (birth (4 * n)).code (birth (4 * n)).label entered.label (sym (line.tags n within) ∙ entered.code) in
+      born_code (birth (4 * n)).code (birth (4 * n)).label entered.label (sym (invariant.tags n within) ∙ entered.code) in
       subst (λ (a : ℕ). ((birth a).code ≡ true) × ((birth a).label ≡ entered.label)) (place ∙ sym allows.pc) at
 
   is_code : IsCode birth words edges (visit_of e)
@@ -88,7 +88,7 @@ module _ (birth : ℕ → Birth) (words : List ℕ) (edges : List (ℕ × ℕ)) 
       let here : (birth (4 * n)).code ≡ true = ap (λ (a : ℕ). (birth a).code) (place ∙ sym allows.pc) ∙ born.0 in
       record {
         code = born.0;
-        word = allows.word ∙ allows.seen.word ∙ line.code n within here ∙ ap (λ (a : ℕ). slice_index words (a / 4)) (sym allows.pc);
+        word = allows.word ∙ allows.seen.word ∙ invariant.code n within here ∙ ap (λ (a : ℕ). slice_index words (a / 4)) (sym allows.pc);
       }
 
   -- the word tells the group of a jump by register
@@ -105,11 +105,11 @@ module _ (birth : ℕ → Birth) (words : List ℕ) (edges : List (ℕ × ℕ)) 
       → may_enter edges (from_label (birth x.address).label) entered.label ≡ true
   may_come x last jalr =
       let from : inputs.pc ≡ from_label (birth x.address).label =
-      line.pcs h allows.ready
+      invariant.pcs h allows.ready
       ∙ ap (pc_after birth words edges) last
       ∙ ap (λ (b : Bool). if b then from_label (birth x.address).label else Still) jalr in
       ap (λ (tag : FlowTag). may_enter edges tag entered.label) (sym from)
-      ∙ ap (λ (list : List (ℕ × ℕ)). may_enter list inputs.pc entered.label) (sym line.listed)
+      ∙ ap (λ (list : List (ℕ × ℕ)). may_enter list inputs.pc entered.label) (sym invariant.listed)
       ∙ entered.may
 
   is_listed : (x : Visit) → last_of (walk_of h before) ≡ Some x → is_jalr x.word ≡ true → IsListed birth words edges x (visit_of e)
@@ -123,8 +123,8 @@ module _ (birth : ℕ → Birth) (words : List ℕ) (edges : List (ℕ × ℕ)) 
         listed = edge.listed;
       }
 
-  pub does_as_promised : FlowTurn birth words edges before e
-  does_as_promised = record {
+  pub does_as_guaranteed : FlowTurn birth words edges before e
+  does_as_guaranteed = record {
     code = λ retires. is_code;
     labelled = λ retires. has_label;
     listed = λ retires x last. is_listed x (ap (λ (n : ℕ). last_of (walk_of n before)) (sym allows.hart) ∙ last);
@@ -137,10 +137,10 @@ module _ (birth : ℕ → Birth) (words : List ℕ) (edges : List (ℕ × ℕ)) 
       ∙ ap (λ (b : Bool). if b then from_label entered.label else Still) (sym jumps)
       ∙ ap (λ (label : Option ℕ). if is_jalr e.word then from_label label else Still) (sym born.1)
 
--- a turn that doesn't retire promises nothing
-pub no_promise : (birth : ℕ → Birth) (words : List ℕ) (edges : List (ℕ × ℕ)) (before : List (Event FlowTag)) (e : Event FlowTag)
+-- a turn that doesn't retire guarantees nothing
+pub no_guarantee : (birth : ℕ → Birth) (words : List ℕ) (edges : List (ℕ × ℕ)) (before : List (Event FlowTag)) (e : Event FlowTag)
     → is_retirement e ≡ false → FlowTurn birth words edges before e
-no_promise birth words edges before e waits = record {
+no_guarantee birth words edges before e waits = record {
   code = λ retires. absurd cc;
   labelled = λ retires jumps. absurd cc;
   listed = λ retires x last jumps. absurd cc;

@@ -8,7 +8,7 @@ use Rattle.std.proofs.lemmas.Option.{same_Some}
 use Rattle.engine_trait.specs.Events.{Event, is_retirement}
 use Rattle.part_turns.specs.Moments.{is_turn_of, turns_of}
 use Rattle.flow_runs.specs.EdgeWalk.{Visit, visit_of, walk_of}
-use Rattle.flow_runs.specs.FlowLine.{last_of}
+use Rattle.flow_runs.specs.FlowInvariant.{last_of}
 
 -- ---- whose turn it is
 

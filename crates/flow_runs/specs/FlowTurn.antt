@@ -5,7 +5,7 @@ use Rattle.engine_trait.specs.Events.{Event, is_retirement}
 use Rattle.part_turns.specs.Moments.{is_jalr}
 use Rattle.flow_policy.specs.declared.tag.FlowTag.{FlowTag}
 use Rattle.flow_runs.specs.EdgeWalk.{Visit, visit_of, walk_of}
-use Rattle.flow_runs.specs.FlowLine.{last_of}
+use Rattle.flow_runs.specs.FlowInvariant.{last_of}
 use Rattle.flow_runs.specs.FlowSafe.{HasLabel, IsCode, IsListed}
 
 module _ (birth : ℕ → Birth) (words : List ℕ) (edges : List (ℕ × ℕ)) where

@@ -1,4 +1,4 @@
 pub mod EdgeWalk
-pub mod FlowLine
+pub mod FlowInvariant
 pub mod FlowSafe
 pub mod FlowTurn

@@ -7,20 +7,20 @@ ghost use Rattle.engine_trait.specs.Events.{Event};
 ghost use Rattle.part_turns.specs.Keeps.{Keeps};
 ghost use Rattle.part_turns.specs.Moments.{Moment};
 ghost use Rattle.part_turns.specs.Start.{first_machine};
-ghost use Rattle.flow_runs.specs.FlowLine.{FlowLine};
+ghost use Rattle.flow_runs.specs.FlowInvariant.{FlowInvariant};
 ghost use Rattle.flow_runs.specs.FlowSafe.{FlowSafe};
 ghost use Rattle.flow_runs.specs.FlowTurn.{FlowTurn};
 
 use flow_policy::FlowTag;
 
-/// Each turn under control flow keeps its line, and goes on from the hart's last retired turn as the edges allow; so does
-/// each turn in which other policies are chosen too. The function does nothing.
+/// Each turn under control flow keeps its invariant, and goes on from the hart's last retired turn as the edges allow; so does
+/// each turn in which other policies are chosen too.
 pub fn edge_law()
     ensures { (birth : ℕ → Birth) (words : List ℕ) (edges : List (ℕ × ℕ))
-        → Keeps flow (FlowLine birth words edges) (FlowTurn birth words edges) }
+        → Keeps flow (FlowInvariant birth words edges) (FlowTurn birth words edges) }
 {}
 
-/// A run in which each turn does so is safe. The function does nothing.
+/// A run in which each turn does so is safe.
 pub fn safe_law()
     ensures { (birth : ℕ → Birth) (words : List ℕ) (edges : List (ℕ × ℕ))
         (events : List (Event FlowTag))
@@ -28,8 +28,8 @@ pub fn safe_law()
         → FlowSafe birth words edges events }
 {}
 
-/// The line holds at every start. The function does nothing.
+/// The invariant holds at every start.
 pub fn start_law()
     ensures { (birth : ℕ → Birth) (words entries : List ℕ) (edges : List (ℕ × ℕ))
-        → FlowLine birth words edges [] (first_machine flow edges birth words entries) }
+        → FlowInvariant birth words edges [] (first_machine flow edges birth words entries) }
 {}

@@ -200,7 +200,7 @@ abbrev pub outs_or_refusal : Group → Option HeapTag → Result (Outs HeapTag) 
 outs_or_refusal g None = Err (refused_for (why.Rule g))
 outs_or_refusal g (Some result) = Ok (record { pc = Val; result = result })
 
--- the rule of a group with this effect: only words outside the heap region are obeyed
+-- the rule of a group with this effect: only words outside the heap region are executed
 abbrev pub rule_by : Effect → Group → Ins HeapTag → Result (Outs HeapTag) Refused
 rule_by effect g x = outs_or_refusal g (if is_static x.ci then result_by effect x.t1 x.t2 x.tm else None)
 

@@ -81,7 +81,7 @@ impl Heap {
         }
     }
 
-    /// Takes note that the block of this number was handed out at these words. The only error is want of memory.
+    /// Takes note that the block of this number was handed out at these words. The only error is running out of memory.
     fn hand_out(&mut self, number: u32, words: Words) -> Result<(), AllocError>
         requires { CanHandOut self.old number words }
         ensures ok { OnOk result (self.new ≡ handed_out self.old number (Some words)) }

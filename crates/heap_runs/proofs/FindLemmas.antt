@@ -11,7 +11,7 @@ use Rattle.live_blocks.proofs.NumberLemmas.{same_block}
 use Rattle.live_blocks.specs.declared.block.Block.{Block}
 use Rattle.live_blocks.specs.Space.{IsApart, IsSpace, LiesFree, Space, end_of, without_block}
 use Rattle.heap_runs.proofs.BookLemmas.{is_other}
-use Rattle.heap_runs.specs.HeapLine.{is_in_block}
+use Rattle.heap_runs.specs.HeapInvariant.{is_in_block}
 
 -- ---- a search
 

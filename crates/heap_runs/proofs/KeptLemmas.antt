@@ -1,4 +1,4 @@
--- The line stays where no block comes or goes: each word keeps its kind, and no tag names a block that was not handed out.
+-- The invariant stays where no block comes or goes: each word keeps its kind, and no tag names a block that was not handed out.
 use Rattle.std.proofs.Common.{◌≡◌, ◌≢◌, ◌⊎◌, inl, inr, ℕ, ◌/◌, ◌<◌, true, false, List, length, refl, sym, ap, subst, arith}
 use Rattle.std.proofs.lemmas.Bool.{cases_eq}
 use Rattle.std.proofs.lemmas.List.{length-set}
@@ -25,7 +25,7 @@ use Rattle.heap_policy.specs.declared.tag.HeapTag.TheVariants.{Val}
 use Rattle.part_turns.specs.Turns.{Does, after_step, computes, loads, loads_part, moves, stores, stores_part}
 use Rattle.part_turns.proofs.PlaceLemmas.{each_hart, each_register, each_stored, nth_tag, store_plain, store_tag, store_tag_other}
 use Rattle.heap_runs.specs.BlockBook.{block_book}
-use Rattle.heap_runs.specs.HeapLine.{HeapLine, IsBelow, IsHartBelow}
+use Rattle.heap_runs.specs.HeapInvariant.{HeapInvariant, IsBelow, IsHartBelow}
 use Rattle.heap_runs.proofs.RuleLemmas.{IsRow, IsStored, no_word, result_below, stores_is, stores_part_is}
 use Rattle.heap_runs.proofs.TagLemmas.{IsKept, holding_kept, same_kept}
 
@@ -35,25 +35,25 @@ pub record StaysMemory (next : ℕ) (old new : RamState HeapTag) : Type 0 where
   pub kinds : (n : ℕ) → n < length old.words → IsKept (nth_tag old n) (nth_tag new n)
   pub below : (n : ℕ) → IsBelow next (nth_tag new n)
 
-module _ (base top : ℕ) (events : List (Event HeapTag)) (s : Machine HeapState HeapTag) (line : HeapLine base top events s) where
+module _ (base top : ℕ) (events : List (Event HeapTag)) (s : Machine HeapState HeapTag) (invariant : HeapInvariant base top events s) where
   abbrev next : ℕ
   next = s.policy.next
 
   pub same_memory : StaysMemory next s.core.ram s.core.ram
-  same_memory = record { size = refl; kinds = λ n lower. same_kept (nth_tag s.core.ram n); below = line.words }
+  same_memory = record { size = refl; kinds = λ n lower. same_kept (nth_tag s.core.ram n); below = invariant.words }
 
   -- another core, and a book that is the same
-  pub kept_line : (later : List (Event HeapTag)) (core : CoreState HeapTag) → block_book later ≡ block_book events
+  pub kept_invariant : (later : List (Event HeapTag)) (core : CoreState HeapTag) → block_book later ≡ block_book events
       → StaysMemory next s.core.ram core.ram → ((h : ℕ) → IsHartBelow next (hart_at core h))
-      → HeapLine base top later (record { policy = s.policy; core = core })
-  kept_line later core same stays harts = record {
-    from = line.from;
-    to = line.to;
-    space = line.space;
-    live = let is = line.live in cc;
-    next = let is = line.next in cc;
-    static = λ n lower outside. (stays.kinds n (there n lower)).static (line.static n (there n lower) outside);
-    cells = λ n lower inside. (stays.kinds n (there n lower)).cell _ (line.cells n (there n lower) inside);
+      → HeapInvariant base top later (record { policy = s.policy; core = core })
+  kept_invariant later core same stays harts = record {
+    from = invariant.from;
+    to = invariant.to;
+    space = invariant.space;
+    live = let is = invariant.live in cc;
+    next = let is = invariant.next in cc;
+    static = λ n lower outside. (stays.kinds n (there n lower)).static (invariant.static n (there n lower) outside);
+    cells = λ n lower inside. (stays.kinds n (there n lower)).cell _ (invariant.cells n (there n lower) inside);
     harts = harts;
     words = stays.below;
   }
@@ -83,7 +83,7 @@ module _ (base top : ℕ) (events : List (Event HeapTag)) (s : Machine HeapState
     word_is is = ap (access_tag ram hart.plain) is
 
     word_below : (place : ℕ) → inputs.tm ≡ ram_tag ram place → IsBelow next inputs.tm
-    word_below place is = subst (IsBelow next) (sym is) (line.words (place / 4))
+    word_below place is = subst (IsBelow next) (sym is) (invariant.words (place / 4))
 
     unused : (g : Group) → look.group ≡ g → uses_word (effect_of g) ≡ false → uses_word (effect_of look.group) ≡ true
         → IsBelow next inputs.tm
@@ -102,7 +102,7 @@ module _ (base top : ℕ) (events : List (Event HeapTag)) (s : Machine HeapState
       below : IsBelow next outs.result
       below =
           result_below next look.group inputs.t1 inputs.t2 inputs.tm
-          ((line.harts h).registers look.places.first) ((line.harts h).registers look.places.second)
+          ((invariant.harts h).registers look.places.first) ((invariant.harts h).registers look.places.second)
           (used_below register value does) outs.result (allowed.row look.group refl)
 
       -- ---- what is stored
@@ -123,7 +123,7 @@ module _ (base top : ℕ) (events : List (Event HeapTag)) (s : Machine HeapState
       stored_memory place width value kind = record {
         size = length-set ram.words (place / 4) (stored_in (ram_word ram place) place width value);
         kinds = store_kept place width value kind;
-        below = each_stored (λ word tag. IsBelow next tag) ram place width value outs.result ram_is below line.words;
+        below = each_stored (λ word tag. IsBelow next tag) ram place width value outs.result ram_is below invariant.words;
       }
 
       storing : (place : ℕ) (width : Width) (value : ℕ) → look.effect.access ≡ access.Store place width value → inputs.tm ≡ ram_tag ram place
@@ -149,15 +149,15 @@ module _ (base top : ℕ) (events : List (Event HeapTag)) (s : Machine HeapState
           storing place width stored made (word_is made) (stores_part_is look.group inputs outs.result allowed is)
       memory_by (computes is none) = untouched access.None none refl
 
-      -- ---- the line
+      -- ---- the invariant
 
-      pub goes_line : (later : List (Event HeapTag)) → block_book later ≡ block_book events → IsHart hart → outs.pc ≡ Val
-          → HeapLine base top later (after_step heap s h look outs register value)
-      goes_line later same hart_is plain_pc =
-          kept_line later (after_step heap s h look outs register value).core same (memory_by does)
+      pub goes_invariant : (later : List (Event HeapTag)) → block_book later ≡ block_book events → IsHart hart → outs.pc ≡ Val
+          → HeapInvariant base top later (after_step heap s h look outs register value)
+      goes_invariant later same hart_is plain_pc =
+          kept_invariant later (after_step heap s h look outs register value).core same (memory_by does)
           (each_hart (IsHartBelow next) s.core h _ (ram_after look.effect.access) (store_plain ram look.effect.access outs.result)
           (record {
             pc = subst (IsBelow next) (sym plain_pc) tt;
-            registers = each_register (λ value tag. IsBelow next tag) hart register value outs.result hart_is below (line.harts h).registers;
+            registers = each_register (λ value tag. IsBelow next tag) hart register value outs.result hart_is below (invariant.harts h).registers;
           })
-          line.harts)
+          invariant.harts)

@@ -2,7 +2,7 @@ mod BookLemmas
 mod FindLemmas
 mod KeptLemmas
 mod PlanLemmas
-mod PromiseLemmas
+mod GuaranteeLemmas
 mod RegionLemmas
 mod RuleLemmas
 mod ServiceLemmas

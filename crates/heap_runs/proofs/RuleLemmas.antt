@@ -16,7 +16,7 @@ use Rattle.heap_policy.specs.declared.tag.Content.TheVariants as contents
 use Rattle.heap_policy.specs.declared.tag.HeapTag.{HeapTag}
 use Rattle.heap_policy.specs.declared.tag.HeapTag.TheVariants.{Val, Ptr, Static, Cell, Free}
 use Rattle.part_turns.specs.Turns.{Allows, is_computing}
-use Rattle.heap_runs.specs.HeapLine.{IsBelow, IsContentBelow}
+use Rattle.heap_runs.specs.HeapInvariant.{IsBelow, IsContentBelow}
 use Rattle.shared_terms.proofs.StepLemmas.{ok_is}
 
 -- ---- blocks that a result names

@@ -1,4 +1,4 @@
--- The line after a service that was carried out: a block handed out, a block taken back, or the words of another policy.
+-- The invariant after a service that was carried out: a block handed out, a block taken back, or the words of another policy.
 use Rattle.std.proofs.Common.{◌≡◌, ℕ, ◌+◌, ◌*◌, ◌<◌, ◌≤◌, Bool, true, false, List, [], ◌∷◌, ◌++◌, length, map, Option, Some, None, Result, Ok, if◌then◌else◌, refl, sym, ap, ◌∙◌, subst, arith}
 use Rattle.std.specs.List.{Contains, filter, find}
 use Rattle.std.proofs.lemmas.List.{length-map}
@@ -20,7 +20,7 @@ use Rattle.heap_policy.specs.declared.tag.HeapTag.{HeapTag}
 use Rattle.heap_policy.specs.declared.tag.HeapTag.TheVariants.{Cell, Free}
 use Rattle.part_turns.proofs.PlaceLemmas.{IsServed, kept, nth_tag, written}
 use Rattle.heap_runs.specs.BlockBook.{BlockBook, block_book, freed_where, live_in}
-use Rattle.heap_runs.specs.HeapLine.{HeapLine, IsBelow, IsCellOf, IsHartBelow, IsStatic, is_in_block}
+use Rattle.heap_runs.specs.HeapInvariant.{HeapInvariant, IsBelow, IsCellOf, IsHartBelow, IsStatic, is_in_block}
 use Rattle.heap_runs.specs.HeapSafe.{is_in_heap}
 use Rattle.heap_runs.proofs.BookLemmas.{is_other, length_pushed, live_freed, live_pushed, lives}
 use Rattle.heap_runs.proofs.FindLemmas.{found_before, found_last, free_word, gone, has_word, lies_out, stays}
@@ -57,7 +57,7 @@ below_left next range result old new n below was (inside lower higher is) = subs
 below_left next range result old new n below was (outside beyond is) = subst (IsBelow next) (sym is) was
 
 module _ (base top : ℕ) (events : List (Event HeapTag)) (s : Machine HeapState HeapTag) (is : IsMachine heap s)
-    (line : HeapLine base top events s) (later : List (Event HeapTag)) (core : CoreState HeapTag)
+    (invariant : HeapInvariant base top events s) (later : List (Event HeapTag)) (core : CoreState HeapTag)
     (size : length core.ram.words ≡ length s.core.ram.words) where
   abbrev book : BlockBook
   book = block_book events
@@ -106,25 +106,25 @@ module _ (base top : ℕ) (events : List (Event HeapTag)) (s : Machine HeapState
         held_by n _ (holder_in live n) (found_before (is_in_block (4 * n)) live block (lies_out (4 * n) block beyond)) (still_held n tag cell)
 
     in_region : (base ≤ at) × (at + 4 * count ≤ top)
-    in_region = (omega (arith, fit.lies_free.from, line.from), omega (arith, fit.lies_free.to, line.to))
+    in_region = (omega (arith, fit.lies_free.from, invariant.from), omega (arith, fit.lies_free.to, invariant.to))
 
-    pub handed_line : (pc : HeapTag) → block_book later ≡ book ++ lives block ∷ []
+    pub handed_invariant : (pc : HeapTag) → block_book later ≡ book ++ lives block ∷ []
         → ((n : ℕ) → IsServed heap s.policy (handing_out next range pc) s.core.ram core.ram n)
         → ((h : ℕ) → IsHartBelow (next + 1) (hart_at core h))
-        → HeapLine base top later (record { policy = handed_out s.policy next (Some range); core = core })
-    handed_line pc noted served harts = record {
-      from = line.from;
-      to = line.to;
-      space = space_insert s.policy.space block line.space (first_within s.policy.space next count at some fit) fit.lies_free
-          (newest base top events s is line);
-      live = ap (λ (l : List Block). l ++ block ∷ []) line.live ∙ sym (live_pushed book block) ∙ ap live_in (sym noted);
-      next = ap (λ (n : ℕ). n + 1) line.next ∙ sym (length_pushed book block) ∙ ap length (sym noted);
+        → HeapInvariant base top later (record { policy = handed_out s.policy next (Some range); core = core })
+    handed_invariant pc noted served harts = record {
+      from = invariant.from;
+      to = invariant.to;
+      space = space_insert s.policy.space block invariant.space (first_within s.policy.space next count at some fit) fit.lies_free
+          (newest base top events s is invariant);
+      live = ap (λ (l : List Block). l ++ block ∷ []) invariant.live ∙ sym (live_pushed book block) ∙ ap live_in (sym noted);
+      next = ap (λ (n : ℕ). n + 1) invariant.next ∙ sym (length_pushed book block) ∙ ap length (sym noted);
       static = λ n lower elsewhere. static_left base top range _ (old n) (new n) n in_region.0 in_region.1 elsewhere
-          (line.static n (there n lower) elsewhere) (word_left n);
-      cells = λ n lower heaped. handed_cell n (line.cells n (there n lower) heaped) (word_left n);
+          (invariant.static n (there n lower) elsewhere) (word_left n);
+      cells = λ n lower heaped. handed_cell n (invariant.cells n (there n lower) heaped) (word_left n);
       harts = harts;
       words = λ n. below_left (next + 1) range _ (old n) (new n) n (omega arith, tt)
-          (below_more next (next + 1) (omega arith) (old n) (line.words n)) (word_left n);
+          (below_more next (next + 1) (omega arith) (old n) (invariant.words n)) (word_left n);
     }
       where
         word_left : (n : ℕ) → IsLeft range (Cell next contents.Val) (old n) (new n) n
@@ -142,26 +142,26 @@ module _ (base top : ℕ) (events : List (Event HeapTag)) (s : Machine HeapState
     freed_cell : (n : ℕ) → IsCellOf (holder_in live n) (old n) → IsLeft words_back Free (old n) (new n) n
         → IsCellOf (holder_in rest n) (new n)
     freed_cell n cell (inside from below tag) =
-        held_by n _ None (gone s.policy.space line.space block is_live (4 * n) (has_word (4 * n) block from below)) tag
+        held_by n _ None (gone s.policy.space invariant.space block is_live (4 * n) (has_word (4 * n) block from below)) tag
     freed_cell n cell (outside beyond tag) =
-        held_by n _ (holder_in live n) (stays s.policy.space line.space block is_live (4 * n) (lies_out (4 * n) block beyond))
+        held_by n _ (holder_in live n) (stays s.policy.space invariant.space block is_live (4 * n) (lies_out (4 * n) block beyond))
         (still_held n tag cell)
 
-    pub freed_line : (pc : HeapTag) → block_book later ≡ map (freed_where block.number) book
+    pub freed_invariant : (pc : HeapTag) → block_book later ≡ map (freed_where block.number) book
         → ((n : ℕ) → IsServed heap s.policy (freeing block pc) s.core.ram core.ram n)
         → ((h : ℕ) → IsHartBelow next (hart_at core h))
-        → HeapLine base top later (record { policy = taken_back s.policy block.number; core = core })
-    freed_line pc noted served harts = let within = live_within base top events s is line block is_live in record {
-      from = line.from;
-      to = line.to;
-      space = space_filter s.policy.space block.number line.space;
-      live = ap (filter (is_other block.number)) line.live ∙ sym (live_freed block.number book) ∙ ap live_in (sym noted);
-      next = line.next ∙ sym (length-map book (freed_where block.number)) ∙ ap length (sym noted);
+        → HeapInvariant base top later (record { policy = taken_back s.policy block.number; core = core })
+    freed_invariant pc noted served harts = let within = live_within base top events s is invariant block is_live in record {
+      from = invariant.from;
+      to = invariant.to;
+      space = space_filter s.policy.space block.number invariant.space;
+      live = ap (filter (is_other block.number)) invariant.live ∙ sym (live_freed block.number book) ∙ ap live_in (sym noted);
+      next = invariant.next ∙ sym (length-map book (freed_where block.number)) ∙ ap length (sym noted);
       static = λ n lower elsewhere. static_left base top words_back _ (old n) (new n) n within.from within.to elsewhere
-          (line.static n (there n lower) elsewhere) (word_left n);
-      cells = λ n lower heaped. freed_cell n (line.cells n (there n lower) heaped) (word_left n);
+          (invariant.static n (there n lower) elsewhere) (word_left n);
+      cells = λ n lower heaped. freed_cell n (invariant.cells n (there n lower) heaped) (word_left n);
       harts = harts;
-      words = λ n. below_left next words_back _ (old n) (new n) n tt (line.words n) (word_left n);
+      words = λ n. below_left next words_back _ (old n) (new n) n tt (invariant.words n) (word_left n);
     }
       where
         word_left : (n : ℕ) → IsLeft words_back Free (old n) (new n) n
@@ -190,8 +190,8 @@ module _ (base top : ℕ) (events : List (Event HeapTag)) (s : Machine HeapState
 
     others_below : (n : ℕ) → IsServed heap s.policy p s.core.ram core.ram n → IsBelow next (new n)
     others_below n (written words_there ranged from below tag word) =
-        beside_below p.zero (old n) (new n) (line.words n) (sym (beside_is (old n)) ∙ tag)
-    others_below n (kept beyond tag word) = subst (IsBelow next) (sym tag) (line.words n)
+        beside_below p.zero (old n) (new n) (invariant.words n) (sym (beside_is (old n)) ∙ tag)
+    others_below n (kept beyond tag word) = subst (IsBelow next) (sym tag) (invariant.words n)
 
     pub others_memory : ((n : ℕ) → IsServed heap s.policy p s.core.ram core.ram n) → StaysMemory next s.core.ram core.ram
     others_memory served = record { size = size; kinds = λ n lower. others_kept n (served n); below = λ n. others_below n (served n) }
@@ -207,5 +207,5 @@ module _ (base top : ℕ) (events : List (Event HeapTag)) (s : Machine HeapState
     unranged_memory served = record {
       size = size;
       kinds = λ n lower. subst (IsKept (old n)) (same_tag n (served n)) (same_kept (old n));
-      below = λ n. subst (IsBelow next) (same_tag n (served n)) (line.words n);
+      below = λ n. subst (IsBelow next) (same_tag n (served n)) (invariant.words n);
     }

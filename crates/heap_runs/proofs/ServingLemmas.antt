@@ -1,4 +1,4 @@
--- A service that was carried out under heap safety keeps the line, and does what is promised.
+-- A service that was carried out under heap safety keeps the invariant, and does what is guaranteed.
 use Rattle.std.proofs.Common.{◌≡◌, ℕ, ◌+◌, ◌≤◌, ◌==◌, false, List, [], ◌∷◌, ◌++◌, length, Some, refl, sym, ap, ◌∙◌, subst, arith}
 use Rattle.std.specs.List.{Contains}
 use Rattle.std.proofs.lemmas.Bool.{or_parts}
@@ -31,23 +31,23 @@ use Rattle.part_turns.specs.Moments.{Service, service_of}
 use Rattle.part_turns.specs.Turns.{Allows, after_service}
 use Rattle.part_turns.proofs.PlaceLemmas.{IsServed, each_answered, each_hart, words_plain}
 use Rattle.heap_runs.specs.BlockBook.{BlockBook, block_book, blocks_by, book_without}
-use Rattle.heap_runs.specs.HeapLine.{HeapLine, IsBelow, IsHartBelow}
+use Rattle.heap_runs.specs.HeapInvariant.{HeapInvariant, IsBelow, IsHartBelow}
 use Rattle.heap_runs.specs.HeapSafe.{HeapTurn}
 use Rattle.heap_runs.proofs.BookLemmas.{book_by}
-use Rattle.heap_runs.proofs.KeptLemmas.{kept_line}
+use Rattle.heap_runs.proofs.KeptLemmas.{kept_invariant}
 use Rattle.heap_runs.proofs.RuleLemmas.{pc_is}
 use Rattle.heap_runs.proofs.PlanLemmas.{IsOwn, finds_none, hands_out, own_is, takes_back}
-use Rattle.heap_runs.proofs.PromiseLemmas.{serves_promised}
-use Rattle.heap_runs.proofs.ServiceLemmas.{freed_line, handed_line, others_memory, unranged_memory}
+use Rattle.heap_runs.proofs.GuaranteeLemmas.{serves_guaranteed}
+use Rattle.heap_runs.proofs.ServiceLemmas.{freed_invariant, handed_invariant, others_memory, unranged_memory}
 use Rattle.heap_runs.proofs.TagLemmas.{below_more}
 
 -- the number of a pointer that is an answer's tag
 number_is : (x y : ℕ) → Ptr x ≡ Ptr y → x ≡ y
 number_is x y e = cc
 
--- a turn of hart h in a state of which the line holds: its rule allows the call, and these words are written
+-- a turn of hart h in a state of which the invariant holds: its rule allows the call, and these words are written
 module _ (base top : ℕ) (before : List (Event HeapTag)) (s : Machine HeapState HeapTag) (is : IsMachine heap s)
-    (line : HeapLine base top before s) (h : ℕ) (look : Look) (outs : Outs HeapTag) (words : List (ℕ × ℕ × HeapTag))
+    (invariant : HeapInvariant base top before s) (h : ℕ) (look : Look) (outs : Outs HeapTag) (words : List (ℕ × ℕ × HeapTag))
     (e : Event HeapTag) (allows : Allows heap s h look outs e) (no_access : look.effect.access ≡ access.None)
     (hart_is : IsHart (hart_at s.core h)) where
   abbrev later : List (Event HeapTag)
@@ -86,9 +86,9 @@ module _ (base top : ℕ) (before : List (Event HeapTag)) (s : Machine HeapState
     pub told : service_of e ≡ Some (service_by look.service p)
     pub left : (n : ℕ) → IsServed heap s.policy p s.core.ram ram_after n
 
-  -- the promise, and the line
+  -- the guarantee, and the invariant
   abbrev Serves : Plan HeapTag → Type 0
-  Serves p = HeapTurn base top book e × HeapLine base top later (after p)
+  Serves p = HeapTurn base top book e × HeapInvariant base top later (after p)
 
   size : length ram_after.words ≡ length s.core.ram.words
   size = omega (arith, words_bytes s.core.ram words)
@@ -105,8 +105,8 @@ module _ (base top : ℕ) (before : List (Event HeapTag)) (s : Machine HeapState
     where
       still : (n : ℕ) → IsHartBelow bound (hart_at s.core n)
       still n = record {
-        pc = below_more next bound le _ (line.harts n).pc;
-        registers = λ r. below_more next bound le _ ((line.harts n).registers r);
+        pc = below_more next bound le _ (invariant.harts n).pc;
+        registers = λ r. below_more next bound le _ ((invariant.harts n).registers r);
       }
 
   -- the book by the number of the service
@@ -116,11 +116,11 @@ module _ (base top : ℕ) (before : List (Event HeapTag)) (s : Machine HeapState
       book_by before e (Some (service_by look.service p)) carried.told
       ∙ ap (λ (number : ℕ). blocks_by book (Some (service_by number p))) is_number
 
-  promised : (p : Plan HeapTag) → IsCarried p
+  guaranteed : (p : Plan HeapTag) → IsCarried p
       → ((answer : Answer HeapTag) (number : ℕ) → look.service ≡ 48 → p.answer ≡ Some answer → answer.tag ≡ Ptr number → number ≡ length book)
       → HeapTurn base top book e
-  promised p carried numbers =
-      serves_promised base top before s line h look outs e allows (service_by look.service p) carried.told no_access numbers
+  guaranteed p carried numbers =
+      serves_guaranteed base top before s invariant h look outs e allows (service_by look.service p) carried.told no_access numbers
 
   -- ---- heap safety's own
 
@@ -136,9 +136,9 @@ module _ (base top : ℕ) (before : List (Event HeapTag)) (s : Machine HeapState
 
     hands_serves : look.service ≡ 48 → first_fit s.policy.space count ≡ Some at → IsCarried handing → Serves handing
     hands_serves is_malloc fit carried = (
-      promised handing carried (λ answer number is_called answered tagged.
-          number_is number next (sym tagged ∙ sym (pointer_is answer answered)) ∙ line.next),
-      handed_line base top before s is line later (core_after handing) size at count (omega arith) (found_first s.policy.space count at fit)
+      guaranteed handing carried (λ answer number is_called answered tagged.
+          number_is number next (sym tagged ∙ sym (pointer_is answer answered)) ∙ invariant.next),
+      handed_invariant base top before s is invariant later (core_after handing) size at count (omega arith) (found_first s.policy.space count at fit)
           outs.pc (book_of handing carried 48 is_malloc) carried.left
           (harts_after handing (next + 1) (omega arith) (λ answer answered.
           subst (IsBelow (next + 1)) (pointer_is answer answered) (omega arith))),
@@ -152,17 +152,17 @@ module _ (base top : ℕ) (before : List (Event HeapTag)) (s : Machine HeapState
 
   none_serves : look.service ≡ 48 → IsCarried passing → Serves passing
   none_serves is_malloc carried = (
-    promised passing carried (λ answer number is_called answered tagged. absurd (let plain = value_is answer answered in cc)),
-    kept_line base top before s line later (core_after passing) (book_of passing carried 48 is_malloc)
-        (unranged_memory base top before s is line later (core_after passing) size passing refl carried.left)
+    guaranteed passing carried (λ answer number is_called answered tagged. absurd (let plain = value_is answer answered in cc)),
+    kept_invariant base top before s invariant later (core_after passing) (book_of passing carried 48 is_malloc)
+        (unranged_memory base top before s is invariant later (core_after passing) size passing refl carried.left)
         (harts_after passing next (omega arith) (λ answer answered. subst (IsBelow next) (value_is answer answered) tt)),
   )
 
   frees_serves : (block : Block) → look.service ≡ 49 → Contains s.policy.space.live block → arguments.t0 ≡ Ptr block.number
       → IsCarried (freeing block outs.pc) → Serves (freeing block outs.pc)
   frees_serves block is_free live pointer carried = let p = freeing block outs.pc in (
-    promised p carried (λ answer number is_called answered tagged. absurd (omega (arith, is_called, is_free))),
-    freed_line base top before s is line later (core_after p) size block live outs.pc
+    guaranteed p carried (λ answer number is_called answered tagged. absurd (omega (arith, is_called, is_free))),
+    freed_invariant base top before s is invariant later (core_after p) size block live outs.pc
         (book_of p carried 49 is_free ∙ ap (λ (tag : HeapTag). book_without tag book) pointer) carried.left
         (harts_after p next (omega arith) (λ answer answered. absurd cc)),
   )
@@ -182,7 +182,7 @@ module _ (base top : ℕ) (before : List (Event HeapTag)) (s : Machine HeapState
     where
       rest_below : (rest : Rest) → IsBelow next (rest_tag rest Val arguments.t0)
       rest_below Plain = tt
-      rest_below AsA0 = (line.harts h).registers a0
+      rest_below AsA0 = (invariant.harts h).registers a0
 
   -- a service that heap safety doesn't know is of no account to the book
   no_blocks : (p : Plan HeapTag) (number : ℕ) → heap_knows number ≡ false → blocks_by book (Some (service_by number p)) ≡ book
@@ -193,11 +193,11 @@ module _ (base top : ℕ) (before : List (Event HeapTag)) (s : Machine HeapState
   others_serves p unknown same answered carried =
       let apart : heap_knows p.service ≡ false = ap heap_knows same ∙ unknown in
       let stays : s.policy ≡ value_after heap s.policy p = rw apart refl in (
-        promised p carried (λ answer number is_called is_answer tagged. absurd (let known = ap heap_knows is_called in cc)),
-        subst (λ (policy : HeapState). HeapLine base top later (record { policy = policy; core = core_after p })) stays
-            (kept_line base top before s line later (core_after p)
+        guaranteed p carried (λ answer number is_called is_answer tagged. absurd (let known = ap heap_knows is_called in cc)),
+        subst (λ (policy : HeapState). HeapInvariant base top later (record { policy = policy; core = core_after p })) stays
+            (kept_invariant base top before s invariant later (core_after p)
             (book_of p carried look.service refl ∙ no_blocks p look.service unknown)
-            (others_memory base top before s is line later (core_after p) size p apart carried.left)
+            (others_memory base top before s is invariant later (core_after p) size p apart carried.left)
             (harts_after p next (omega arith) (λ answer is_answer. others_below answer (answered answer is_answer)))),
       )
 
@@ -208,6 +208,6 @@ module _ (base top : ℕ) (before : List (Event HeapTag)) (s : Machine HeapState
   serves_by p (others unknown same pc answered) carried = others_serves p unknown same answered carried
 
   pub served : (p : Plan HeapTag) → Planned heap s.policy look.service arguments outs.pc p → IsCarried p
-      → HeapTurn base top book e × HeapLine base top later (after_service heap s h look outs p words)
+      → HeapTurn base top book e × HeapInvariant base top later (after_service heap s h look outs p words)
   unfolding core_served
   served p planned carried = serves_by p planned carried

@@ -1,4 +1,4 @@
--- The line at the start: no block was handed out, each word of the heap region is free, and every other is static.
+-- The invariant at the start: no block was handed out, each word of the heap region is free, and every other is static.
 use Rattle.std.proofs.Common.{◌≡◌, inl, inr, ◌⊎◌, ℕ, zero, suc, ◌+◌, ◌-◌, ◌*◌, ◌%◌, ◌^◌, ◌<◌, ◌≤◌, ◌==◌, Bool, true, false, List, [], ◌∷◌, length, map, replicate, get_or, if◌then◌else◌, refl, sym, subst, ap, ◌∙◌, arith}
 use Rattle.std.specs.List.{range_with_len}
 use Rattle.std.proofs.lemmas.Bool.{cases_lt}
@@ -14,7 +14,7 @@ use Rattle.heap_policy.specs.declared.tag.HeapTag.{HeapTag}
 use Rattle.heap_policy.specs.declared.tag.HeapTag.TheVariants.{Val, Static, Free}
 use Rattle.part_turns.specs.Start.{first_machine}
 use Rattle.heap_runs.specs.BlockBook.{block_book}
-use Rattle.heap_runs.specs.HeapLine.{HeapLine, IsBelow}
+use Rattle.heap_runs.specs.HeapInvariant.{HeapInvariant, IsBelow}
 use Rattle.heap_runs.specs.HeapSafe.{is_in_heap}
 
 -- a region with no live blocks
@@ -81,11 +81,11 @@ pc_below [] h = tt
 pc_below (entry ∷ entries) zero = tt
 pc_below (entry ∷ entries) (suc h) = pc_below entries h
 
--- ---- the line
+-- ---- the invariant
 
 pub starts : (birth : ℕ → Birth) (words entries : List ℕ) (base bytes : ℕ) → base % 4 ≡ 0 → base + bytes < 2 ^ 32
     → ((n : ℕ) → n < length words → (birth (4 * n)).heap ≡ is_in_heap base (base + bytes) (4 * n))
-    → HeapLine base (base + bytes) [] (first_machine heap (empty_heap base bytes) birth words entries)
+    → HeapInvariant base (base + bytes) [] (first_machine heap (empty_heap base bytes) birth words entries)
 unfolding block_book
 starts birth words entries base bytes aligned small told = record {
   from = refl;

@@ -9,7 +9,7 @@ use Rattle.heap_policy.specs.declared.tag.Content.{Content}
 use Rattle.heap_policy.specs.declared.tag.Content.TheVariants as contents
 use Rattle.heap_policy.specs.declared.tag.HeapTag.{HeapTag}
 use Rattle.heap_policy.specs.declared.tag.HeapTag.TheVariants.{Val, Ptr, Static, Cell, Free}
-use Rattle.heap_runs.specs.HeapLine.{IsBelow, IsCellOf, IsContentBelow, IsStatic}
+use Rattle.heap_runs.specs.HeapInvariant.{IsBelow, IsCellOf, IsContentBelow, IsStatic}
 
 -- what is given where nothing refuses
 abbrev pub given : {A : Type 0} → A → Result A Refused

@@ -1,4 +1,4 @@
--- Each turn under heap safety keeps the line, and does what is promised.
+-- Each turn under heap safety keeps the invariant, and does what is guaranteed.
 use Rattle.std.proofs.Common.{◌≡◌, ℕ, true, List, [], ◌∷◌, ◌++◌, None, refl, sym, subst}
 use Rattle.tag_memory.specs.Hart.{IsHart}
 use Rattle.turn_steps.specs.declared.stop.Stop.TheVariants as stop
@@ -12,33 +12,33 @@ use Rattle.part_turns.specs.Moments.{service_of}
 use Rattle.part_turns.specs.Turns.{Turns, exits, goes, idles, serves, stops}
 use Rattle.part_turns.proofs.PlaceLemmas.{each_served, there}
 use Rattle.heap_runs.specs.BlockBook.{BlockBook, block_book}
-use Rattle.heap_runs.specs.HeapLine.{HeapLine, IsHartBelow}
+use Rattle.heap_runs.specs.HeapInvariant.{HeapInvariant, IsHartBelow}
 use Rattle.heap_runs.specs.HeapSafe.{HeapTurn}
 use Rattle.heap_runs.proofs.BookLemmas.{book_by}
-use Rattle.heap_runs.proofs.KeptLemmas.{StaysMemory, goes_line, kept_line, same_memory}
-use Rattle.heap_runs.proofs.PromiseLemmas.{exits_promised, goes_promised, unretired}
+use Rattle.heap_runs.proofs.KeptLemmas.{StaysMemory, goes_invariant, kept_invariant, same_memory}
+use Rattle.heap_runs.proofs.GuaranteeLemmas.{exits_guaranteed, goes_guaranteed, unretired}
 use Rattle.heap_runs.proofs.RuleLemmas.{pc_is, row_is}
 use Rattle.heap_runs.proofs.ServingLemmas.{served}
 
 module _ (base top : ℕ) (before : List (Event HeapTag)) (s : Machine HeapState HeapTag) (h : ℕ) (e : Event HeapTag)
-    (is : IsMachine heap s) (line : HeapLine base top before s) where
+    (is : IsMachine heap s) (invariant : HeapInvariant base top before s) where
   abbrev later : List (Event HeapTag)
   later = before ++ e ∷ []
 
   abbrev book : BlockBook
   book = block_book before
 
-  -- the promise, and the line after
+  -- the guarantee, and the invariant after
   abbrev Turned : Machine HeapState HeapTag → Type 0
-  Turned t = HeapTurn base top book e × HeapLine base top later t
+  Turned t = HeapTurn base top book e × HeapInvariant base top later t
 
   -- where no service was carried out, and no word and no register changes
   unchanged : (core : CoreState HeapTag) → service_of e ≡ None → core.ram ≡ s.core.ram → core.harts ≡ s.core.harts
-      → HeapLine base top later (record { policy = s.policy; core = core })
+      → HeapInvariant base top later (record { policy = s.policy; core = core })
   unchanged core none ram harts =
-      kept_line base top before s line later core (book_by before e None none)
-      (subst (StaysMemory s.policy.next s.core.ram) (sym ram) (same_memory base top before s line))
-      (λ n. subst (IsHartBelow s.policy.next) (same_hart n) (line.harts n))
+      kept_invariant base top before s invariant later core (book_by before e None none)
+      (subst (StaysMemory s.policy.next s.core.ram) (sym ram) (same_memory base top before s invariant))
+      (λ n. subst (IsHartBelow s.policy.next) (same_hart n) (invariant.harts n))
     where
       same_hart : (n : ℕ) → hart_at s.core n ≡ hart_at core n
       same_hart n = cc
@@ -56,17 +56,17 @@ module _ (base top : ℕ) (before : List (Event HeapTag)) (s : Machine HeapState
     unchanged (stopping s.core h why) none refl refl,
   )
   turned t (exits look outs code allows none group no_access same) = subst Turned (sym same) (
-    exits_promised base top before s line h look outs e allows none no_access,
+    exits_guaranteed base top before s invariant h look outs e allows none no_access,
     unchanged (stopping s.core h (stop.Exit code)) none refl refl,
   )
   turned t (goes look outs register value allows none does same) = subst Turned (sym same) (
-    goes_promised base top before s line h look outs e allows register value none does,
-    goes_line base top before s line h look outs is.ram.shape (row_is s h look outs e allows) register value does
+    goes_guaranteed base top before s invariant h look outs e allows register value none does,
+    goes_invariant base top before s invariant h look outs is.ram.shape (row_is s h look outs e allows) register value does
         later (book_by before e None none) (sound_hart allows.ready) (pc_is s h look outs e allows),
   )
   turned t (serves look outs p words allows group no_access told planned ranged retagged same) = subst Turned (sym same)
-      (served base top before s is line h look outs words e allows no_access (sound_hart allows.ready) p planned
+      (served base top before s is invariant h look outs words e allows no_access (sound_hart allows.ready) p planned
       (record { told = told; left = each_served heap s.policy p s.core.ram is.ram.shape words ranged retagged }))
 
-pub keeps : (base top : ℕ) → Keeps heap (HeapLine base top) (λ before event. HeapTurn base top (block_book before) event)
-keeps base top = record { turn = λ before s h e t is line turns stay. turned base top before s h e is line t turns }
+pub keeps : (base top : ℕ) → Keeps heap (HeapInvariant base top) (λ before event. HeapTurn base top (block_book before) event)
+keeps base top = record { turn = λ before s h e t is invariant turns stay. turned base top before s h e is invariant t turns }

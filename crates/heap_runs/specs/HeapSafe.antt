@@ -25,7 +25,7 @@ module _ (base top : ℕ) where
   is_in_heap address = nat_le base (4 * (address / 4)) && nat_lt (4 * (address / 4)) top
 
   -- What a turn does, in the book as it stands before it. Blocks are 0, 1, 2 and so on. A retired access to the heap reaches
-  -- a live block by its pointer, any other has a plain value as its address, and no word of the heap is obeyed.
+  -- a live block by its pointer, any other has a plain value as its address, and no word of the heap is executed.
   pub record HeapTurn (book : BlockBook) (event : Event HeapTag) : Type 0 where
     pub numbers : (x : Service HeapTag) (answer : Answer HeapTag) (number : ℕ) → service_of event ≡ Some x → x.number ≡ malloc_service → x.answer ≡ Some answer
         → answer.tag ≡ Ptr number → number ≡ length book

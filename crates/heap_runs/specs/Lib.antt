@@ -1,3 +1,3 @@
 pub mod BlockBook
-pub mod HeapLine
+pub mod HeapInvariant
 pub mod HeapSafe

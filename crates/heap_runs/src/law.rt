@@ -6,23 +6,23 @@ ghost use Rattle.heap_policy.specs.Heap.{empty_heap, heap};
 ghost use Rattle.part_turns.specs.Keeps.{Keeps};
 ghost use Rattle.part_turns.specs.Start.{first_machine};
 ghost use Rattle.heap_runs.specs.BlockBook.{block_book};
-ghost use Rattle.heap_runs.specs.HeapLine.{HeapLine};
+ghost use Rattle.heap_runs.specs.HeapInvariant.{HeapInvariant};
 ghost use Rattle.heap_runs.specs.HeapSafe.{HeapTurn, is_in_heap};
 
-/// Each turn under heap safety keeps its line, and reaches what the block book as it stands allows; so does each turn in
-/// which other policies are chosen too. The function does nothing.
+/// Each turn under heap safety keeps its invariant, and reaches what the block book as it stands allows; so does each turn in
+/// which other policies are chosen too.
 pub fn block_law()
     ensures { (base top : ℕ)
-        → Keeps heap (HeapLine base top)
+        → Keeps heap (HeapInvariant base top)
         (λ before event. HeapTurn base top (block_book before) event) }
 {}
 
-/// The line holds at every start with a heap region of whole words, where the births tell it. The function does nothing.
+/// The invariant holds at every start with a heap region of whole words, where the births tell it.
 pub fn start_law()
     ensures { (birth : ℕ → Birth) (words entries : List ℕ) (base bytes : ℕ)
         → base % 4 ≡ 0 → base + bytes < 2 ^ 32
         → ((n : ℕ) → n < length words
         → (birth (4 * n)).heap ≡ is_in_heap base (base + bytes) (4 * n))
-        → HeapLine base (base + bytes) []
+        → HeapInvariant base (base + bytes) []
         (first_machine heap (empty_heap base bytes) birth words entries) }
 {}

@@ -23,15 +23,15 @@ bytes_held-find (entry ∷ entries) name =
     ]
 
 -- A file holds what it held before another was put in front, whose name no file had.
-held_behind : (files : List (List ℕ × List ℕ)) (front file : List ℕ × List ℕ) (same : Bool) →
-    bytes_eq front.0 file.0 ≡ same → IsNone (bytes_held files front.0) →
+held_behind : (files : List (List ℕ × List ℕ)) (prefix file : List ℕ × List ℕ) (same : Bool) →
+    bytes_eq prefix.0 file.0 ≡ same → IsNone (bytes_held files prefix.0) →
     bytes_held files file.0 ≡ Some file.1 →
-    (if same then Some front.1 else bytes_held files file.0) ≡ Some file.1
-held_behind files front file true named unheld held =
-    let name : front.0 ≡ file.0 = (bytes_eq-Decides _ _).0 named in
+    (if same then Some prefix.1 else bytes_held files file.0) ≡ Some file.1
+held_behind files prefix file true named unheld held =
+    let name : prefix.0 ≡ file.0 = (bytes_eq-Decides _ _).0 named in
     let some : IsNone (Some file.1) = rw (name, held) at unheld in
     absurd (cc some)
-held_behind files front file false named unheld held = held
+held_behind files prefix file false named unheld held = held
 
 -- Where no name is repeated, each file is what its name holds.
 pub held_of_each : (files : List (List ℕ × List ℕ)) → AreNamesDistinct files →

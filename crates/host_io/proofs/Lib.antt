@@ -1,4 +1,4 @@
-pub mod FrontLemmas
+pub mod PrefixLemmas
 pub mod HeldLemmas
 pub mod PieceLemmas
 pub mod ReadingLemmas

@@ -3,31 +3,31 @@ use Rattle.std.proofs.Common.{◌≡◌, ℕ, ◌+◌, ◌<◌, ◌≤◌, min, 
 use Rattle.std.specs.Option.{option_map}
 use Rattle.std.specs.Io.KnownBytes.{prepend_known}
 use Rattle.std.proofs.lemmas.List.{length-take, take_all}
-use Rattle.host_io.specs.Fronts.{LosesFront}
+use Rattle.host_io.specs.Prefixes.{LosesPrefix}
 
 -- What was read is all there was, if more would have been let through.
-pub whole_front : (left : Option (List ℕ)) (read : List ℕ) (room : ℕ) → length read < room →
-    IfSome (option_map (take room) left) (λ front. read ≡ front) → IfSome left (λ all. read ≡ all)
-whole_front None read room short front = tt
-whole_front (Some all) read room short front =
-    let count : length read ≡ min room (length all) = ap length front ∙ length-take room all in
-    front ∙ take_all room all (omega arith)
+pub whole_prefix : (left : Option (List ℕ)) (read : List ℕ) (room : ℕ) → length read < room →
+    IfSome (option_map (take room) left) (λ prefix. read ≡ prefix) → IfSome left (λ all. read ≡ all)
+whole_prefix None read room short prefix = tt
+whole_prefix (Some all) read room short prefix =
+    let count : length read ≡ min room (length all) = ap length prefix ∙ length-take room all in
+    prefix ∙ take_all room all (omega arith)
 
 -- Two pieces put in front, one after the other, are put in front as one
-pub prepend_known-append : (front piece : List ℕ) (known : Option (List ℕ)) →
-    prepend_known (front ++ piece) known ≡ prepend_known front (prepend_known piece known)
-prepend_known-append front piece None = refl
-prepend_known-append front piece (Some rest) = ap Some (append_assoc front piece rest)
+pub prepend_known-append : (prefix piece : List ℕ) (known : Option (List ℕ)) →
+    prepend_known (prefix ++ piece) known ≡ prepend_known prefix (prepend_known piece known)
+prepend_known-append prefix piece None = refl
+prepend_known-append prefix piece (Some rest) = ap Some (append_assoc prefix piece rest)
 
--- After a front one piece more was moved out.
-pub two_fronts : (old now new : Option (List ℕ)) (front : List ℕ) (count : ℕ) (piece : List ℕ)
-    (limit most : ℕ) → old ≡ prepend_known front now → now ≡ prepend_known (take count piece) new →
-    length front ≤ limit → count ≤ most → LosesFront old new (limit + most)
-two_fronts old now new front count piece limit most first then short few = record {
-  front = front ++ take count piece;
+-- After a prefix one piece more was moved out.
+pub two_prefixes : (old now new : Option (List ℕ)) (prefix : List ℕ) (count : ℕ) (piece : List ℕ)
+    (limit most : ℕ) → old ≡ prepend_known prefix now → now ≡ prepend_known (take count piece) new →
+    length prefix ≤ limit → count ≤ most → LosesPrefix old new (limit + most)
+two_prefixes old now new prefix count piece limit most first then short few = record {
+  prefix = prefix ++ take count piece;
   moved =
-      first ∙ ap (prepend_known front) then
-      ∙ sym (prepend_known-append front (take count piece) new);
+      first ∙ ap (prepend_known prefix) then
+      ∙ sym (prepend_known-append prefix (take count piece) new);
   within =
-      omega (arith, length-append front (take count piece), length-take count piece);
+      omega (arith, length-append prefix (take count piece), length-take count piece);
 }

@@ -1,9 +1,9 @@
 pub mod Bytes
-pub mod Fronts
+pub mod Prefixes
 pub mod Causes
 pub mod Pieces
 pub mod TwoSinks
-pub mod Outside
+pub mod Environment
 pub mod FaultPlan
 pub mod Supply
 pub mod Held

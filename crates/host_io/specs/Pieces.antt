@@ -38,17 +38,17 @@ abbrev pub errs_of : List Piece → List ℕ
 errs_of pieces = flat_map err_of pieces
 
 -- The first bytes of a piece, on the same sink.
-abbrev pub IsFrontOf : Piece → Piece → Type 0
-IsFrontOf (out front) (out bytes) = (rest : List ℕ) × (front ++ rest ≡ bytes)
-IsFrontOf (err front) (err bytes) = (rest : List ℕ) × (front ++ rest ≡ bytes)
-IsFrontOf (out front) (err bytes) = ⊥
-IsFrontOf (err front) (out bytes) = ⊥
+abbrev pub IsPrefixOf : Piece → Piece → Type 0
+IsPrefixOf (out prefix) (out bytes) = (rest : List ℕ) × (prefix ++ rest ≡ bytes)
+IsPrefixOf (err prefix) (err bytes) = (rest : List ℕ) × (prefix ++ rest ≡ bytes)
+IsPrefixOf (out prefix) (err bytes) = ⊥
+IsPrefixOf (err prefix) (out bytes) = ⊥
 
--- At most a front of the next piece.
+-- At most a prefix of the next piece.
 abbrev pub Begins : Option Piece → List Piece → Type 0
 Begins None rest = Unit {0}
 Begins (Some begun) [] = ⊥
-Begins (Some begun) (piece ∷ rest) = IsFrontOf begun piece
+Begins (Some begun) (piece ∷ rest) = IsPrefixOf begun piece
 
 -- What they have taken after the begun piece, if there is one.
 abbrev pub with_begun : Taken → Option Piece → Taken
@@ -71,16 +71,16 @@ abbrev pub PutsFirst : Taken → Taken → List Piece → Type 0
 PutsFirst old new pieces = (rest : List Piece) × PutsSoFar old new rest pieces
 
 -- On the way to all of the pieces: the first ones were put as a whole, in their order; of the next
--- one at most a front was put; and of the others nothing.
-pub record PutsFront (old new : Taken) (pieces : List Piece) : Type 0 where
+-- one at most a prefix was put; and of the others nothing.
+pub record PutsPrefix (old new : Taken) (pieces : List Piece) : Type 0 where
   pub whole : List Piece
   pub begun : Option Piece
   pub rest : List Piece
   pub due : whole ++ rest ≡ pieces
-  pub front : Begins begun rest
+  pub prefix : Begins begun rest
   pub taken : new ≡ with_begun (with_pieces old whole) begun
 
--- All of them, or, where the call was cut short, a front of them.
+-- All of them, or, where the call was cut short, a prefix of them.
 abbrev pub Puts : {A E : Type 0} → Taken → Taken → List Piece → Result A E → Type 0
 Puts old new pieces (Ok _) = PutsAll old new pieces
-Puts old new pieces (Err _) = PutsFront old new pieces
+Puts old new pieces (Err _) = PutsPrefix old new pieces

@@ -1,4 +1,4 @@
-//! The outside as this project sees it: an input that is read (`Source`), a sink that bytes are put
+//! The environment as this project sees it: an input that is read (`Source`), a sink that bytes are put
 //! on (`Sink`) and files that are loaded and saved (`Files`).
 //!
 //! Each trait says what its calls do to the bytes, where an implementation tells them, and counts

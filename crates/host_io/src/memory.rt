@@ -1,4 +1,4 @@
-// The outside in memory: with calls that are to fail, and without any fault.
+//! The environment in memory: with calls that are to fail, and without any fault.
 
 mod call_plan;
 mod fault_plan;

@@ -1,4 +1,4 @@
-// The real outside, over std. It tells nothing of what the system gives or takes.
+//! The real environment, over std. It tells nothing of what the system gives or takes.
 
 pub mod std_files;
 pub mod std_sink;

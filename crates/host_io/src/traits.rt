@@ -1,4 +1,4 @@
-// What the project asks of the outside.
+//! What the project asks of the environment.
 
 pub mod files;
 pub mod sink;

@@ -1,7 +1,8 @@
-// An input that is read to its end.
+//! An input that is read to its end.
+
 ghost use Rattle.std.specs.Prelude.{◌≡◌, ◌+◌, ◌<◌, ◌≤◌, length, vec_len, IsTrue, Err, IfOk, IfSome, OnOk, OnErr};
 ghost use Rattle.std.specs.Io.KnownBytes.{IsAtEnd};
-ghost use Rattle.host_io.specs.Fronts.{LosesFront};
+ghost use Rattle.host_io.specs.Prefixes.{LosesPrefix};
 ghost use Rattle.host_io.specs.Causes.{ReadToEndCause};
 
 use crate::{Failed, Source};
@@ -26,7 +27,7 @@ const PIECE_LEN: usize = 4096;
 ///
 /// After an error the source is as open as it was, and has lost some of its first bytes, at most
 /// 4,096 more than `limit`.
-#[tactic(auto, using(crate::proofs::ReadingLemmas::two_fronts))]
+#[tactic(auto, using(crate::proofs::ReadingLemmas::two_prefixes))]
 pub fn read_to_end<S: Source>(
     alloc: Global,
     source: &mut S,
@@ -43,7 +44,7 @@ pub fn read_to_end<S: Source>(
         IfSome (S.left source.old) (λ all. limit < length all) }
 
     // What was moved out stood first. An error does not close the source.
-    ensures moved { LosesFront (S.left source.old) (S.left source.new) (limit + 4096) }
+    ensures moved { LosesPrefix (S.left source.old) (S.left source.new) (limit + 4096) }
     ensures stays { OnErr result (S.closed source.new ≡ S.closed source.old) }
     ensures cause { ReadToEndCause (S.faults source.old) (S.faults source.new) result }
 {

@@ -13,10 +13,10 @@ use Rattle.image_format.proofs.PartLemmas.{extent_from, parts_kept, parts_pushed
 -- ---- the last segment
 
 -- the last segment alone decides
-word_after : (front : List Segment) (last : Segment) (address word : ℕ) → with_word (front ++ last ∷ []) address word ≡ front ++ with_next last address word
+word_after : (prefix : List Segment) (last : Segment) (address word : ℕ) → with_word (prefix ++ last ∷ []) address word ≡ prefix ++ with_next last address word
 word_after [] last address word = refl
 word_after (segment ∷ []) last address word = refl
-word_after (segment ∷ next ∷ front) last address word = ap (λ (xs : List Segment). segment ∷ xs) (word_after (next ∷ front) last address word)
+word_after (segment ∷ next ∷ prefix) last address word = ap (λ (xs : List Segment). segment ∷ xs) (word_after (next ∷ prefix) last address word)
 
 next_joined : (last : Segment) (address word : ℕ) → (end_of last == address) ≡ true → with_next last address word ≡ longer last word ∷ []
 next_joined last address word joined = rw joined refl
@@ -79,14 +79,14 @@ pub is_joined : (contents : List ℕ) (extents : List Extent) (address word coun
     → map (part_of (contents ++ word ∷ [])) (set extents (count - 1) (raised last)) ≡ with_word (map (part_of contents) extents) address word
 is_joined contents extents address word count read last kept count-is some read-is last-is ends =
     let part_more = part_of (contents ++ word ∷ []) in
-    let front = before_last extents in
+    let prefix = before_last extents in
     let is = is_last contents extents count last kept count-is some last-is in
     let same : read ≡ last = read-is ∙ get_or_default extents (count - 1) read last (omega arith) ∙ sym last-is in
     let joined = last_ends contents extents last address true is (subst (λ (e : Extent). (e.address + 4 * e.words == address) ≡ true) same ends) in
-    let written : set extents (count - 1) (raised last) ≡ front ++ raised last ∷ [] = subst (λ (n : ℕ). set extents (n - 1) (raised last) ≡ front ++ raised last ∷ []) (sym count-is) (last_set extents (raised last) (omega arith)) in
-    let left : map part_more (set extents (count - 1) (raised last)) ≡ map part_more front ++ part_more (raised last) ∷ [] = ap (map part_more) written ∙ map_push part_more front (raised last) in
-    let right = word_put contents extents address word last is ∙ ap (λ (xs : List Segment). map (part_of contents) front ++ xs) (next_joined (part_of contents last) address word joined) in
-    left ∙ rw (parts_kept contents (word ∷ []) front (All-take (EndsWithin contents) (length extents - 1) extents kept.within), sym (longer_part contents last word is.at_end)) refl ∙ sym right
+    let written : set extents (count - 1) (raised last) ≡ prefix ++ raised last ∷ [] = subst (λ (n : ℕ). set extents (n - 1) (raised last) ≡ prefix ++ raised last ∷ []) (sym count-is) (last_set extents (raised last) (omega arith)) in
+    let left : map part_more (set extents (count - 1) (raised last)) ≡ map part_more prefix ++ part_more (raised last) ∷ [] = ap (map part_more) written ∙ map_push part_more prefix (raised last) in
+    let right = word_put contents extents address word last is ∙ ap (λ (xs : List Segment). map (part_of contents) prefix ++ xs) (next_joined (part_of contents last) address word joined) in
+    left ∙ rw (parts_kept contents (word ∷ []) prefix (All-take (EndsWithin contents) (length extents - 1) extents kept.within), sym (longer_part contents last word is.at_end)) refl ∙ sym right
 
 -- one more part of one word
 abbrev one_word_range : ℕ → WordRange

@@ -84,8 +84,8 @@ wide_takes w limit wide size bytes x is_bytes e =
     let read : ℕ × List ℕ = (from_le_bytes w (take (byte_len w) bytes), drop (byte_len w) bytes) in
     let g = guard_ok (ltb (length bytes) (byte_len w)) (Short size) read x e in
     let long : byte_len w ≤ length bytes = ltb-false _ _ g.0 in
-    let front : to_le_bytes w read.0 ≡ take (byte_len w) bytes = wide.back (take (byte_len w) bytes) (omega (arith, length-take (byte_len w) bytes)) (IsBytes-take (byte_len w) bytes is_bytes) in
-    let parts : bytes ≡ to_le_bytes w read.0 ++ drop (byte_len w) bytes = rw front (sym (take-append-drop (byte_len w) bytes)) in
+    let prefix : to_le_bytes w read.0 ≡ take (byte_len w) bytes = wide.back (take (byte_len w) bytes) (omega (arith, length-take (byte_len w) bytes)) (IsBytes-take (byte_len w) bytes is_bytes) in
+    let parts : bytes ≡ to_le_bytes w read.0 ++ drop (byte_len w) bytes = rw prefix (sym (take-append-drop (byte_len w) bytes)) in
     subst (λ (y : ℕ × List ℕ). Takes bytes (to_le_bytes w y.0) y.1 × (y.0 < limit)) g.1 (record { parts = parts; rest_is_bytes = IsBytes-drop (byte_len w) bytes is_bytes }, wide.below (take (byte_len w) bytes) (IsBytes-take (byte_len w) bytes is_bytes))
 
 wide_again : (w : Width) (limit : ℕ) (wide : IsWide w limit) (size n : ℕ) (rest : List ℕ) → n < limit → number_at w size (to_le_bytes w n ++ rest) ≡ Ok (n, rest)

@@ -8,4 +8,4 @@ pub mod ListLemmas
 pub mod RowLemmas
 pub mod FileLemmas
 pub mod ImageLemmas
-pub mod FrontLemmas
+pub mod PrefixLemmas

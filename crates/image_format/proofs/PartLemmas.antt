@@ -14,7 +14,7 @@ use Rattle.image_format.specs.Picture.{Segment}
 use Rattle.image_format.specs.Conditions.{is_aligned, is_word_count, is_clear_of, in_order}
 use Rattle.image_format.specs.Parts.{part_of, EndsWithin, AreKept}
 use Rattle.shared_terms.specs.Steps.{demand}
-use Rattle.image_format.specs.Reading.{FailsAs, number_at, field_at, times, with_front, range_at, range_behind_at, segment_at}
+use Rattle.image_format.specs.Reading.{FailsAs, number_at, field_at, times, with_prefix, range_at, range_behind_at, segment_at}
 use Rattle.shared_terms.proofs.StepLemmas.{on_ok, demanded, ok_is}
 use Rattle.image_format.proofs.FieldLemmas.{both, tested_fits}
 use Rattle.image_format.proofs.LoopLemmas.{placed, start, goes_on, times_length}
@@ -33,12 +33,12 @@ range_refused ends.Memory size ram row before bytes refused = tt
 range_refused (ends.Bad error) size ram row before bytes refused = rw refused refl
 
 -- and where its words are
-words_fail : {S A : Type 0} (front : List A) (read : Result (List A × S) ImageError) (error : ImageError) → with_front front read ≡ Err error → read ≡ Err error
-words_fail front (Ok x) error e = absurd cc
-words_fail front (Err other) error e = e
+words_fail : {S A : Type 0} (prefix : List A) (read : Result (List A × S) ImageError) (error : ImageError) → with_prefix prefix read ≡ Err error → read ≡ Err error
+words_fail prefix (Ok x) error e = absurd cc
+words_fail prefix (Err other) error e = e
 
 pub words_refused : (e : ImageEnd) (size ram row : ℕ) (before : Option WordRange) (bytes : List ℕ) (range : WordRange) (after contents : List ℕ) → range_behind_at size ram row before bytes ≡ Ok (range, after)
-    → FailsAs e (with_front contents (times range.words (number_at w32 size) after)) → FailsAs e (segment_at size ram (placed row before bytes))
+    → FailsAs e (with_prefix contents (times range.words (number_at w32 size) after)) → FailsAs e (segment_at size ram (placed row before bytes))
 unfolding segment_at
 words_refused ends.Memory size ram row before bytes range after contents range-is refused = tt
 words_refused (ends.Bad error) size ram row before bytes range after contents range-is refused =
@@ -73,11 +73,11 @@ range_lies size ram row before bytes x e =
     })
 
 -- the words that were read behind others
-pub on_front : {S A P : Type 0} (front : List A) (read : Result (List A × S) ImageError) (all : List A) (s : S) → with_front front read ≡ Ok (all, s) → ((xs : List A) → read ≡ Ok (xs, s) → front ++ xs ≡ all → P) → P
-on_front {S} {A} front (Ok x) all s e next =
-    let same : (front ++ x.0, x.1) ≡ (all, s) = ok_is (front ++ x.0, x.1) (all, s) e in
+pub on_prefix : {S A P : Type 0} (prefix : List A) (read : Result (List A × S) ImageError) (all : List A) (s : S) → with_prefix prefix read ≡ Ok (all, s) → ((xs : List A) → read ≡ Ok (xs, s) → prefix ++ xs ≡ all → P) → P
+on_prefix {S} {A} prefix (Ok x) all s e next =
+    let same : (prefix ++ x.0, x.1) ≡ (all, s) = ok_is (prefix ++ x.0, x.1) (all, s) e in
     next x.0 (ap (λ (t : S). Ok (x.0, t)) (ap (λ (y : List A × S). y.1) same)) (ap (λ (y : List A × S). y.0) same)
-on_front front (Err error) all s e next = absurd cc
+on_prefix prefix (Err error) all s e next = absurd cc
 
 segment_is : (size ram row : ℕ) (before : Option WordRange) (bytes : List ℕ) (range : WordRange) (after words rest : List ℕ) → range_behind_at size ram row before bytes ≡ Ok (range, after) → times range.words (number_at w32 size) after ≡ Ok (words, rest)
     → segment_at size ram (placed row before bytes) ≡ Ok (record { address = range.address; words = words }, placed (row + 1) (Some range) rest)
@@ -117,7 +117,7 @@ next_part contents words range len =
 
 -- what the loop over the rows has read so far
 pub record HasRead (count size ram : ℕ) (bytes : List ℕ) (row : ℕ) (before : Option WordRange) (extents : List Extent) (contents rest : List ℕ) : Type 0 where
-  pub read : with_front (map (part_of contents) extents) (times (count - row) (segment_at size ram) (placed row before rest)) ≡ times count (segment_at size ram) (start bytes)
+  pub read : with_prefix (map (part_of contents) extents) (times (count - row) (segment_at size ram) (placed row before rest)) ≡ times count (segment_at size ram) (start bytes)
   pub kept : AreKept contents extents
   pub fits : 4 * length contents ≤ end_of before
   pub ends : end_of before ≤ ram
@@ -143,17 +143,17 @@ kept_pushed contents words extents range kept len =
 
 -- a range was read, and its words behind the others
 pub reads_on : (count size ram : ℕ) (bytes : List ℕ) (row : ℕ) (before : Option WordRange) (extents : List Extent) (contents rest : List ℕ) (range : WordRange) (first : ℕ) (after all behind : List ℕ) → row < count → first ≡ length contents
-    → range_behind_at size ram row before rest ≡ Ok (range, after) → with_front contents (times range.words (number_at w32 size) after) ≡ Ok (all, behind)
+    → range_behind_at size ram row before rest ≡ Ok (range, after) → with_prefix contents (times range.words (number_at w32 size) after) ≡ Ok (all, behind)
     → HasRead count size ram bytes row before extents contents rest → HasRead count size ram bytes (row + 1) (Some range) (extents ++ extent_from first range ∷ []) all behind
 reads_on count size ram bytes row before extents contents rest range first after all behind lt first-is range-is all-is so_far =
-    on_front contents (times range.words (number_at w32 size) after) all behind all-is λ words words-is joined.
+    on_prefix contents (times range.words (number_at w32 size) after) all behind all-is λ words words-is joined.
     let len = times_length range.words (number_at w32 size) after (words, behind) words-is in
     let lies = range_lies size ram row before rest (range, after) range-is in
     let segment = segment_is size ram row before rest range after words behind range-is words-is in
     let on = goes_on (segment_at size ram) (map (part_of contents) extents) count row (placed row before rest) (placed (row + 1) (Some range) behind) (record { address = range.address; words = words }) (times count (segment_at size ram) (start bytes)) lt segment so_far.read in
     let parts = parts_pushed contents words extents range so_far.kept.within len in
     let read_on : HasRead count size ram bytes (row + 1) (Some range) (extents ++ next_extent contents range ∷ []) (contents ++ words) behind = record {
-      read = subst (λ (segments : List Segment). with_front segments (times (count - (row + 1)) (segment_at size ram) (placed (row + 1) (Some range) behind)) ≡ times count (segment_at size ram) (start bytes)) parts on;
+      read = subst (λ (segments : List Segment). with_prefix segments (times (count - (row + 1)) (segment_at size ram) (placed (row + 1) (Some range) behind)) ≡ times count (segment_at size ram) (start bytes)) parts on;
       kept = kept_pushed contents words extents range so_far.kept len;
       fits = omega (arith, length-append contents words, lies.behind, so_far.fits);
       ends = lies.inside;

@@ -8,11 +8,11 @@ use Rattle.shared_terms.proofs.StepLemmas.{on_ok, ok_is}
 use Rattle.image_format.specs.declared.errors.ImageError.TheVariants.{Order}
 use Rattle.image_format.specs.declared.rows.WordRange.{WordRange}
 use Rattle.image_format.specs.Conditions.{in_order, is_aligned, is_clear_of, is_word_count}
-use Rattle.image_format.specs.Reading.{field_at, number_at, range_at, range_behind_at, times, with_front}
+use Rattle.image_format.specs.Reading.{field_at, number_at, range_at, range_behind_at, times, with_prefix}
 use Rattle.image_format.specs.Rooms.{HasPlacesFor, RoomState, TakesAtLeast}
 use Rattle.image_format.proofs.FieldLemmas.{both, tested_fits}
 use Rattle.image_format.proofs.LoopLemmas.{times_length}
-use Rattle.image_format.proofs.PartLemmas.{end_of, on_front, range_lies}
+use Rattle.image_format.proofs.PartLemmas.{end_of, on_prefix, range_lies}
 use Rattle.image_format.proofs.RoomLemmas.{range_takes, words_take}
 
 -- ---- a range
@@ -62,9 +62,9 @@ record HasMore (range : WordRange) (after behind : List ℕ) (contents new : Roo
   pub takes : length behind + 4 * range.words ≤ length after
 
 more_words : (size : ℕ) (range : WordRange) (after behind : List ℕ) (contents new : RoomState ℕ)
-    → with_front contents.items (times range.words (number_at w32 size) after) ≡ Ok (new.items, behind) → HasMore range after behind contents new
+    → with_prefix contents.items (times range.words (number_at w32 size) after) ≡ Ok (new.items, behind) → HasMore range after behind contents new
 more_words size range after behind contents new read =
-    on_front contents.items (times range.words (number_at w32 size) after) new.items behind read λ words words-is joined.
+    on_prefix contents.items (times range.words (number_at w32 size) after) new.items behind read λ words words-is joined.
     let len = times_length range.words (number_at w32 size) after (words, behind) words-is in
     record {
       longer = subst (λ (xs : List ℕ). length xs ≡ length contents.items + range.words) joined (omega (arith, length-append contents.items words));
@@ -74,7 +74,7 @@ more_words size range after behind contents new read =
 -- behind them there are places for the other words of the RAM
 pub word_places_on : (size ram row : ℕ) (before : Option WordRange) (rest : List ℕ) (range : WordRange) (after behind : List ℕ) (contents new : RoomState ℕ)
     → range_behind_at size ram row before rest ≡ Ok (range, after)
-    → with_front contents.items (times range.words (number_at w32 size) after) ≡ Ok (new.items, behind) → new.places ≡ contents.places → HasWordPlaces ram before (length rest) contents → HasWordPlaces ram (Some range) (length behind) new
+    → with_prefix contents.items (times range.words (number_at w32 size) after) ≡ Ok (new.items, behind) → new.places ≡ contents.places → HasWordPlaces ram before (length rest) contents → HasWordPlaces ram (Some range) (length behind) new
 word_places_on size ram row before rest range after behind contents new range-is words-is same left n few there =
     let lies = range_lies size ram row before rest (range, after) range-is in
     let takes = range_behind_takes size ram row before rest (range, after) range-is in
@@ -85,7 +85,7 @@ word_places_on size ram row before rest range after behind contents new range-is
 -- a segment takes the bytes of its extent at least
 pub segment_takes : (size ram row : ℕ) (before : Option WordRange) (rest : List ℕ) (range : WordRange) (after behind : List ℕ) (contents new : RoomState ℕ)
     → range_behind_at size ram row before rest ≡ Ok (range, after)
-    → with_front contents.items (times range.words (number_at w32 size) after) ≡ Ok (new.items, behind) → length behind + 12 ≤ length rest
+    → with_prefix contents.items (times range.words (number_at w32 size) after) ≡ Ok (new.items, behind) → length behind + 12 ≤ length rest
 segment_takes size ram row before rest range after behind contents new range-is words-is =
     let takes = range_behind_takes size ram row before rest (range, after) range-is in
     let some = behind_has_words size ram row before rest (range, after) range-is in

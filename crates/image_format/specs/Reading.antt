@@ -57,9 +57,9 @@ times (suc n) step s = do
   Ok (first.0 ∷ others.0, others.1)
 
 -- what was read before, and what is still read
-abbrev pub with_front : {S A : Type 0} → List A → Result (List A × S) ImageError → Result (List A × S) ImageError
-with_front front (Ok x) = Ok (front ++ x.0, x.1)
-with_front front (Err error) = Err error
+abbrev pub with_prefix : {S A : Type 0} → List A → Result (List A × S) ImageError → Result (List A × S) ImageError
+with_prefix prefix (Ok x) = Ok (prefix ++ x.0, x.1)
+with_prefix prefix (Err error) = Err error
 
 -- ---- rows of the five lists
 
@@ -196,7 +196,7 @@ abbrev pub GivesImage : Result Picture ImageEnd → Result Picture ImageError �
 GivesImage (Ok g) taken = taken ≡ Ok g
 GivesImage (Err end) taken = FailsAs end taken
 
--- the bytes were refused, not for want of memory
+-- the bytes were refused, and memory did not run out
 abbrev pub IsBad : Result Picture ImageEnd → Type 0
 IsBad (Ok g) = ⊥
 IsBad (Err ends.Memory) = ⊥

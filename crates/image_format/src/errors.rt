@@ -41,7 +41,7 @@ pub enum ImageError {
 }
 
 /// How reading an image ends without one.
-#[derive(Clone, Copy, Debug, PartialEq, Eq)]
+#[derive(Clone, Copy)]
 pub enum ImageEnd {
     /// The bytes are the file of no image that is taken, for this reason.
     Bad(ImageError),

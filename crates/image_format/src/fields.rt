@@ -26,8 +26,8 @@ pub(crate) fn half_of(size: usize, bytes: &[u8]) -> Result<(u16, &[u8]), ImageEn
     if bytes.len() < 2 {
         return Err(ImageEnd::Bad(ImageError::Short(size)));
     }
-    let (front, rest) = bytes.split_at(2);
-    Ok((u16::from_le_bytes([front[0], front[1]]), rest))
+    let (prefix, rest) = bytes.split_at(2);
+    Ok((u16::from_le_bytes([prefix[0], prefix[1]]), rest))
 }
 
 /// Four bytes, the low one first.
@@ -37,8 +37,8 @@ pub(crate) fn number_of(size: usize, bytes: &[u8]) -> Result<(u32, &[u8]), Image
     if bytes.len() < 4 {
         return Err(ImageEnd::Bad(ImageError::Short(size)));
     }
-    let (front, rest) = bytes.split_at(4);
-    let number = u32::from_le_bytes([front[0], front[1], front[2], front[3]]);
+    let (prefix, rest) = bytes.split_at(4);
+    let number = u32::from_le_bytes([prefix[0], prefix[1], prefix[2], prefix[3]]);
     Ok((number, rest))
 }
 

@@ -10,7 +10,7 @@ use std::marker::Model;
 
 /// What a machine starts from: the sizes of the RAM and of the heap region, one entry for each of 1 to
 /// 8 harts, the words of the memory, and what the policies are told of them. Sizes and addresses are in bytes.
-#[derive(Debug, Drop)]
+#[derive(Drop)]
 pub struct Image {
     pub(crate) ram: u32,
     pub(crate) heap_base: u32,

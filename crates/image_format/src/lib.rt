@@ -3,7 +3,7 @@
 //!
 //! `read_image` takes a file's bytes and gives the image whose one spelling they are, or the first of the
 //! format's conditions, in the order of reading, that they fail. An `Image` keeps those conditions for
-//! whoever reads it. `front_law` says what becomes of a file that is cut.
+//! whoever reads it. `prefix_law` says what becomes of a file that is cut.
 //!
 //! `Segments` are built word by word, `Image::new` makes an image of parts that meet the conditions, and
 //! `write_image` writes its one spelling, so that `read_image` gives the same image again.
@@ -25,7 +25,7 @@ mod writing;
 pub use errors::{ImageEnd, ImageError};
 pub use fields::{MOST_HARTS, MOST_RAM};
 pub use image::Image;
-pub use law::front_law;
+pub use law::prefix_law;
 pub use parts::ImageParts;
 pub use reading::read_image;
 pub use rows::{CompartmentRange, Edge, Label, WordRange};

@@ -4,7 +4,7 @@ use crate::rows::{CompartmentRange, Edge, Label, WordRange};
 use crate::segments::Segments;
 
 /// The sizes, entries and lists of an image, under no condition yet. Sizes and addresses are in bytes.
-#[derive(Debug, Drop)]
+#[derive(Drop)]
 pub struct ImageParts {
     /// The bytes of the RAM.
     pub ram: u32,

@@ -85,7 +85,7 @@ impl<T: Kept> Room<T> {
         ensures items { self.new.items ≡ self.old.items ++ item ∷ [] }
         ensures places { self.new.places ≡ self.old.places }
     {
-        // `insert` promises what a list's `push` doesn't: where a place is left, no other is made.
+        // `insert` guarantees what a list's `push` doesn't: where a place is left, no other is made.
         let count = self.items.len();
         let _put = self.items.insert(count, item);
     }

@@ -4,7 +4,7 @@ ghost use Rattle.std.specs.Prelude.{◌≡◌, ◌+◌, ◌*◌, ◌<◌, ◌==�
 ghost use Rattle.std.specs.Int.{w32};
 ghost use Rattle.std.proofs.Common.{arith};
 ghost use Rattle.image_format.specs.Rooms.{HasPlacesFor};
-ghost use Rattle.image_format.specs.Reading.{Gives, number_at, times, with_front, range_behind_at, segment_at, rows_at, list_at};
+ghost use Rattle.image_format.specs.Reading.{Gives, number_at, times, with_prefix, range_behind_at, segment_at, rows_at, list_at};
 
 use crate::errors::{ImageEnd, ImageError};
 use crate::fields::number_of;
@@ -15,7 +15,7 @@ use std::alloc::{AllocError, Global};
 use std::marker::Model;
 
 /// A segment's address, and where its words lie among those of all segments.
-#[derive(Clone, Copy, Debug)]
+#[derive(Clone, Copy)]
 struct Extent {
     address: u32,
     first: u32,
@@ -40,7 +40,7 @@ impl Kept for Extent {
 }
 
 /// Words that the memory starts with, in segments: each has an address in bytes, and words from there on.
-#[derive(Debug, Drop)]
+#[derive(Drop)]
 pub struct Segments {
     extents: Vec<Extent>,
     contents: Vec<u32>,
@@ -155,7 +155,7 @@ fn words_of<'a>(
 ) -> Result<&'a [u8], ImageEnd>
     requires { HasPlacesFor count 4 (length bytes.now) contents.old }
     ensures read { Gives (λ rest. (contents.new.items, rest.now)) result
-        (with_front contents.old.items (times count (number_at w32 size) bytes.now)) }
+        (with_prefix contents.old.items (times count (number_at w32 size) bytes.now)) }
     ensures places { contents.new.places ≡ contents.old.places }
 {
     let mut rest = bytes;

@@ -1,4 +1,4 @@
-//! Tests of words, of the instructions, of what they do, and of tagged memory and harts.
+//! Tests of words, of the instructions, of what they do, and of tagged memory.
 #![tactic(auto)]
 
 #[cfg(test)]

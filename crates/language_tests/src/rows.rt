@@ -120,44 +120,69 @@ fn is_file(file: &File, name: &str, kind: &str, content: &[u8]) -> bool {
     file.name.as_str() == name && told == kind && bytes == content
 }
 
+/// Whether the calls are those of the text: two, the second with an empty word and a blank, each with two numbers of rules.
+fn is_called(row: &Row) -> bool {
+    let [_, call] = row.calls.as_slice() else {
+        return false;
+    };
+    let [_, empty, blank] = call.as_slice() else {
+        return false;
+    };
+    empty.as_str() == "" && blank.as_str() == " " && row.caches.as_slice() == [0, 1].as_slice()
+}
+
+/// Whether the input and the calls that fail are those of the text.
+fn is_given(row: &Row) -> bool {
+    let (input, failing) = (&row.input, &row.failing);
+    input.bytes.as_slice() == b"AAA\\".as_slice()
+        && input.pieces.as_slice() == [1, 2].as_slice()
+        && failing.reads.as_slice() == [3].as_slice()
+        && failing.files.as_slice() == [4].as_slice()
+        && failing.puts.as_slice() == [5].as_slice()
+        && failing.tells.as_slice() == [6].as_slice()
+}
+
+/// Whether what is due is what the text has, but for files.
+fn is_due(row: &Row) -> bool {
+    let due = &row.due;
+    due.out.as_slice() == b"c\n".as_slice()
+        && due.err.as_slice() == b"d\x07".as_slice()
+        && due.status == 7
+        && due.left == Some(8)
+}
+
+/// Whether the files are those of the text, before the call and after it.
+fn has_files(row: &Row) -> bool {
+    let [image, other, third] = row.files.as_slice() else {
+        return false;
+    };
+    let [image_after, other_after] = row.due.held.as_slice() else {
+        return false;
+    };
+    is_file(image, "image", "source", b"nop\n")
+        && is_file(other, "other", "bytes", b"a\n\nb\n")
+        && is_file(third, "third", "bytes", b"\x00\xFF")
+        && is_file(image_after, "image", "nothing", b"")
+        && is_file(other_after, "other", "beside", b"name")
+}
+
 #[test]
 fn the_whole_row(rt: HostRuntime) -> Result<(), Fail> {
     let rows = read_rows(rt.alloc(), WHOLE).ok().ok_or("no rows")?;
-    assert_eq!(rt; rows.len(), 1);
-    let row = &rows[0];
+    let [row] = rows.as_slice() else {
+        return Err("one row".into());
+    };
     assert!(rt; row.line == 4 && row.name.as_str() == "the whole");
-    assert_eq!(rt; row.calls.len(), 2);
-    assert_eq!(rt; row.calls[1].len(), 3);
-    assert_eq!(rt; row.calls[1][1].as_str(), "");
-    assert_eq!(rt; row.calls[1][2].as_str(), " ");
-    assert_eq!(rt; row.caches.as_slice(), [0, 1].as_slice());
-    assert_eq!(rt; row.input.bytes.as_slice(), b"AAA\\".as_slice());
-    assert_eq!(rt; row.input.pieces.as_slice(), [1, 2].as_slice());
-    let failing = [
-        &row.failing.reads,
-        &row.failing.files,
-        &row.failing.puts,
-        &row.failing.tells,
-    ];
-    for (numbers, number) in failing.iter().zip(3..7) {
-        assert_eq!(rt; numbers.as_slice(), [number].as_slice());
-    }
-    assert_eq!(rt; row.due.out.as_slice(), b"c\n".as_slice());
-    assert_eq!(rt; row.due.err.as_slice(), b"d\x07".as_slice());
-    assert!(rt; row.due.status == 7 && row.due.left == Some(8));
-    assert_eq!(rt; row.files.len(), 3);
-    assert!(rt; is_file(&row.files[0], "image", "source", b"nop\n"));
-    assert!(rt; is_file(&row.files[1], "other", "bytes", b"a\n\nb\n"));
-    assert!(rt; is_file(&row.files[2], "third", "bytes", b"\x00\xFF"));
-    assert_eq!(rt; row.due.held.len(), 2);
-    assert!(rt; is_file(&row.due.held[0], "image", "nothing", b""));
-    assert!(rt; is_file(&row.due.held[1], "other", "beside", b"name"));
+    assert!(rt; is_called(row));
+    assert!(rt; is_given(row));
+    assert!(rt; is_due(row));
+    assert!(rt; has_files(row));
     Ok(())
 }
 
 #[test]
 fn bytes_are_told_as_a_row_has_them(rt: HostRuntime) -> Result<(), Fail> {
     let told = escaped(rt.alloc(), b"a \\\n\x07\xFF")?;
-    assert_eq!(rt; told.as_str(), "a \\\\\\n\\x07\\xFF");
+    assert!(rt; told.as_str() == "a \\\\\\n\\x07\\xFF");
     Ok(())
 }

@@ -92,7 +92,7 @@ impl LiveBlocks {
         self.by_number.get(place).copied()
     }
 
-    /// Makes a block live whose range is free, and whose number is above each other's. The only error is want of
+    /// Makes a block live whose range is free, and whose number is above each other's. The only error is running out of
     /// memory; the live blocks are then as before.
     pub fn insert(&mut self, block: Block) -> Result<(), AllocError>
         requires within { IsWithin self.old.base self.old.top block }

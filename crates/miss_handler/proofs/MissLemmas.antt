@@ -15,7 +15,7 @@ use Rattle.rule_cache.specs.declared.key.Key.{Key}
 use Rattle.rule_cache.proofs.AccountLemmas.{keeping_alike}
 use Rattle.tag_intern.specs.Table.{Extends, HasNoRepeats, TableState, cut_to}
 use Rattle.tag_intern.specs.Words.{tag_at}
-use Rattle.tag_intern.proofs.TableLemmas.{distinct_with_tags, extends_with_tags, front, longer}
+use Rattle.tag_intern.proofs.TableLemmas.{distinct_with_tags, extends_with_tags, prefix, longer}
 use Rattle.miss_handler.specs.Answered.{IsAnswered, with_outs}
 use Rattle.miss_handler.specs.Asked.{AreInWords, AreRules, IsRule}
 use Rattle.miss_handler.specs.Books.{Rulebook}
@@ -32,7 +32,7 @@ cut_back eq laws table grown left outs len len_is grown_is left_is =
     left_is ∙ ap (λ t. cut_to t len) grown_is
     ∙ ap (λ n. record table { tags = take n (with_outs eq table.tags outs) }) len_is
     ∙ ap (λ tags. record table { tags = tags })
-    (front table.tags (with_outs eq table.tags outs) (extends_with_tags eq laws table.tags (outs.pc ∷ outs.result ∷ [])))
+    (prefix table.tags (with_outs eq table.tags outs) (extends_with_tags eq laws table.tags (outs.pc ∷ outs.result ∷ [])))
 
 -- ---- an account as its tags grow
 

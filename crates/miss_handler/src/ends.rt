@@ -7,7 +7,7 @@ use policy_trait::Refused;
 pub enum AskEnd {
     /// The rule refuses.
     Stopped(Refused),
-    /// The outputs of the rule need more tag words than there may be.
+    /// The outputs of the rule need more tag numbers than there may be.
     TagsOut,
     /// Memory ran out.
     Memory,

@@ -14,7 +14,7 @@ ghost use Rattle.monitor_calls.specs.Service.{Job, new_tags, service_job};
 use policy_trait::Policy;
 
 /// A range is retagged exactly where the policy retags each of its words, and refused exactly where some word is, as
-/// the lowest such word is. The function does nothing.
+/// the lowest such word is.
 pub fn retag_law<P: Policy>()
     ensures each { (s : P) (word_at : ℕ → ℕ) (tag_at : ℕ → P.Tag) (plan : Plan P.Tag)
         (base count : ℕ) (words : List (ℕ × ℕ × P.Tag))
@@ -30,7 +30,7 @@ pub fn retag_law<P: Policy>()
 
 /// A service gives a job exactly where the policy plans it and retags each word of the plan's range. It is refused
 /// exactly where its plan is, or a word of the range, and spent exactly where its plan is. A job can be carried out: its
-/// plan is one that the policy gives, and its words are words of memory. The function does nothing.
+/// plan is one that the policy gives, and its words are words of memory.
 pub fn service_law<P: Policy>()
     ensures job { (s : P) (word_at : ℕ → ℕ) (tag_at : ℕ → P.Tag) (number : ℕ)
         (arguments : Args P.Tag) (pc : P.Tag) (job : Job P.Tag)

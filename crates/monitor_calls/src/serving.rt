@@ -51,7 +51,7 @@ pub fn serve<P: Policy, W: View<Tag = P::Tag>>(
     ensures err { IfErr result (λ e. EndsAs e (service_job P.model policy.now
         (W.word_at view.now) (W.tag_at view.now) number arguments.now pc)) }
 
-    // Want of memory is told only of a service that nothing refuses and that has words to write.
+    // Running out of memory is told only of a service that nothing refuses and that has words to write.
     ensures memory { result ≡ Err ServeEnd.Memory
         → IsOkAnd (service_job P.model policy.now
         (W.word_at view.now) (W.tag_at view.now) number arguments.now pc)
@@ -115,7 +115,7 @@ fn retag_words<P: Policy, W: View<Tag = P::Tag>>(
 }
 
 /// How a range ends whose words find no memory, where those before the word of the place `first` are not refused: a
-/// refusal of a later word is told, and want of memory only where there is none.
+/// refusal of a later word is told, and running out of memory only where there is none.
 fn end_without_memory<P: Policy, W: View<Tag = P::Tag>>(
     policy: &P,
     plan: &Plan<P::Tag>,

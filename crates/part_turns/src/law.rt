@@ -14,8 +14,7 @@ ghost use Rattle.part_turns.specs.Turns.{Turns};
 use policy_trait::Policy;
 
 /// A turn of a sound machine under a whole policy, whose invariant holds, is for a part of it that is on one of those that
-/// this part allows; the part stays on, and the machine as it sees it is sound, with words still where it had words. The
-/// function does nothing.
+/// this part allows; the part stays on, and the machine as it sees it is sound, with words still where it had words.
 pub fn turn_law<P: Policy, Q: Policy>()
     ensures turn { (l : View P.Tag P Q.Tag Q) (s : Machine P P.Tag) (feed : Tape) (h : ℕ)
         → IsPart P.model Q.model l → l.is_on s.policy ≡ true → IsMachine P.model s

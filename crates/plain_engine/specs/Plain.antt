@@ -45,7 +45,7 @@ after_look_up e = record e { account = record e.account { misses = next_count e.
 abbrev pub after_turn : {S T : Type 0} → Standing S T → Machine S T → Standing S T
 after_turn e machine = record { machine = machine; account = record e.account { turns = next_count e.account.turns } }
 
--- the engine stopped for want of memory
+-- the engine stopped since memory ran out
 abbrev pub given_up : {S T : Type 0} → Standing S T → Standing S T
 given_up e = record e { account = record e.account { halt = Some halt.Memory } }
 

@@ -140,7 +140,7 @@ impl<P: Policy> Plain<P> {
         TurnEnd::Stopped(why)
     }
 
-    /// Stops the engine as a whole for want of memory.
+    /// Stops the engine as a whole, since memory ran out.
     fn give_up(&mut self) -> TurnEnd
         ensures standing { self.new ≡ given_up self.old }
         ensures end { result ≡ TurnEnd.Memory }
@@ -272,7 +272,7 @@ impl<P: Policy> Engine for Plain<P> {
         ensures idle { result ≡ TurnEnd.Idle → Unchanged self.old feed.old self.new feed.new }
         ensures harts { length self.new.machine.core.harts ≡ length self.old.machine.core.harts }
         ensures ram { ram_bytes self.new.machine.core.ram ≡ ram_bytes self.old.machine.core.ram }
-        // It never runs out of tag words, and of memory only in a policy's service that nothing refuses.
+        // It never runs out of tag numbers, and of memory only in a policy's service that nothing refuses.
         ensures words { result ≢ TurnEnd.TagsOut }
         ensures served { result ≡ TurnEnd.Memory → is_served P.model self.old.machine h ≡ true }
     {

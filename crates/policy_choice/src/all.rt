@@ -105,7 +105,7 @@ fn heap_of(alloc: Global, image: &Image) -> Heap
 }
 
 /// The chosen policies at the start of the image, before anything was asked of them; the others are off. The image says how
-/// many compartments there are, the edges, and where the heap region is; its memory has the bytes that they count on. The only error is want of memory.
+/// many compartments there are, the edges, and where the heap region is; its memory has the bytes that they count on. The only error is running out of memory.
 pub fn choose(alloc: Global, basis: Basis, image: &Image) -> Result<All, AllocError>
     ensures value { IfOk result (λ policy. policy ≡ choice_state basis image.now) }
     ensures room { IfOk result (λ policy. all.room policy ≤ image.now.ram) }

@@ -9,7 +9,7 @@ use std::alloc::AllocError;
 
 /// The policy that is nothing. It allows and ignores everything and knows no service, and its one tag, `()`, has no size:
 /// an engine under it moves none.
-#[derive(Clone, Copy, Debug, PartialEq, Eq)]
+#[derive(Clone, Copy)]
 pub struct Nothing;
 
 impl Policy for Nothing {

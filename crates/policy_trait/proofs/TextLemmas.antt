@@ -6,8 +6,8 @@ use Rattle.std.specs.Fmt.{decimal}
 use Rattle.std.specs.Prelude.{codes}
 
 -- what stands in the parentheses
-pub within : (front x y : List ℕ) → front ++ x ++ codes ")" ≡ front ++ y ++ codes ")" → x ≡ y
-within front x y e = append_cancel_left front x y (append_cancel_right (front ++ x) (front ++ y) (codes ")") e)
+pub within : (prefix x y : List ℕ) → prefix ++ x ++ codes ")" ≡ prefix ++ y ++ codes ")" → x ≡ y
+within prefix x y e = append_cancel_left prefix x y (append_cancel_right (prefix ++ x) (prefix ++ y) (codes ")") e)
 
 -- numbers of 32 bits are told by their texts
 pub same_number : (m n : ℕ) → m < 2 ^ 32 → n < 2 ^ 32 → decimal m ≡ decimal n → m ≡ n

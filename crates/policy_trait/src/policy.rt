@@ -71,7 +71,7 @@ pub trait Policy: Drop {
     fn wipe(&self, pc: Self::Tag, old: Self::Tag) -> Result<Self::Tag, Refused>
         ensures { result ≡ model.wipe self.now pc old };
 
-    /// Takes note that the plan was carried out. For want of memory nothing changes.
+    /// Takes note that the plan was carried out. Where memory runs out nothing changes.
     fn commit(&mut self, plan: &Plan<Self::Tag>) -> Result<(), AllocError>
         requires { IsGiven model self.old plan.now }
         ensures ok { OnOk result (self.new ≡ model.commit self.old plan.now) }

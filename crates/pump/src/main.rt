@@ -12,7 +12,7 @@ use std::env::{self, Args};
 use std::io::{self, ErrorKind};
 use std::process::ExitCode;
 
-/// These words as a list, in their order. The only error is want of memory, by its status.
+/// These words as a list, in their order. The only error is running out of memory, by its status.
 fn list_of(alloc: Global, words: Args) -> Result<Vec<String>, Status>
     ensures list { IfOk result (λ list. list.items ≡ into_iter_items words) }
     ensures memory { IfErr result (λ status. status ≡ Status.Memory) }
@@ -23,7 +23,7 @@ fn list_of(alloc: Global, words: Args) -> Result<Vec<String>, Status>
 }
 
 /// The words that the program was called with, its name first, by what the host told of them. Words that are no text are a bad
-/// command line, as no words are. The only error is want of memory, by its status.
+/// command line, as no words are. The only error is running out of memory, by its status.
 fn words_of(alloc: Global, told: io::Result<Args>) -> Result<Vec<String>, Status>
     ensures words { IfOk told (λ args. IfOk result (λ words. words.items ≡ into_iter_items args)) }
     ensures no_text { IfErr told (λ error. error_kind error ≢ ErrorKind.OutOfMemory

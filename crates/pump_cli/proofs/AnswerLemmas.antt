@@ -1,17 +1,17 @@
 -- What a result on the way says of the answer.
 use Rattle.std.proofs.Common.{◌≡◌, ◌≢◌, ℕ, Option, Some, None, Result, Ok, Err, IfOk, IfSome, refl, sym, subst, ◌∙◌, arith}
 use Rattle.host_io.specs.Causes.{Rose}
-use Rattle.host_io.specs.Outside.{Faults, NoFault, Outside}
-use Rattle.host_io.specs.Pieces.{PutsFront, Taken}
+use Rattle.host_io.specs.Environment.{Faults, NoFault, Environment}
+use Rattle.host_io.specs.Pieces.{PutsPrefix, Taken}
 use Rattle.host_io.specs.TwoSinks.{OneRose, PutFaults, on_err, on_out}
-use Rattle.host_io.proofs.FrontLemmas.{if_some_each}
-use Rattle.host_io.proofs.PieceLemmas.{all_puts_are_front, puts_none}
+use Rattle.host_io.proofs.PrefixLemmas.{if_some_each}
+use Rattle.host_io.proofs.PieceLemmas.{all_puts_are_prefix, puts_none}
 use Rattle.pump_line.specs.Task.{Task}
 use Rattle.pump_cli.specs.Calls.{FaultBy, FileCall, Load, LoadFault, Save, SaveFault}
 use Rattle.pump_cli.specs.Codes.{IsFinal, IsOfRefusal, IsOfRun, IsSilent, status_of_refusal}
 use Rattle.pump_cli.specs.Endings.{Outcome}
 use Rattle.pump_cli.specs.Facts.{AllStayed, Does, Finishes, PutsFaultBy, Stayed, TaskFacts, status_in}
-use Rattle.pump_cli.specs.Theorem.{Answers}
+use Rattle.pump_cli.specs.Theorem.{Headline}
 use Rattle.pump_cli.specs.declared.refusal.Refusal.{Refusal}
 use Rattle.pump_cli.specs.declared.refusal.Refusal.TheVariants as refusals
 use Rattle.pump_cli.specs.declared.cut.Cut.{Cut}
@@ -30,15 +30,15 @@ module _ (outcome : Outcome) (before after : Taken) where
   does_exact (Err cut.PutFailed) does final = absurd final
   does_exact (Err cut.Memory) does final = absurd final
 
-  pub does_front : (result : Result Status Cut) → Does outcome before after result → PutsFront before after outcome.pieces
-  does_front (Ok status) does = all_puts_are_front before after outcome.pieces does.puts
-  does_front (Err cut) does = does.puts
+  pub does_prefix : (result : Result Status Cut) → Does outcome before after result → PutsPrefix before after outcome.pieces
+  does_prefix (Ok status) does = all_puts_are_prefix before after outcome.pieces does.puts
+  does_prefix (Err cut) does = does.puts
 
 -- a count does not both rise and stay
 not_both : {P : Type 0} (before now : ℕ) → Stayed before now → Rose before now → P
 not_both before now stayed rose = absurd (omega (arith, stayed.below, stayed.same, rose.raised))
 
--- where every count stayed, the status is a final one or want of memory
+-- where every count stayed, the status is a final one or running out of memory
 pub none_rose : (broken : Option FileCall) (status : Status) (before now : Faults) → FaultBy broken status before now → AllStayed before now
     → status ≢ statuses.Memory → IsFinal status
 none_rose broken statuses.Done before now fault stayed memory = tt
@@ -76,17 +76,17 @@ pub does_nothing : (outcome : Outcome) (taken : Taken) (cut : Cut) → Does outc
 does_nothing outcome taken cut = record { puts = puts_none taken outcome.pieces; ends = tt }
 
 -- an answer, from what was put on the way
-pub answers : {I : Type 0} (due : Option Outcome) (task : Option Task) (result : Result Status Cut) (before after : Outside I)
+pub answers : {I : Type 0} (due : Option Outcome) (task : Option Task) (result : Result Status Cut) (before after : Environment I)
     → IfSome due (λ outcome. Does outcome before.taken after.taken result)
     → Called task (status_in result) before after
     → (status_in result ≡ statuses.BadWords → task ≡ None)
     → (IsSilent task (status_in result) → after.taken ≡ before.taken)
     → (IsOfRefusal task (status_in result) → after.taken.out ≡ before.taken.out)
     → TaskFacts task (status_in result) before after
-    → Answers due task (status_in result) before after
+    → Headline due task (status_in result) before after
 answers due task result before after does called words silent no_out asked = record {
   exact = λ final. if_some_each due _ _ (λ outcome done. does_exact outcome before.taken after.taken result done final) does;
-  front = if_some_each due _ _ (λ outcome done. does_front outcome before.taken after.taken result done) does;
+  prefix = if_some_each due _ _ (λ outcome done. does_prefix outcome before.taken after.taken result done) does;
   complete = λ stayed memory. none_rose called.calls.broken (status_in result) before.faults after.faults called.faults stayed memory;
   calls = called.calls;
   faults = called.faults;
@@ -168,7 +168,7 @@ module _ (broken : Option FileCall) (before now : Faults) where
   run_quiet (Err cut) of_run = tt
 
 -- the status of a call that nothing cut short is the one that is due
-pub due_status : {I : Type 0} (due : Option Outcome) (task : Option Task) (status other : Status) (before after : Outside I) → status ≡ other
-    → Answers due task status before after → IsFinal other → IfSome due (λ outcome. other ≡ outcome.status)
+pub due_status : {I : Type 0} (due : Option Outcome) (task : Option Task) (status other : Status) (before after : Environment I) → status ≡ other
+    → Headline due task status before after → IsFinal other → IfSome due (λ outcome. other ≡ outcome.status)
 due_status due task status other before after is answered final =
     if_some_each due _ _ (λ outcome done. sym is ∙ done.ends) (answered.exact (subst IsFinal (sym is) final))

@@ -4,7 +4,7 @@ use Rattle.std.specs.Str.{bytes_eq}
 use Rattle.std.proofs.Common.{◌≡◌, ◌≢◌, ℕ, ◌⊎◌, Bool, true, false, List, [], ◌∷◌, ◌++◌, Option, Some, None, Result, Ok, Err, IfSome, refl, sym, ap, inl, inr, ◌∙◌, if◌then◌else◌}
 use Rattle.std.proofs.lemmas.Slice.Eq.{bytes_eq-Decides}
 use Rattle.shared_terms.specs.Counts.{next_count}
-use Rattle.host_io.specs.Outside.{NoFault, Outside, WriteFault}
+use Rattle.host_io.specs.Environment.{NoFault, Environment, WriteFault}
 use Rattle.image_format.specs.Picture.{Picture}
 use Rattle.image_format.specs.Spelling.{spelling}
 use Rattle.pump_line.specs.Request.{AssembleTask}
@@ -19,7 +19,7 @@ use Rattle.pump_cli.specs.declared.status.Status.{Status}
 use Rattle.pump_cli.specs.declared.status.Status.TheVariants as statuses
 
 -- what is answered of the calls on files
-pub record Called {I : Type 0} (task : Option Task) (status : Status) (before after : Outside I) : Type 0 where
+pub record Called {I : Type 0} (task : Option Task) (status : Status) (before after : Environment I) : Type 0 where
   pub calls : CallsMade task status before after
   pub faults : FaultBy calls.broken status before.faults after.faults
   pub held : HeldAfter calls.done calls.broken status before after
@@ -113,7 +113,7 @@ refused_held (load task) refusal tells held = refl
 
 -- ---- what was called
 
-module _ {I : Type 0} (status : Status) (before after : Outside I) where
+module _ {I : Type 0} (status : Status) (before after : Environment I) where
   module _ (held : after.held ≡ before.held) where
     still : (name : List ℕ) → after.held name ≡ before.held name
     still name = ap (λ (now : List ℕ → Option (List ℕ)). now name) held
@@ -202,7 +202,7 @@ module _ {I : Type 0} (status : Status) (before after : Outside I) where
     }
 
 -- memory ran out before any of them
-pub unread_called : {I : Type 0} (task : Option Task) (before : Outside I) → Called task statuses.Memory before before
+pub unread_called : {I : Type 0} (task : Option Task) (before : Environment I) → Called task statuses.Memory before before
 unread_called None before = none_called statuses.Memory before before refl None (Err refusals.BadWords) refl refl (λ all. absurd all) refl refl
 unread_called (Some task) before = record {
   calls = record {
@@ -223,7 +223,7 @@ unread_called (Some task) before = record {
 
 -- ---- `asm` of a source that is assembled
 
-module _ {I : Type 0} (task : AssembleTask) (picture : Picture) (before after : Outside I)
+module _ {I : Type 0} (task : AssembleTask) (picture : Picture) (before after : Environment I)
     (taken : IfSome (before.held task.source) (λ bytes. source_read bytes ≡ Ok picture)) where
   is_taken : IfSome (before.held task.source) (λ bytes. Ok picture ≡ source_read bytes)
   is_taken = other_way (assemble task) (before.held task.source) (Ok picture) taken

@@ -1,4 +1,4 @@
--- How a run came to its status: the turns that it made, or the want of tag words.
+-- How a run came to its status: the turns that it made, or the end of the tag numbers.
 use Rattle.std.proofs.Common.{◌≡◌, ℕ, Bool, true, false, List, [], Option, Some, None, Result, Ok, Err, IfSome, ◌==◌, if◌then◌else◌, refl}
 use Rattle.image_format.specs.Picture.{Picture}
 use Rattle.turn_steps.specs.Feeds.{tape_of}
@@ -66,7 +66,7 @@ spent_by why stops false is e = record { within = is; ready = spent_is_ready _ _
 
 no_halt : (why : Option Halt) → is_out why ≡ false → (why ≡ Some halt.Memory → ⊥) → why ≡ None
 no_halt None within memory = refl
-no_halt (Some halt.TagWords) within memory = absurd (let h : true ≡ false = within in cc)
+no_halt (Some halt.TagNumbers) within memory = absurd (let h : true ≡ false = within in cc)
 no_halt (Some halt.Memory) within memory = absurd (memory refl)
 
 stopped_is_not_ready : (why : Stop) → is_of Ready (Some why) ≡ false
@@ -76,7 +76,7 @@ stopped_is_not_ready (stop.Violation part why pc) = refl
 
 module _ (task : RunTask) (picture : Picture) where
   started_by : (over : Bool) (account : Account AllTag) → account.halt ≡ None
-      → (if over then record account { halt = Some halt.TagWords } else account).halt ≡ Some halt.Memory → ⊥
+      → (if over then record account { halt = Some halt.TagNumbers } else account).halt ≡ Some halt.Memory → ⊥
   started_by true account none = λ e. cc
   started_by false account none = λ e. let h : account.halt ≡ None = none in cc
 

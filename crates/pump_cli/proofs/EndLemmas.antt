@@ -1,12 +1,12 @@
 -- The end of a run: what was put until mid, the last line and the status.
 use Rattle.std.proofs.Common.{◌≡◌, ℕ, true, false, List, [], ◌∷◌, codes, Option, Some, Result, Ok, Err, refl, ap, sym, subst, ◌∙◌}
 use Rattle.host_io.specs.Causes.{PutCause}
-use Rattle.host_io.specs.Fronts.{TakesAll, TakesFront}
-use Rattle.host_io.specs.Pieces.{Puts, PutsAll, PutsFront, Taken, err}
+use Rattle.host_io.specs.Prefixes.{TakesAll, TakesPrefix}
+use Rattle.host_io.specs.Pieces.{Puts, PutsAll, PutsPrefix, Taken, err}
 use Rattle.host_io.specs.TwoSinks.{PutFaults, on_err}
 use Rattle.host_io.specs.declared.traits.sink.PutEnd.{PutEnd}
 use Rattle.host_io.specs.declared.traits.sink.PutEnd.TheVariants as put_end
-use Rattle.host_io.proofs.PieceLemmas.{front_of_more_puts, put_on_err, puts_then_all, puts_then_front}
+use Rattle.host_io.proofs.PieceLemmas.{prefix_of_more_puts, put_on_err, puts_then_all, puts_then_prefix}
 use Rattle.turn_steps.specs.declared.stop.Stop.{Stop}
 use Rattle.engine_trait.specs.declared.ends.Halt.{Halt}
 use Rattle.engine_trait.specs.declared.ends.Halt.TheVariants as halt
@@ -47,11 +47,11 @@ last_is_spent why stops out ready = rw (out, ready) refl
 
 module _ {S T : Type 0} (course : Course S T) (before after : Taken) where
   -- cut while the turns were told
-  pub turns_cut : (result : Result Status Cut) (cut : Cut) → result ≡ Err cut → PutsFront before after (pieces_of course.events)
+  pub turns_cut : (result : Result Status Cut) (cut : Cut) → result ≡ Err cut → PutsPrefix before after (pieces_of course.events)
       → Does (outcome_of_course course) before after result
   turns_cut result cut is puts =
       subst (Does (outcome_of_course course) before after) (sym is) (record {
-        puts = front_of_more_puts before after (pieces_of course.events) (last_pieces course.standing.account.halt (hart_stops course.standing.machine.core)) puts;
+        puts = prefix_of_more_puts before after (pieces_of course.events) (last_pieces course.standing.account.halt (hart_stops course.standing.machine.core)) puts;
         ends = tt;
       })
 
@@ -61,11 +61,11 @@ module _ {S T : Type 0} (course : Course S T) (before after : Taken) where
     last_are = ap (λ (w : Option Halt). last_pieces w stops) why_is ∙ ap (last_pieces course.standing.account.halt) stops_are
 
     -- cut while the last line was told
-    pub last_cut : (result : Result Status Cut) (cut : Cut) → result ≡ Err cut → PutsFront mid after (last_pieces why stops)
+    pub last_cut : (result : Result Status Cut) (cut : Cut) → result ≡ Err cut → PutsPrefix mid after (last_pieces why stops)
         → Does (outcome_of_course course) before after result
     last_cut result cut is last =
         subst (Does (outcome_of_course course) before after) (sym is) (record {
-          puts = puts_then_front before mid after (pieces_of course.events) _ puts (subst (PutsFront mid after) last_are last);
+          puts = puts_then_prefix before mid after (pieces_of course.events) _ puts (subst (PutsPrefix mid after) last_are last);
           ends = tt;
         })
 
@@ -77,21 +77,21 @@ module _ {S T : Type 0} (course : Course S T) (before after : Taken) where
       ends = is ∙ ap (λ (w : Option Halt). status_of w stops) why_is ∙ ap (status_of course.standing.account.halt) stops_are;
     }
 
--- ---- out of tag words at the start
+-- ---- out of tag numbers at the start
 
 module _ (before after : Taken) (stops : List (Option Stop)) where
   -- cut while that was told
-  pub start_cut : (result : Result Status Cut) (cut : Cut) → result ≡ Err cut → PutsFront before after (last_pieces (Some halt.TagWords) stops)
+  pub start_cut : (result : Result Status Cut) (cut : Cut) → result ≡ Err cut → PutsPrefix before after (last_pieces (Some halt.TagNumbers) stops)
       → Does out_at_start before after result
   start_cut result cut is puts =
       subst (Does out_at_start before after) (sym is) (record {
-        puts = subst (PutsFront before after) (last_is_out (Some halt.TagWords) stops refl) puts;
+        puts = subst (PutsPrefix before after) (last_is_out (Some halt.TagNumbers) stops refl) puts;
         ends = tt;
       })
 
   -- told as a whole
-  pub start_told : PutsAll before after (last_pieces (Some halt.TagWords) stops) → Does out_at_start before after (Ok TagsOut)
-  start_told puts = record { puts = subst (PutsAll before after) (last_is_out (Some halt.TagWords) stops refl) puts; ends = refl }
+  pub start_told : PutsAll before after (last_pieces (Some halt.TagNumbers) stops) → Does out_at_start before after (Ok TagsOut)
+  start_told puts = record { puts = subst (PutsAll before after) (last_is_out (Some halt.TagNumbers) stops refl) puts; ends = refl }
 
 -- ---- refusals
 
@@ -109,7 +109,7 @@ module _ (refusal : Refusal) (bytes : List ℕ) (text : bytes ≡ line (refusal_
     status = is;
   }
 
-  pub refusal_cut : (end : PutEnd) (cut : Cut) → cut ≡ cut_of_put end → (put_err end ≡ Err put_end.Failed → TakesFront before after bytes)
+  pub refusal_cut : (end : PutEnd) (cut : Cut) → cut ≡ cut_of_put end → (put_err end ≡ Err put_end.Failed → TakesPrefix before after bytes)
       → (put_err end ≡ Err put_end.Memory → after ≡ before) → PutCause {T = Unit {0}} faults_before faults_after (Err end)
       → Tells refusal before after faults_before faults_after (Err cut)
   refusal_cut end cut is failed memory cause =

@@ -29,8 +29,8 @@ use Rattle.pump_cli.specs.declared.refusal.Refusal.{Refusal}
 abbrev SafeRan : RunTask → Picture → List ℕ → Type 0
 SafeRan = HoldsOfRun IsSafeRun
 
-abbrev SafeObeyed : ShellTask → Picture → List ℕ → Type 0
-SafeObeyed = HoldsOfLines IsSafeRun
+abbrev SafeExecuted : ShellTask → Picture → List ℕ → Type 0
+SafeExecuted = HoldsOfLines IsSafeRun
 
 -- past the end of a list of bytes its items are told as 0
 each_small : (bytes : List ℕ) → AreBytes bytes → (i : ℕ) → slice_index bytes i < 256
@@ -85,20 +85,20 @@ safe_course task g fed is =
     (sym (rounds_are_run all_eq all task.turns 0 (start_of_run task g) (tape_of fed)))
     (run_is_safe (basis_of task.choice) g (tape_of fed) (map turn (course_of_run task g fed).order) is)
 
-safe_fed : (task : RunTask) (g : Picture) (fed : Result (List ℕ) Refusal) → IsImage g → AfterFed SafeRan SafeObeyed task g fed
+safe_fed : (task : RunTask) (g : Picture) (fed : Result (List ℕ) Refusal) → IsImage g → AfterFed SafeRan SafeExecuted task g fed
 safe_fed task g (Ok fed) is = safe_course task g fed is
 safe_fed task g (Err refusal) is = tt
 
-safe_input : (task : RunTask) (g : Picture) (input : Option (List ℕ)) → IsImage g → AfterInput SafeRan SafeObeyed task g input
+safe_input : (task : RunTask) (g : Picture) (input : Option (List ℕ)) → IsImage g → AfterInput SafeRan SafeExecuted task g input
 safe_input task g None is = tt
 safe_input task g (Some input) is = safe_fed task g (input_read input) is
 
 -- a session has made a run along some list of turns and fed bytes
-safe_lines : (task : ShellTask) (g : Picture) (input : Option (List ℕ)) → IsImage g → AfterLines SafeRan SafeObeyed task g input
+safe_lines : (task : ShellTask) (g : Picture) (input : Option (List ℕ)) → IsImage g → AfterLines SafeRan SafeExecuted task g input
 safe_lines task g None is = tt
-safe_lines task g (Some input) is = λ front rest due. run_is_safe (basis_of task.choice) g (tape_of []) (items_after_lines task g front) is
+safe_lines task g (Some input) is = λ prefix rest due. run_is_safe (basis_of task.choice) g (tape_of []) (items_after_lines task g prefix) is
 
-safe_picture : (task : Task) (g : Picture) (input : Option (List ℕ)) → IsImage g → AfterPicture SafeRan SafeObeyed task g input
+safe_picture : (task : Task) (g : Picture) (input : Option (List ℕ)) → IsImage g → AfterPicture SafeRan SafeExecuted task g input
 safe_picture (run task) g input is = safe_input task g input is
 safe_picture (shell task) g input is = safe_lines task g input is
 safe_picture (assemble task) g input is = tt
@@ -106,23 +106,23 @@ safe_picture (disassemble task) g input is = tt
 safe_picture (load task) g input is = safe_course (run_of_load task) g [] is
 
 safe_image : (task : Task) (read : Result Picture Refusal) (input : Option (List ℕ)) → ((g : Picture) → read ≡ Ok g → IsImage g)
-    → AfterImage SafeRan SafeObeyed task read input
+    → AfterImage SafeRan SafeExecuted task read input
 safe_image task (Ok g) input is = safe_picture task g input (is g refl)
 safe_image task (Err refusal) input is = tt
 
 -- a task that makes no run
-none_made : (task : Task) → ((g : Picture) (input : Option (List ℕ)) → AfterPicture SafeRan SafeObeyed task g input) → (read : Result Picture Refusal) (input : Option (List ℕ))
-    → AfterImage SafeRan SafeObeyed task read input
+none_made : (task : Task) → ((g : Picture) (input : Option (List ℕ)) → AfterPicture SafeRan SafeExecuted task g input) → (read : Result Picture Refusal) (input : Option (List ℕ))
+    → AfterImage SafeRan SafeExecuted task read input
 none_made task none (Ok g) input = none g input
 none_made task none (Err refusal) input = tt
 
 -- a file's bytes
 safe_file : (task : Task) (file input : Option (List ℕ)) → ((bytes : List ℕ) → file ≡ Some bytes → AreBytes bytes)
-    → ((bytes : List ℕ) → AreBytes bytes → AfterImage SafeRan SafeObeyed task (content_read task bytes) input) → AfterContent SafeRan SafeObeyed task file input
+    → ((bytes : List ℕ) → AreBytes bytes → AfterImage SafeRan SafeExecuted task (content_read task bytes) input) → AfterContent SafeRan SafeExecuted task file input
 safe_file task None input tells safe = tt
 safe_file task (Some bytes) input tells safe = safe bytes (tells bytes refl)
 
-safe_content : (task : Task) (held : List ℕ → Option (List ℕ)) (input : Option (List ℕ)) → TellBytes held → AfterContent SafeRan SafeObeyed task (content_of task held) input
+safe_content : (task : Task) (held : List ℕ → Option (List ℕ)) (input : Option (List ℕ)) → TellBytes held → AfterContent SafeRan SafeExecuted task (content_of task held) input
 safe_content (run task) held input tells =
     safe_file (run task) (held task.image) input (tells task.image) (λ bytes are_bytes. safe_image (run task) (image_read bytes) input (λ g read. file_is_image bytes g are_bytes read))
 safe_content (shell task) held input tells =
@@ -134,7 +134,7 @@ safe_content (disassemble task) held input tells =
 safe_content (load task) held input tells =
     safe_image (load task) (source_read (source_of_workload task.count)) input (λ g made. source_is_image (source_of_workload task.count) g made)
 
-safe_words : (task : Option Task) (held : List ℕ → Option (List ℕ)) (input : Option (List ℕ)) → TellBytes held → AfterWords SafeRan SafeObeyed task held input
+safe_words : (task : Option Task) (held : List ℕ → Option (List ℕ)) (input : Option (List ℕ)) → TellBytes held → AfterWords SafeRan SafeExecuted task held input
 safe_words None held input tells = tt
 safe_words (Some task) held input tells = safe_content task held input tells
 

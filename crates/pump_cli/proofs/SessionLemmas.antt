@@ -5,7 +5,7 @@ use Rattle.host_io.specs.Pieces.{PutsAll, Taken}
 use Rattle.host_io.specs.TwoSinks.{OneRose, PutFaults, on_out}
 use Rattle.policy_choice.specs.declared.basis.Basis.{Basis}
 use Rattle.engine_trait.specs.Accounts.{is_over}
-use Rattle.host_io.proofs.PieceLemmas.{front_of_more_puts, puts_then_all, puts_then_front}
+use Rattle.host_io.proofs.PieceLemmas.{prefix_of_more_puts, puts_then_all, puts_then_prefix}
 use Rattle.shell_turns.specs.Cuts.{PutsOut}
 use Rattle.shell_script.specs.Shell.{ShellFaults}
 use Rattle.pump_shell.specs.Ends.{SessionCause}
@@ -52,7 +52,7 @@ module _ (told : Told) (old new err_old err_new : Option (List ℕ)) where
     ends = last.ends;
   }
   replies_then (Err cut) replies last = record {
-    puts = puts_then_front (sinks old err_old) (sinks new err_old) (sinks new err_new) told.pieces _ replies last.puts;
+    puts = puts_then_prefix (sinks old err_old) (sinks new err_old) (sinks new err_new) told.pieces _ replies last.puts;
     ends = tt;
   }
 
@@ -99,7 +99,7 @@ module _ (task : ShellTask) (basis : Basis) (basis_is : basis ≡ basis_of task.
       by (Some bytes) puts =
           subst (λ (told : Told). Does (outcome_of_told told) (sinks old other) (sinks new other) (Err cut)) (told_is bytes)
           (record {
-            puts = front_of_more_puts (sinks old other) (sinks new other) (told_with bytes).pieces (outcome_of_end (told_with bytes).end).pieces (puts other);
+            puts = prefix_of_more_puts (sinks old other) (sinks new other) (told_with bytes).pieces (outcome_of_end (told_with bytes).end).pieces (puts other);
             ends = tt;
           })
 
@@ -114,7 +114,7 @@ module _ (task : ShellTask) (basis : Basis) (basis_is : basis ≡ basis_of task.
       by None is = tt
       by (Some bytes) is = λ ended. closes (is ∙ ap (λ (told : Told). told.end) (told_is bytes) ∙ ended)
 
--- a start that is out of tag words ends the session, whatever its input
+-- a start that is out of tag numbers ends the session, whatever its input
 module _ (old new err_old err_new : Option (List ℕ)) (silent : new ≡ old) where
   pub no_start_ended : (end : SessionEnd) (result : Result Status Cut) → (session_ok end ≡ Ok session_end.TagsOut) ⊎ (session_ok end ≡ Err session_cut.Memory)
       → ((out : Option (List ℕ)) → Does (outcome_of_end end) (sinks out err_old) (sinks out err_new) result)
@@ -175,7 +175,7 @@ module _ (input input_now out out_now : ℕ) where
       by session_cut.PutFailed cause = (cause.0, on_out cause.1 refl)
       by session_cut.Memory cause = (ap (λ (all : ShellFaults). all.input) cause, λ i. counts (cause i).out err)
 
--- a start that is out of tag words ends a session
+-- a start that is out of tag numbers ends a session
 pub out_ends : (result : Result Status Cut) → IfOk result (λ status. status ≡ TagsOut) → IfOk result IsOfSession
 out_ends (Ok status) is = subst IsOfSession (sym is) tt
 out_ends (Err cut) is = tt

@@ -1,5 +1,5 @@
 -- What a session tells is told of the runs that it makes.
-use Rattle.std.proofs.Common.{◌≡◌, ℕ, Bool, true, false, ◌==◌, List, [], ◌∷◌, ◌++◌, Option, Some, None, Result, Ok, Err, if◌then◌else◌, refl, ap, sym, subst, ◌∙◌}
+use Rattle.std.proofs.Common.{◌≡◌, ℕ, Bool, true, false, ◌==◌, List, [], ◌∷◌, ◌++◌, Option, Some, None, Result, Ok, Err, if◌then◌else◌, refl, ap, subst, ◌∙◌}
 use Rattle.image_format.specs.Picture.{Picture}
 use Rattle.turn_steps.specs.Feeds.{tape_of}
 use Rattle.engine_trait.specs.Accounts.{is_over}
@@ -23,7 +23,7 @@ use Rattle.pump_shell.specs.Told.{out_at_start, start_of_setup, told_by, told_fr
 use Rattle.pump_line.specs.Task.{RunTask, ShellTask, Task, assemble, disassemble, load, run, shell, task_of}
 use Rattle.pump_cli.specs.Program.{basis_of, is_over_at_start, setup_of}
 use Rattle.pump_cli.specs.Reading.{content_of, content_read, input_limit, input_read}
-use Rattle.pump_cli.specs.Runs.{AfterContent, AfterFed, AfterImage, AfterInput, AfterLines, AfterPicture, AfterWords, Run, items_after_lines, lines_of, run_after_lines}
+use Rattle.pump_cli.specs.Runs.{AfterContent, AfterFed, AfterImage, AfterInput, AfterLines, AfterPicture, AfterWords, Run, items_after_lines, run_after_lines}
 use Rattle.pump_cli.specs.Sessions.{AnyRun, TellsRuns, TheSession, session_after, session_over}
 use Rattle.pump_cli.specs.declared.refusal.Refusal.{Refusal}
 
@@ -53,23 +53,23 @@ module _ (task : ShellTask) (g : Picture) where
 
   -- ---- after some lines
 
-  stands_by : (front : List Answer) → StandsAfter (run_of (basis_of task.choice) g (items_after_lines task g front)) (session_after task g front).after
-  stands_by front =
-      let along = script_goes all_eq all (session_over task g) [] front begins in
-      let from = ap (λ (e : Standing AllState AllTag). e.machine) (script_start all_eq all (session_over task g) front) ∙ start_is in
+  stands_by : (prefix : List Answer) → StandsAfter (run_of (basis_of task.choice) g (items_after_lines task g prefix)) (session_after task g prefix).after
+  stands_by prefix =
+      let along = script_goes all_eq all (session_over task g) [] prefix begins in
+      let from = ap (λ (e : Standing AllState AllTag). e.machine) (script_start all_eq all (session_over task g) prefix) ∙ start_is in
       record {
-        machine = along.machine ∙ ap (λ (s : Machine AllState AllTag). (run_along all s (tape_of []) (items_after_lines task g front)).machine) from;
-        feed = along.feed ∙ ap (λ (s : Machine AllState AllTag). (run_along all s (tape_of []) (items_after_lines task g front)).feed) from;
+        machine = along.machine ∙ ap (λ (s : Machine AllState AllTag). (run_along all s (tape_of []) (items_after_lines task g prefix)).machine) from;
+        feed = along.feed ∙ ap (λ (s : Machine AllState AllTag). (run_along all s (tape_of []) (items_after_lines task g prefix)).feed) from;
       }
 
-  replies_by : (front : List Answer) (line : Answer) → (session_after task g front).quits ≡ false
-      → TellsNext all_eq all (session_over task g) front line (run_after_lines task g front).events (run_after_lines task g (front ++ line ∷ [])).events
-  replies_by front line goes =
-      subst (λ (events : List (Event AllTag)). TellsNext all_eq all (session_over task g) front line (run_after_lines task g front).events events)
-      (events_are (items_after_lines task g (front ++ line ∷ [])))
-      (subst (λ (events : List (Event AllTag)). TellsNext all_eq all (session_over task g) front line events (events_along all_eq all (session_over task g) (items_after_lines task g (front ++ line ∷ []))))
-      (events_are (items_after_lines task g front))
-      (next_told all_eq all (session_over task g) [] front line begins goes))
+  replies_by : (prefix : List Answer) (line : Answer) → (session_after task g prefix).quits ≡ false
+      → TellsNext all_eq all (session_over task g) prefix line (run_after_lines task g prefix).events (run_after_lines task g (prefix ++ line ∷ [])).events
+  replies_by prefix line goes =
+      subst (λ (events : List (Event AllTag)). TellsNext all_eq all (session_over task g) prefix line (run_after_lines task g prefix).events events)
+      (events_are (items_after_lines task g (prefix ++ line ∷ [])))
+      (subst (λ (events : List (Event AllTag)). TellsNext all_eq all (session_over task g) prefix line events (events_along all_eq all (session_over task g) (items_after_lines task g (prefix ++ line ∷ []))))
+      (events_are (items_after_lines task g prefix))
+      (next_told all_eq all (session_over task g) [] prefix line begins goes))
 
   abbrev run_by : List Item → Run
   run_by items = record { basis = basis_of task.choice; image = g; events = (run_of (basis_of task.choice) g items).events }
@@ -89,9 +89,9 @@ module _ (task : ShellTask) (g : Picture) where
   tells_runs : (input : List ℕ) → TellsRuns task g input
   tells_runs input = record {
     told = λ within. told_on input_limit input within ∙ shell_is_told all_eq all input_limit (session_over task g) input;
-    stands = λ front rest due. stands_by front;
-    replies = λ front line rest due goes. replies_by front line goes;
-    closed = λ front line rest due quits. ap run_by (closed_by all_eq all (session_over task g) [] front line quits);
+    stands = λ prefix rest due. stands_by prefix;
+    replies = λ prefix line rest due goes. replies_by prefix line goes;
+    closed = λ prefix line rest due quits. ap run_by (closed_by all_eq all (session_over task g) [] prefix line quits);
   }
 
 -- ---- where what the words ask for is told

@@ -24,12 +24,12 @@ stopped_stays eq m zero from e feed why stopped = refl
 stopped_stays eq m (suc n) from e feed why stopped = rw stopped refl
 
 module _ {S T : Type 0} (e : Standing S T) where
-  -- out of tag words
+  -- out of tag numbers
   abbrev pub out_of_tags : Standing S T
-  out_of_tags = record { machine = e.machine; account = record e.account { halt = Some halt.TagWords } }
+  out_of_tags = record { machine = e.machine; account = record e.account { halt = Some halt.TagNumbers } }
 
   started_if : Bool → Standing S T
-  started_if over = record { machine = e.machine; account = if over then record e.account { halt = Some halt.TagWords } else e.account }
+  started_if over = record { machine = e.machine; account = if over then record e.account { halt = Some halt.TagNumbers } else e.account }
 
   pub started_within : is_over e.account ≡ false → standing_at_start e ≡ e
   unfolding started_if
@@ -44,7 +44,7 @@ module _ {S T : Type 0} (e : Standing S T) where
       → rounds eq m turns 0 (standing_at_start e) feed ≡ stays out_of_tags feed
   over_course eq m turns feed over =
       ap (λ (from : Standing S T). rounds eq m turns 0 from feed) (started_over over)
-      ∙ stopped_stays eq m turns 0 out_of_tags feed halt.TagWords refl
+      ∙ stopped_stays eq m turns 0 out_of_tags feed halt.TagNumbers refl
 
   pub over_outcome : (eq : T → T → Bool) (m : PolicyModel T S) (turns : ℕ) (feed : Tape) → is_over e.account ≡ true
       → outcome_of_course (rounds eq m turns 0 (standing_at_start e) feed) ≡ out_at_start

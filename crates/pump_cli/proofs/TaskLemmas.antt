@@ -2,8 +2,8 @@
 use Rattle.std.proofs.Common.{◌≡◌, ℕ, ◌+◌, ◌<◌, ◌⊎◌, nat_le, if◌then◌else◌, Bool, true, false, List, [], length, Option, Some, None, Result, Ok, Err, IfSome, IsErr, IsTrue, refl, sym, subst, arith, inl, inr, ◌∙◌}
 use Rattle.std.proofs.lemmas.Bool.Decides.{nat_tests}
 use Rattle.std.specs.Io.KnownBytes.{prepend_known}
-use Rattle.host_io.specs.Fronts.{LosesFront}
-use Rattle.host_io.specs.Outside.{Outside}
+use Rattle.host_io.specs.Prefixes.{LosesPrefix}
+use Rattle.host_io.specs.Environment.{Environment}
 use Rattle.image_format.specs.Picture.{Picture}
 use Rattle.image_format.specs.Reading.{image_of}
 use Rattle.image_format.specs.declared.errors.ImageError.{ImageError}
@@ -14,8 +14,8 @@ use Rattle.pump_line.specs.Request.{AssembleTask, DisassembleTask}
 use Rattle.pump_line.specs.Task.{LoadTask, RunTask, ShellTask, Task, assemble, disassemble, load, run, shell}
 use Rattle.pump_cli.specs.Codes.{IsBeforeInput, ReadsAll}
 use Rattle.pump_cli.specs.Endings.{Outcome}
-use Rattle.host_io.proofs.FrontLemmas.{if_some_each}
-use Rattle.pump_cli.specs.Facts.{FileFacts, IsLongFile, IsLongInput, IsTooLong, Obeyed, ObeyedIn, SessionFacts}
+use Rattle.host_io.proofs.PrefixLemmas.{if_some_each}
+use Rattle.pump_cli.specs.Facts.{FileFacts, IsLongFile, IsLongInput, IsTooLong, Executed, ExecutedIn, SessionFacts}
 use Rattle.pump_cli.specs.Program.{is_over_at_start, outcome_of_content, outcome_of_fed, outcome_of_image, outcome_of_lines, outcome_of_listing, outcome_of_load, outcome_of_no_start, outcome_of_run, outcome_of_saving, refusal_outcome}
 use Rattle.pump_cli.specs.Reading.{content_of, content_read, file_as, file_limit, image_or_refusal, image_read, input_limit, input_read, source_or_refusal, source_read}
 use Rattle.pump_cli.specs.declared.refusal.Refusal.{Refusal}
@@ -57,11 +57,11 @@ module _ (P : Outcome → Type 0) where
   pub due_by_lines : (task : ShellTask) (held input : Option (List ℕ)) (picture : Picture) → IfSome held (λ bytes. image_read bytes ≡ Ok picture)
       → IfSome input (λ bytes. P (outcome_of_lines task picture bytes)) → (is_over_at_start task picture ≡ true → P outcome_of_no_start)
       → IfSome (outcome_of_content (shell task) held input) P
-  due_by_lines task None input picture is obeyed ended = tt
-  due_by_lines task (Some bytes) None picture is obeyed ended =
+  due_by_lines task None input picture is executed ended = tt
+  due_by_lines task (Some bytes) None picture is executed ended =
       subst (λ (read : Result Picture Refusal). IfSome (outcome_of_image (shell task) read None) P) (sym is) (by_start (is_over_at_start task picture) ended)
-  due_by_lines task (Some bytes) (Some lines) picture is obeyed ended =
-      subst (λ (read : Result Picture Refusal). IfSome (outcome_of_image (shell task) read (Some lines)) P) (sym is) obeyed
+  due_by_lines task (Some bytes) (Some lines) picture is executed ended =
+      subst (λ (read : Result Picture Refusal). IfSome (outcome_of_image (shell task) read (Some lines)) P) (sym is) executed
 
   pub due_by_saving : (task : AssembleTask) (held input : Option (List ℕ)) (picture : Picture) → IfSome held (λ bytes. source_read bytes ≡ Ok picture)
       → P outcome_of_saving → IfSome (outcome_of_content (assemble task) held input) P
@@ -200,8 +200,8 @@ long_input bytes is = by_length (nat_le (length bytes) input_limit) (λ past. gr
 
 -- ---- what was done to the file and to the input
 
-loses_nothing : (left : Option (List ℕ)) (most : ℕ) → LosesFront left left most
-loses_nothing left most = record { front = []; moved = by left; within = omega arith }
+loses_nothing : (left : Option (List ℕ)) (most : ℕ) → LosesPrefix left left most
+loses_nothing left most = record { prefix = []; moved = by left; within = omega arith }
   where
     by : (known : Option (List ℕ)) → known ≡ prepend_known [] known
     by None = refl
@@ -223,35 +223,35 @@ pub record Side (task : Task) (status : Status) (BadImage BadSource TooLong : Ty
 -- ---- sessions
 
 -- a session that did not come to its end did not read the input either
-unobeyed : {I : Type 0} (task : ShellTask) (read : Result Picture Refusal) (status : Status) (before after : Outside I)
-    → (status ≡ statuses.TagsOut → ⊥) → (status ≡ statuses.Done → ⊥) → after.input ≡ before.input → ObeyedIn task read status before after
-unobeyed task (Ok picture) status before after not_out not_done input = record {
+unexecuted : {I : Type 0} (task : ShellTask) (read : Result Picture Refusal) (status : Status) (before after : Environment I)
+    → (status ≡ statuses.TagsOut → ⊥) → (status ≡ statuses.Done → ⊥) → after.input ≡ before.input → ExecutedIn task read status before after
+unexecuted task (Ok picture) status before after not_out not_done input = record {
   tags_out = λ out. absurd (not_out out);
   unread = λ over. input;
   whole = λ done. absurd (not_done done);
 }
-unobeyed task (Err refusal) status before after not_out not_done input = tt
+unexecuted task (Err refusal) status before after not_out not_done input = tt
 
-pub no_session : {I : Type 0} (task : Task) (status : Status) (before after : Outside I)
+pub no_session : {I : Type 0} (task : Task) (status : Status) (before after : Environment I)
     → (status ≡ statuses.TagsOut → ⊥) → (status ≡ statuses.Done → ⊥) → after.input ≡ before.input → SessionFacts task status before after
 no_session (run task) status before after not_out not_done input = tt
 no_session (shell task) status before after not_out not_done input =
-    each (before.held task.image) _ (λ bytes. unobeyed task (image_read bytes) status before after not_out not_done input)
+    each (before.held task.image) _ (λ bytes. unexecuted task (image_read bytes) status before after not_out not_done input)
 no_session (assemble task) status before after not_out not_done input = tt
 no_session (disassemble task) status before after not_out not_done input = tt
 no_session (load task) status before after not_out not_done input = tt
 
 -- one whose image was taken
-pub some_session : {I : Type 0} (task : ShellTask) (picture : Picture) (status : Status) (before after : Outside I)
-    → IfSome (before.held task.image) (λ bytes. image_read bytes ≡ Ok picture) → Obeyed task picture status before after
+pub some_session : {I : Type 0} (task : ShellTask) (picture : Picture) (status : Status) (before after : Environment I)
+    → IfSome (before.held task.image) (λ bytes. image_read bytes ≡ Ok picture) → Executed task picture status before after
     → SessionFacts (shell task) status before after
-some_session task picture status before after taken obeyed =
+some_session task picture status before after taken executed =
     if_some_each (before.held task.image) _ _
-    (λ bytes is. subst (λ (read : Result Picture Refusal). ObeyedIn task read status before after) (sym is) obeyed) taken
+    (λ bytes is. subst (λ (read : Result Picture Refusal). ExecutedIn task read status before after) (sym is) executed) taken
 
 -- ---- what is done to the input
 
-module _ {I : Type 0} (task : Task) (status : Status) (before after : Outside I)
+module _ {I : Type 0} (task : Task) (status : Status) (before after : Environment I)
     (bad : status ≡ statuses.BadImage → IfSome (content_of task before.held) (λ bytes. IsErr (image_of bytes)))
     (source : status ≡ statuses.BadSource → IfSome (content_of task before.held) (λ bytes. IsErr (image_of_source bytes)))
     (long : status ≡ statuses.TooLong → IfSome (content_of task before.held) (λ bytes. IsTooLong task bytes before.left))
@@ -266,12 +266,12 @@ module _ {I : Type 0} (task : Task) (status : Status) (before after : Outside I)
     unasked = each (content_of task before.held) _ (λ bytes refused. input);
     whole = λ all. absurd (not_all all);
     session = session;
-    moved = subst (λ (now : Option (List ℕ)). LosesFront before.left now (input_limit + 4096)) (sym left) (loses_nothing before.left (input_limit + 4096));
+    moved = subst (λ (now : Option (List ℕ)). LosesPrefix before.left now (input_limit + 4096)) (sym left) (loses_nothing before.left (input_limit + 4096));
   }
 
   -- the file was taken
   pub facts_asked : (picture : Picture) → IfSome (content_of task before.held) (λ bytes. content_read task bytes ≡ Ok picture)
-      → LosesFront before.left after.left (input_limit + 4096) → (IsBeforeInput task status → after.input ≡ before.input)
+      → LosesPrefix before.left after.left (input_limit + 4096) → (IsBeforeInput task status → after.input ≡ before.input)
       → (ReadsAll task status → IsTrue after.closed) → FileFacts task status before after
   facts_asked picture taken moved unread whole = record {
     bad_image = bad;
@@ -309,7 +309,7 @@ of_saving status (inr memory) = record {
 }
 
 -- a source was taken, and its image was to be saved
-pub facts_saving : {I : Type 0} (task : AssembleTask) (status : Status) (before after : Outside I) (picture : Picture)
+pub facts_saving : {I : Type 0} (task : AssembleTask) (status : Status) (before after : Environment I) (picture : Picture)
     → IfSome (before.held task.source) (λ bytes. source_read bytes ≡ Ok picture) → IsSaving status ⊎ (status ≡ statuses.Memory)
     → after.input ≡ before.input → after.left ≡ before.left → FileFacts (assemble task) status before after
 facts_saving task status before after picture taken ends input left =
@@ -322,7 +322,7 @@ facts_saving task status before after picture taken ends input left =
       unasked = if_some_each (before.held task.source) _ _ (λ bytes is refused. taken_is_fine (assemble task) bytes picture is refused) taken;
       whole = λ all. absurd all;
       session = tt;
-      moved = subst (λ (now : Option (List ℕ)). LosesFront before.left now (input_limit + 4096)) (sym left) (loses_nothing before.left (input_limit + 4096));
+      moved = subst (λ (now : Option (List ℕ)). LosesPrefix before.left now (input_limit + 4096)) (sym left) (loses_nothing before.left (input_limit + 4096));
     }
 
 -- a call that wants memory did not read the input to its end, as far as is told
@@ -333,8 +333,8 @@ not_all_read (assemble task) all = all
 not_all_read (disassemble task) all = all
 not_all_read (load task) all = all
 
--- want of memory before anything was asked for
-pub facts_none : {I : Type 0} (task : Task) (before : Outside I) → FileFacts task statuses.Memory before before
+-- running out of memory before anything was asked for
+pub facts_none : {I : Type 0} (task : Task) (before : Environment I) → FileFacts task statuses.Memory before before
 facts_none task before = record {
   bad_image = λ e. absurd (let h : statuses.Memory ≡ statuses.BadImage = e in cc);
   bad_source = λ e. absurd (let h : statuses.Memory ≡ statuses.BadSource = e in cc);

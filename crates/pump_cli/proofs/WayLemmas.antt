@@ -2,11 +2,11 @@
 use Rattle.std.specs.Bool.{then_some}
 use Rattle.std.proofs.Common.{◌≡◌, ◌≢◌, ℕ, ◌+◌, ◌⊎◌, true, List, Option, Some, None, Result, Ok, Err, IfOk, OnOk, IfSome, IsErr, IsTrue, refl, sym, ap, subst, ◌∙◌, inl, inr}
 use Rattle.shared_terms.specs.Counts.{next_count}
-use Rattle.host_io.specs.Fronts.{LosesFront}
-use Rattle.host_io.specs.Outside.{NoFault, Outside}
+use Rattle.host_io.specs.Prefixes.{LosesPrefix}
+use Rattle.host_io.specs.Environment.{NoFault, Environment}
 use Rattle.host_io.specs.Pieces.{Taken}
 use Rattle.host_io.specs.TwoSinks.{PutFaults}
-use Rattle.host_io.proofs.FrontLemmas.{if_some_all, if_some_each}
+use Rattle.host_io.proofs.PrefixLemmas.{if_some_all, if_some_each}
 use Rattle.image_format.specs.Picture.{Picture}
 use Rattle.image_format.specs.Reading.{image_of}
 use Rattle.image_format.specs.Spelling.{spelling}
@@ -20,10 +20,10 @@ use Rattle.pump_cli.specs.Calls.{FaultBy, Load, MakesAll}
 use Rattle.pump_cli.specs.Codes.{IsBeforeInput, IsFinal, IsOfRefusal, IsOfRun, IsOfSession, IsSilent, ReadsAll, status_of_cut, status_of_refusal}
 use Rattle.pump_cli.specs.Early.{EndsEarly, InputRoseBy, IsOfFile, ReadRoseBy, SessionFaultBy, Tells, WriteRoseBy}
 use Rattle.pump_cli.specs.Endings.{Outcome}
-use Rattle.pump_cli.specs.Facts.{AtMost, Does, IsLongInput, IsTooLong, Obeyed, PutsFaultBy, SessionFacts, TaskFacts, status_in}
+use Rattle.pump_cli.specs.Facts.{AtMost, Does, IsLongInput, IsTooLong, Executed, PutsFaultBy, SessionFacts, TaskFacts, status_in}
 use Rattle.pump_cli.specs.Program.{is_over_at_start, outcome_of_content, outcome_of_lines, outcome_of_listing, outcome_of_load, outcome_of_no_start, outcome_of_run, outcome_of_saving, outcome_of_words, program, refusal_outcome, setup_of}
 use Rattle.pump_cli.specs.Reading.{content_of, content_read, image_read, input_limit, input_read, source_read}
-use Rattle.pump_cli.specs.Theorem.{Answers}
+use Rattle.pump_cli.specs.Theorem.{Headline}
 use Rattle.pump_cli.specs.declared.cut.Cut.{Cut}
 use Rattle.pump_cli.specs.declared.cut.Cut.TheVariants as cut
 use Rattle.pump_cli.specs.declared.reading.EarlyEnd.{EarlyEnd}
@@ -121,7 +121,7 @@ of_too_long task B S L why = record {
   not_done = λ e. let h : statuses.TooLong ≡ statuses.Done = e in cc;
 }
 
--- a refusal, a failed put and want of memory are not silent
+-- a refusal, a failed put and running out of memory are not silent
 refusal_is_told : (task : Option Task) (refusal : Refusal) → IsSilent task (status_of_refusal refusal) → ⊥
 refusal_is_told task refusals.BadWords silent = silent
 refusal_is_told task (refusals.BadImage error) silent = silent
@@ -219,20 +219,20 @@ abbrev input_error : Refusal → Result (List ℕ) Refusal
 input_error r = Err r
 
 -- the causes of a refusal
-abbrev BadFile : {I : Type 0} → Task → Outside I → Type 0
+abbrev BadFile : {I : Type 0} → Task → Environment I → Type 0
 BadFile task before = IfSome (content_of task before.held) (λ bytes. IsErr (image_of bytes))
 
-abbrev BadText : {I : Type 0} → Task → Outside I → Type 0
+abbrev BadText : {I : Type 0} → Task → Environment I → Type 0
 BadText task before = IfSome (content_of task before.held) (λ bytes. IsErr (image_of_source bytes))
 
-abbrev LongFile : {I : Type 0} → Task → Outside I → Type 0
+abbrev LongFile : {I : Type 0} → Task → Environment I → Type 0
 LongFile task before = IfSome (content_of task before.held) (λ bytes. IsTooLong task bytes before.left)
 
 -- ---- the content
 
-module _ {I : Type 0} (task : Task) (before after : Outside I) where
+module _ {I : Type 0} (task : Task) (before after : Environment I) where
   abbrev AnsweredBy : Status → Type 0
-  AnsweredBy status = Answers (outcome_of_content task (content_of task before.held) before.left) (Some task) status before after
+  AnsweredBy status = Headline (outcome_of_content task (content_of task before.held) before.left) (Some task) status before after
 
   abbrev SideOf : Status → Type 0
   SideOf status = Side task status (BadFile task before) (BadText task before) (LongFile task before)
@@ -321,7 +321,7 @@ module _ {I : Type 0} (task : Task) (before after : Outside I) where
 
 -- ---- `run`
 
-module _ {I : Type 0} (task : RunTask) (before after : Outside I) where
+module _ {I : Type 0} (task : RunTask) (before after : Environment I) where
   abbrev Refused : Type 0
   Refused = BadFile (run task) before
 
@@ -335,7 +335,7 @@ module _ {I : Type 0} (task : RunTask) (before after : Outside I) where
   AnsweredRun status = AnsweredBy (run task) before after status
 
   module _ (picture : Picture) (is : IfSome (before.held task.image) (λ bytes. image_read bytes ≡ Ok picture)) (held : after.held ≡ before.held)
-      (calls : after.calls ≡ next_count before.calls) (moved : LosesFront before.left after.left (input_limit + 4096)) (read : after.faults.read ≡ before.faults.read) (write : after.faults.write ≡ before.faults.write) where
+      (calls : after.calls ≡ next_count before.calls) (moved : LosesPrefix before.left after.left (input_limit + 4096)) (read : after.faults.read ≡ before.faults.read) (write : after.faults.write ≡ before.faults.write) where
     abbrev SideOfRun : Status → Type 0
     SideOfRun status = Side (run task) status Refused NoSource Exceeds
 
@@ -431,7 +431,7 @@ module _ {I : Type 0} (task : RunTask) (before after : Outside I) where
 -- ---- `shell`
 
 -- what the status of a session is not, and why it may be what it is
-record OfSession {I : Type 0} (task : ShellTask) (before after : Outside I) (status : Status) : Type 0 where
+record OfSession {I : Type 0} (task : ShellTask) (before after : Environment I) (status : Status) : Type 0 where
   words : status ≡ statuses.BadWords → ⊥
   silent : IsSilent (Some (shell task)) status → ⊥
   refusal : IsOfRefusal (Some (shell task)) status → ⊥
@@ -440,7 +440,7 @@ record OfSession {I : Type 0} (task : ShellTask) (before after : Outside I) (sta
   long : status ≡ statuses.TooLong → IfSome before.left IsLongInput
   unread : IsBeforeInput (shell task) status → after.input ≡ before.input
 
-module _ {I : Type 0} (task : ShellTask) (before after : Outside I) where
+module _ {I : Type 0} (task : ShellTask) (before after : Environment I) where
   ended_is : (status : Status) → IsOfSession status → (status ≡ statuses.TooLong → IfSome before.left IsLongInput)
       → (status ≡ statuses.TagsOut → after.input ≡ before.input) → OfSession task before after status
   ended_is status of_session long unread = record {
@@ -530,15 +530,15 @@ module _ {I : Type 0} (task : ShellTask) (before after : Outside I) where
   session_fault (Err cut.Memory) read write fault kind = λ i. record { read = read i; write = write i; input = fault.0 i; puts = fault.1 i }
 
   -- what the definition says of its start and of its end
-  obeyed_facts : (picture : Picture) (result : Result Status Cut) → (result ≡ Ok statuses.TagsOut → is_over_at_start task picture ≡ true)
+  executed_facts : (picture : Picture) (result : Result Status Cut) → (result ≡ Ok statuses.TagsOut → is_over_at_start task picture ≡ true)
       → (is_over_at_start task picture ≡ true → after.input ≡ before.input)
       → OnOk result (IfSome before.left (λ input. (told_of (setup_of task) picture input_limit input).end ≡ session_end.InputEnd → IsTrue after.closed))
-      → Obeyed task picture (status_in result) before after
-  obeyed_facts picture (Ok status) out unread closed = record { tags_out = λ e. out (ap ended e); unread = unread; whole = λ done. closed }
+      → Executed task picture (status_in result) before after
+  executed_facts picture (Ok status) out unread closed = record { tags_out = λ e. out (ap ended e); unread = unread; whole = λ done. closed }
     where
       ended : Status → Result Status Cut
       ended s = Ok s
-  obeyed_facts picture (Err broken) out unread closed = record {
+  executed_facts picture (Err broken) out unread closed = record {
     tags_out = λ e. absurd (cut_not broken statuses.TagsOut e tt);
     unread = unread;
     whole = λ e. absurd (cut_not broken statuses.Done e tt);
@@ -551,8 +551,8 @@ module _ {I : Type 0} (task : ShellTask) (before after : Outside I) where
       cut_not cut.PutFailed status e final = subst IsFinal (sym e) final
       cut_not cut.Memory status e final = subst IsFinal (sym e) final
 
-  -- the lines are obeyed
-  pub obeyed : (picture : Picture) (result : Result Status Cut) → IfSome (before.held task.image) (λ bytes. image_read bytes ≡ Ok picture)
+  -- the lines are executed
+  pub executed : (picture : Picture) (result : Result Status Cut) → IfSome (before.held task.image) (λ bytes. image_read bytes ≡ Ok picture)
       → IfSome before.left (λ lines. Does (outcome_of_lines task picture lines) before.taken after.taken result)
       → after.faults.read ≡ before.faults.read → after.faults.write ≡ before.faults.write
       → SessionFaultBy before.faults.input after.faults.input before.faults.puts after.faults.puts result
@@ -561,9 +561,9 @@ module _ {I : Type 0} (task : ShellTask) (before after : Outside I) where
       → (is_over_at_start task picture ≡ true → Does outcome_of_no_start before.taken after.taken result)
       → (is_over_at_start task picture ≡ true → after.input ≡ before.input)
       → OnOk result (IfSome before.left (λ input. (told_of (setup_of task) picture input_limit input).end ≡ session_end.InputEnd → IsTrue after.closed))
-      → LosesFront before.left after.left (input_limit + 4096)
+      → LosesPrefix before.left after.left (input_limit + 4096)
       → after.held ≡ before.held → after.calls ≡ next_count before.calls → AnsweredBy (shell task) before after (status_in result)
-  obeyed picture result is does read write fault kind long out no_start unread closed moved held calls =
+  executed picture result is does read write fault kind long out no_start unread closed moved held calls =
       let side : OfSession task before after (status_in result) = session_side result fault kind long (λ e. unread (out e)) in
       answers _ (Some (shell task)) result before after
       (due_by_lines (λ outcome. Does outcome before.taken after.taken result) task (before.held task.image) before.left picture is does no_start)
@@ -571,12 +571,12 @@ module _ {I : Type 0} (task : ShellTask) (before after : Outside I) where
       (λ words. absurd (side.words words)) (λ silent. absurd (side.silent silent)) (λ refused. absurd (side.refusal refused))
       (facts_asked (shell task) (status_in result) before after (λ e. absurd (side.bad e)) (λ e. absurd (side.source e))
       (λ e. if_some_all (before.held task.image) _ (λ bytes. if_some_each before.left _ _ (λ lines past. inr past) (side.long e)))
-      (some_session task picture (status_in result) before after is (obeyed_facts picture result out unread closed))
+      (some_session task picture (status_in result) before after is (executed_facts picture result out unread closed))
       picture is moved side.unread (λ all. absurd all))
 
 -- ---- `asm`
 
-module _ {I : Type 0} (task : AssembleTask) (before after : Outside I) where
+module _ {I : Type 0} (task : AssembleTask) (before after : Environment I) where
   saving_ends : (result : Result Status Cut) → IfOk result (λ status. status ≡ statuses.Done)
       → WriteRoseBy before.faults.write after.faults.write task.image result → IsSaving (status_in result) ⊎ (status_in result ≡ statuses.Memory)
   saving_ends (Ok status) done rose = inl (subst IsSaving (sym done) tt)
@@ -642,7 +642,7 @@ module _ {I : Type 0} (task : AssembleTask) (before after : Outside I) where
 -- ---- `dis` and `load`
 
 -- a task that puts on standard output, and leaves the input and what files hold alone
-module _ {I : Type 0} (task : Task) (before after : Outside I) where
+module _ {I : Type 0} (task : Task) (before after : Environment I) where
   abbrev PutsAs : Outcome → Result Status Cut → Type 0
   PutsAs outcome result = Does outcome before.taken after.taken result
 
@@ -673,7 +673,7 @@ done_is : (result : Result Status Cut) → IfOk result (λ status. status ≡ st
 done_is (Ok status) done = subst IsOfRun (sym done) tt
 done_is (Err cut) done = tt
 
-module _ {I : Type 0} (task : DisassembleTask) (before after : Outside I) where
+module _ {I : Type 0} (task : DisassembleTask) (before after : Environment I) where
   -- the image's words are listed
   pub listed : (picture : Picture) (result : Result Status Cut) → IfSome (before.held task.image) (λ bytes. image_read bytes ≡ Ok picture)
       → ((err : Option (List ℕ)) → Does (outcome_of_listing picture) (record { out = before.taken.out; err = err }) (record { out = after.taken.out; err = err }) result)
@@ -688,7 +688,7 @@ module _ {I : Type 0} (task : DisassembleTask) (before after : Outside I) where
       does faults (done_is result done) (load_called (status_in result) before after held (disassemble task) (Ok picture) task.image refl is (λ all. tt) calls)
       (λ all. all) tt err err_faults read write input_faults
 
-module _ {I : Type 0} (task : LoadTask) (before after : Outside I) where
+module _ {I : Type 0} (task : LoadTask) (before after : Environment I) where
   -- the workload ran
   pub worked : (picture : Picture) (result : Result Status Cut) → source_read (source_of_workload task.count) ≡ Ok picture
       → ((err : Option (List ℕ)) → Does (outcome_of_load task picture) (record { out = before.taken.out; err = err }) (record { out = after.taken.out; err = err }) result)
@@ -727,21 +727,21 @@ module _ {I : Type 0} (task : LoadTask) (before after : Outside I) where
 
 -- ---- words
 
-module _ {I : Type 0} (words : List (List ℕ)) (before after : Outside I) where
+module _ {I : Type 0} (words : List (List ℕ)) (before after : Environment I) where
   -- the words ask for that, or for nothing
   pub asked_as : (asked : Option Task) (status : Status) → task_of words ≡ asked
-      → Answers (outcome_of_words asked before.held before.left) asked status before after
-      → Answers (program words before.held before.left) (task_of words) status before after
+      → Headline (outcome_of_words asked before.held before.left) asked status before after
+      → Headline (program words before.held before.left) (task_of words) status before after
   unfolding program
   asked_as asked status is answered =
-      subst (λ (task : Option Task). Answers (outcome_of_words task before.held before.left) task status before after) (sym is) answered
+      subst (λ (task : Option Task). Headline (outcome_of_words task before.held before.left) task status before after) (sym is) answered
 
   -- they are refused
   pub words_refused : (result : Result Status Cut) → task_of words ≡ None
       → Tells refusals.BadWords before.taken.err after.taken.err before.faults.puts.err after.faults.puts.err result
       → after.taken.out ≡ before.taken.out → after.faults.puts.out ≡ before.faults.puts.out → after.faults.read ≡ before.faults.read → after.faults.write ≡ before.faults.write
       → after.faults.input ≡ before.faults.input → after.held ≡ before.held → after.calls ≡ before.calls → after.input ≡ before.input
-      → Answers (program words before.held before.left) (task_of words) (status_in result) before after
+      → Headline (program words before.held before.left) (task_of words) (status_in result) before after
   words_refused result is tells out out_faults read write input_faults held calls input =
       let faults = beside_faults before.faults.puts after.faults.puts out_faults result tells.faults in
       asked_as None (status_in result) is
@@ -754,11 +754,11 @@ module _ {I : Type 0} (words : List (List ℕ)) (before after : Outside I) where
       (λ refused. out) input)
 
 -- memory ran out before they were read
-none_asked : {I : Type 0} (asked : Option Task) (before : Outside I) → TaskFacts asked statuses.Memory before before
+none_asked : {I : Type 0} (asked : Option Task) (before : Environment I) → TaskFacts asked statuses.Memory before before
 none_asked None before = refl
 none_asked (Some task) before = facts_none task before
 
-pub words_unread : {I : Type 0} (due : Option Outcome) (asked : Option Task) (before : Outside I) → Answers due asked statuses.Memory before before
+pub words_unread : {I : Type 0} (due : Option Outcome) (asked : Option Task) (before : Environment I) → Headline due asked statuses.Memory before before
 words_unread due asked before =
     answers due asked (Err cut.Memory) before before
     (if_some_all due _ (λ outcome. does_nothing outcome before.taken cut.Memory)) (unread_called asked before)

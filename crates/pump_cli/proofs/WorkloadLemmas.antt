@@ -1,7 +1,7 @@
 -- How a workload went: its counts and its status, where it makes no turn and where it makes some.
 use Rattle.std.proofs.Common.{◌≡◌, ℕ, ◌+◌, ◌*◌, ◌≤◌, Bool, true, List, [], Option, Result, Ok, Err, IfOk, ◌∷◌, refl, ap, ap₂, subst, sym, ◌∙◌}
 use Rattle.host_io.specs.Causes.{PutCause}
-use Rattle.host_io.specs.Fronts.{TakesAll, TakesFront}
+use Rattle.host_io.specs.Prefixes.{TakesAll, TakesPrefix}
 use Rattle.host_io.specs.Pieces.{Puts, out}
 use Rattle.host_io.specs.TwoSinks.{on_out}
 use Rattle.host_io.specs.declared.traits.sink.PutEnd.{PutEnd}
@@ -51,7 +51,7 @@ module _ (count : ℕ) (counts : Counts) (status : Status) (bytes : List ℕ) (t
   }
 
   -- cut while that was told
-  pub line_cut : (end : PutEnd) (cut : Cut) → (put_err end ≡ Err put_end.Failed → TakesFront before after bytes) → (put_err end ≡ Err put_end.Memory → after ≡ before)
+  pub line_cut : (end : PutEnd) (cut : Cut) → (put_err end ≡ Err put_end.Failed → TakesPrefix before after bytes) → (put_err end ≡ Err put_end.Memory → after ≡ before)
       → (err : Option (List ℕ)) → Does (outcome_of_counts count counts status) (sinks before err) (sinks after err) (Err cut)
   line_cut end cut failed memory err = record { puts = line_as (Err end) err (put_on_out before after err bytes (Err end) tt failed memory); ends = tt }
 
@@ -67,7 +67,7 @@ line_faults before after end cut is cause err =
 
 -- ---- the turns
 
--- a start that needs too many tag words makes no turn
+-- a start that needs too many tag numbers makes no turn
 pub over_work : {S T : Type 0} (e : Standing S T) (eq : T → T → Bool) (m : PolicyModel T S) (count limit : ℕ) → counts_of e.account ≡ no_counts
     → is_over e.account ≡ true → outcome_of_work count (rounds eq m limit 0 (standing_at_start e) (tape_of [])) ≡ outcome_of_counts count no_counts TagsOut
 over_work {S = S} {T = T} e eq m count limit none over =

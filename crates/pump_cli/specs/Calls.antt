@@ -3,7 +3,7 @@ use Rattle.std.specs.Prelude.{◌≡◌, ℕ, ◌⊎◌, Bool, List, [], ◌∷�
 use Rattle.std.specs.Bool.{then_some}
 use Rattle.std.specs.Str.{bytes_eq}
 use Rattle.shared_terms.specs.Counts.{next_count}
-use Rattle.host_io.specs.Outside.{Faults, InputFault, NoFault, Outside, PutFault, ReadFault, WriteFault}
+use Rattle.host_io.specs.Environment.{Faults, InputFault, NoFault, Environment, PutFault, ReadFault, WriteFault}
 use Rattle.image_format.specs.Picture.{Picture}
 use Rattle.image_format.specs.Spelling.{spelling}
 use Rattle.pump_line.specs.Task.{Task, assemble, disassemble, load, run, shell}
@@ -42,7 +42,7 @@ IsReadAs (Some task) held read = IfSome (content_of task held) (λ bytes. read �
 
 -- ---- which of them were made
 
--- the status of a call that makes all its calls on files: none of them failed, and there was no want of memory
+-- the status of a call that makes all its calls on files: none of them failed, and memory did not run out
 abbrev pub MakesAll : Status → Type 0
 MakesAll ReadFailed = ⊥
 MakesAll WriteFailed = ⊥
@@ -69,9 +69,9 @@ abbrev pub counted_by : List FileCall → ℕ → ℕ
 counted_by [] count = count
 counted_by (call ∷ calls) count = counted_by calls (next_count count)
 
--- A front of the task's calls was made, and counted. Each call that was made was carried out, but perhaps the last one: it failed, or
+-- A prefix of the task's calls was made, and counted. Each call that was made was carried out, but perhaps the last one: it failed, or
 -- memory ran out in it.
-pub record CallsMade {I : Type 0} (task : Option Task) (status : Status) (before after : Outside I) : Type 0 where
+pub record CallsMade {I : Type 0} (task : Option Task) (status : Status) (before after : Environment I) : Type 0 where
   -- what the content is read as
   pub read : Result Picture Refusal
   pub is_read : IsReadAs task before.held read
@@ -125,6 +125,6 @@ IsFailedSave _ _ name = ⊥
 
 -- Each name holds what the calls that were carried out left there: the saved bytes, or what it held before. Nothing is said of the
 -- name whose save failed.
-abbrev pub HeldAfter : {I : Type 0} → List FileCall → Option FileCall → Status → Outside I → Outside I → Type 0
+abbrev pub HeldAfter : {I : Type 0} → List FileCall → Option FileCall → Status → Environment I → Environment I → Type 0
 HeldAfter done broken status before after =
     (name : List ℕ) → (IsFailedSave status broken name → ⊥) → after.held name ≡ held_after before.tells done before.held name

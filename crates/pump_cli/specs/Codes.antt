@@ -73,7 +73,7 @@ IsOfRefusal task BadSource = Unit {0}
 IsOfRefusal task TooLong = ReadsFirst task
 IsOfRefusal task _ = ⊥
 
--- the status of a call that nothing cut short: neither a fault of the outside nor want of memory
+-- the status of a call that nothing cut short: neither a fault of the environment nor running out of memory
 abbrev pub IsFinal : Status → Type 0
 IsFinal ReadFailed = ⊥
 IsFinal WriteFailed = ⊥

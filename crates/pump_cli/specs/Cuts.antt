@@ -18,7 +18,7 @@ abbrev pub cut_of_save : SaveFile → Cut
 cut_of_save save_file.Failed = cut.WriteFailed
 cut_of_save save_file.Memory = cut.Memory
 
--- an engine cuts its rounds short for want of memory alone
+-- an engine cuts its rounds short only since memory ran out
 abbrev pub cut_of_rounds : RoundsEnd → Cut
 cut_of_rounds (rounds_end.Put end) = cut_of_put end
 cut_of_rounds rounds_end.Engine = cut.Memory

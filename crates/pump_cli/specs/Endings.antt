@@ -27,13 +27,13 @@ is_of Ready None = true
 is_of NonzeroExit (Some (stop.Exit code)) = not (code == 0)
 is_of _ _ = false
 
--- some hart's stop, or want of one, is of the kind
+-- some hart's stop, or that it has none, is of the kind
 abbrev pub has_any : Kind → List (Option Stop) → Bool
 has_any kind stops = list_any (is_of kind) stops
 
--- the engine ran out of tag words
+-- the engine ran out of tag numbers
 abbrev pub is_out : Option Halt → Bool
-is_out (Some halt.TagWords) = true
+is_out (Some halt.TagNumbers) = true
 is_out (Some halt.Memory) = false
 is_out None = false
 
@@ -46,11 +46,11 @@ status_of_stops stops =
     if has_any NonzeroExit stops then ExitedNonzero else
     Done
 
--- want of tag words goes before the stops
+-- running out of tag numbers goes before the stops
 abbrev pub status_of : Option Halt → List (Option Stop) → Status
 status_of why stops = if is_out why then TagsOut else status_of_stops stops
 
--- the last line: the engine is out of tag words, or else the turns ran out with a hart ready
+-- the last line: the engine is out of tag numbers, or else the turns ran out with a hart ready
 unfoldable pub last_pieces : Option Halt → List (Option Stop) → List Piece
 last_pieces why stops =
     if is_out why then err (line (codes "tags out")) ∷ [] else

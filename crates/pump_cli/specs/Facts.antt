@@ -1,8 +1,8 @@
--- What a call did to the outside, by its status.
+-- What a call did to the environment, by its status.
 use Rattle.std.specs.Prelude.{◌≡◌, ℕ, zero, suc, ◌+◌, ◌-◌, ◌^◌, ◌<◌, ◌⊎◌, true, List, length, Option, Some, None, Result, Ok, Err, IfOk, IfSome, IsErr, IsTrue}
 use Rattle.shared_terms.specs.Counts.{next_count}
-use Rattle.host_io.specs.Fronts.{LosesFront}
-use Rattle.host_io.specs.Outside.{Faults, Outside}
+use Rattle.host_io.specs.Prefixes.{LosesPrefix}
+use Rattle.host_io.specs.Environment.{Faults, Environment}
 use Rattle.host_io.specs.Pieces.{Puts, PutsAll, Taken}
 use Rattle.host_io.specs.TwoSinks.{OneRose, PutFaults}
 use Rattle.image_format.specs.Picture.{Picture}
@@ -33,7 +33,7 @@ pub record Stayed (before now : ℕ) : Type 0 where
   pub below : before < 2 ^ 64 - 1
   pub same : now ≡ before
 
--- every count of the outside could rise, and none did
+-- every count of the environment could rise, and none did
 pub record AllStayed (before now : Faults) : Type 0 where
   pub read : (name : List ℕ) → Stayed (before.read name) (now.read name)
   pub write : (name : List ℕ) → Stayed (before.write name) (now.write name)
@@ -65,28 +65,28 @@ IsTooLong (disassemble task) bytes left = IsLongFile bytes
 IsTooLong (load task) bytes left = IsLongFile bytes
 
 -- what a session did, by what the definition says of its start and of its end
-pub record Obeyed {I : Type 0} (task : ShellTask) (picture : Picture) (status : Status) (before after : Outside I) : Type 0 where
-  -- status 7 comes of a start that is out of tag words, which leaves the input alone, however that is told
+pub record Executed {I : Type 0} (task : ShellTask) (picture : Picture) (status : Status) (before after : Environment I) : Type 0 where
+  -- status 7 comes of a start that is out of tag numbers, which leaves the input alone, however that is told
   pub tags_out : status ≡ TagsOut → is_over_at_start task picture ≡ true
   pub unread : is_over_at_start task picture ≡ true → after.input ≡ before.input
   -- one that ended with its input, and not with `quit`, has read it to its end
   pub whole : status ≡ Done → IfSome before.left (λ input. (told_of (setup_of task) picture input_limit input).end ≡ InputEnd → IsTrue after.closed)
 
 -- where the image is refused there is no session
-abbrev pub ObeyedIn : {I : Type 0} → ShellTask → Result Picture Refusal → Status → Outside I → Outside I → Type 0
-ObeyedIn task (Ok picture) status before after = Obeyed task picture status before after
-ObeyedIn task (Err refusal) status before after = Unit {0}
+abbrev pub ExecutedIn : {I : Type 0} → ShellTask → Result Picture Refusal → Status → Environment I → Environment I → Type 0
+ExecutedIn task (Ok picture) status before after = Executed task picture status before after
+ExecutedIn task (Err refusal) status before after = Unit {0}
 
 -- nothing is said of it where the content of the image's file is not told, and nothing of the other tasks
-abbrev pub SessionFacts : {I : Type 0} → Task → Status → Outside I → Outside I → Type 0
+abbrev pub SessionFacts : {I : Type 0} → Task → Status → Environment I → Environment I → Type 0
 SessionFacts (run task) status before after = Unit {0}
-SessionFacts (shell task) status before after = IfSome (before.held task.image) (λ bytes. ObeyedIn task (image_read bytes) status before after)
+SessionFacts (shell task) status before after = IfSome (before.held task.image) (λ bytes. ExecutedIn task (image_read bytes) status before after)
 SessionFacts (assemble task) status before after = Unit {0}
 SessionFacts (disassemble task) status before after = Unit {0}
 SessionFacts (load task) status before after = Unit {0}
 
 -- Why something is refused, and what is done to the input, which is read only once the file is taken.
-pub record FileFacts {I : Type 0} (task : Task) (status : Status) (before after : Outside I) : Type 0 where
+pub record FileFacts {I : Type 0} (task : Task) (status : Status) (before after : Environment I) : Type 0 where
   -- the causes of a refusal
   pub bad_image : status ≡ BadImage → IfSome (content_of task before.held) (λ bytes. IsErr (image_of bytes))
   pub bad_source : status ≡ BadSource → IfSome (content_of task before.held) (λ bytes. IsErr (image_of_source bytes))
@@ -97,10 +97,10 @@ pub record FileFacts {I : Type 0} (task : Task) (status : Status) (before after 
   pub unasked : IfSome (content_of task before.held) (λ bytes. IsErr (content_read task bytes) → after.input ≡ before.input)
   pub whole : ReadsAll task status → IsTrue after.closed
   pub session : SessionFacts task status before after
-  pub moved : LosesFront before.left after.left (input_limit + 4096)
+  pub moved : LosesPrefix before.left after.left (input_limit + 4096)
 
 -- why the task is refused, and what is done to the input, which bad words leave alone
-abbrev pub TaskFacts : {I : Type 0} → Option Task → Status → Outside I → Outside I → Type 0
+abbrev pub TaskFacts : {I : Type 0} → Option Task → Status → Environment I → Environment I → Type 0
 TaskFacts None status before after = after.input ≡ before.input
 TaskFacts (Some task) status before after = FileFacts task status before after
 
@@ -111,7 +111,7 @@ abbrev pub status_in : Result Status Cut → Status
 status_in (Ok status) = status
 status_in (Err cut) = status_of_cut cut
 
--- the pieces of the outcome were put, or, where the call was cut short, a front of them; the status is the outcome's
+-- the pieces of the outcome were put, or, where the call was cut short, a prefix of them; the status is the outcome's
 pub record Does (outcome : Outcome) (before after : Taken) (result : Result Status Cut) : Type 0 where
   pub puts : Puts before after outcome.pieces result
   pub ends : IfOk result (λ status. status ≡ outcome.status)

@@ -14,7 +14,7 @@ use Rattle.policy_choice.specs.declared.choice.Choice.{Choice}
 use Rattle.rounds.specs.Course.{Course, hart_stops, rounds}
 use Rattle.pump_loader.specs.PlainLoads.{start_of}
 use Rattle.pump_loader.specs.Loads.{cached_start_of}
-use Rattle.pump_shell.specs.Told.{Told, out_at_start as none_obeyed, start_of_setup, told_of}
+use Rattle.pump_shell.specs.Told.{Told, out_at_start as none_executed, start_of_setup, told_of}
 use Rattle.pump_shell.specs.declared.ends.SessionEnd.{SessionEnd}
 use Rattle.pump_shell.specs.declared.ends.SessionEnd.TheVariants as session_end
 use Rattle.pump_shell.specs.declared.setup.Setup.{Setup}
@@ -41,9 +41,9 @@ basis_of choice = record { choice = choice }
 
 -- ---- `run`
 
--- an account that is over its limit at the start is out of tag words from the start
+-- an account that is over its limit at the start is out of tag numbers from the start
 abbrev pub started_account : {T : Type 0} → Account T → Account T
-started_account account = if is_over account then record account { halt = Some halt.TagWords } else account
+started_account account = if is_over account then record account { halt = Some halt.TagNumbers } else account
 
 -- an engine whose start needs more words than there may be is out of them from the start
 abbrev pub standing_at_start : {S T : Type 0} → Standing S T → Standing S T
@@ -93,17 +93,17 @@ outcome_of_end session_end.TagsOut = out_at_start
 abbrev pub outcome_of_told : Told → Outcome
 outcome_of_told told = record { pieces = told.pieces ++ (outcome_of_end told.end).pieces; status = (outcome_of_end told.end).status }
 
--- a session that obeys the lines of these bytes
+-- a session that executes the lines of these bytes
 unfoldable pub outcome_of_lines : ShellTask → Picture → List ℕ → Outcome
 outcome_of_lines task picture input = outcome_of_told (told_of (setup_of task) picture input_limit input)
 
--- the start of a session needs more tag words than there may be
+-- the start of a session needs more tag numbers than there may be
 abbrev pub is_over_at_start : ShellTask → Picture → Bool
 is_over_at_start task picture = is_over (start_of_setup (setup_of task) picture).account
 
 -- such a start ends the session whatever the input is
 abbrev pub outcome_of_no_start : Outcome
-outcome_of_no_start = outcome_of_told none_obeyed
+outcome_of_no_start = outcome_of_told none_executed
 
 -- else an input whose bytes are not told leaves the outcome unsaid too
 abbrev pub outcome_of_session : ShellTask → Picture → Option (List ℕ) → Option Outcome

@@ -35,7 +35,7 @@ IsSafeRun made = IsSafe made.basis made.image made.events
 abbrev pub run_of_fed : RunTask → Picture → List ℕ → Run
 run_of_fed task picture fed = record { basis = basis_of task.choice; image = picture; events = (course_of_run task picture fed).events }
 
--- the lines of an input that a session obeys, up to `quit`
+-- the lines of an input that a session executes, up to `quit`
 abbrev pub lines_of : List ℕ → List Answer
 lines_of input = lines_within input_limit input
 
@@ -50,8 +50,8 @@ run_after_lines task picture lines =
 
 -- ---- what holds of each of them, where what they rest on is told
 
--- what is to hold of a run on the bytes that it is fed, and of a session that obeys an input
-module _ (Ran : RunTask → Picture → List ℕ → Type 0) (Obeyed : ShellTask → Picture → List ℕ → Type 0) where
+-- what is to hold of a run on the bytes that it is fed, and of a session that executes an input
+module _ (Ran : RunTask → Picture → List ℕ → Type 0) (Executed : ShellTask → Picture → List ℕ → Type 0) where
   -- of the run on these bytes; where the input is refused there is none
   abbrev pub AfterFed : RunTask → Picture → Result (List ℕ) Refusal → Type 0
   AfterFed task picture (Ok fed) = Ran task picture fed
@@ -65,7 +65,7 @@ module _ (Ran : RunTask → Picture → List ℕ → Type 0) (Obeyed : ShellTask
   -- of the session over this input, with the same
   abbrev pub AfterLines : ShellTask → Picture → Option (List ℕ) → Type 0
   AfterLines task picture None = Unit {0}
-  AfterLines task picture (Some input) = Obeyed task picture input
+  AfterLines task picture (Some input) = Executed task picture input
 
   -- a case for each subcommand; `asm` and `dis` make no run
   abbrev pub AfterPicture : Task → Picture → Option (List ℕ) → Type 0
@@ -94,9 +94,9 @@ module _ (Holds : Run → Type 0) where
   abbrev pub HoldsOfRun : RunTask → Picture → List ℕ → Type 0
   HoldsOfRun task picture fed = Holds (run_of_fed task picture fed)
 
-  -- after each front of the lines
+  -- after each prefix of the lines
   abbrev pub HoldsOfLines : ShellTask → Picture → List ℕ → Type 0
-  HoldsOfLines task picture input = (front rest : List Answer) → front ++ rest ≡ lines_of input → Holds (run_after_lines task picture front)
+  HoldsOfLines task picture input = (prefix rest : List Answer) → prefix ++ rest ≡ lines_of input → Holds (run_after_lines task picture prefix)
 
 -- Of each run that the words ask for: of `run` and `load` the one, of `shell` those that a session has made after each of its
 -- lines, each since the start or the last reset. The files' content by name, and the bytes of the input, are known where they are
@@ -111,7 +111,7 @@ pub record IsSpent (task : RunTask) (picture : Picture) (fed : List ℕ) : Type 
   pub turns : length (course_of_run task picture fed).order ≡ task.turns
   pub ready : has_any Ready (hart_stops (course_of_run task picture fed).standing.machine.core) ≡ true
 
--- the engine ran out of tag words, in a turn or at the start
+-- the engine ran out of tag numbers, in a turn or at the start
 abbrev pub IsOut : RunTask → Picture → List ℕ → Type 0
 IsOut task picture fed = is_out (course_of_run task picture fed).standing.account.halt ≡ true
 

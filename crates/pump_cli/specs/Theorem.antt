@@ -1,7 +1,7 @@
--- What `pump` promises: a record of named facts over the outside before and after the call.
+-- What `pump` guarantees: a record of named facts over the environment before and after the call.
 use Rattle.std.specs.Prelude.{◌≡◌, ◌≢◌, Option, None, IfSome}
-use Rattle.host_io.specs.Outside.{Outside}
-use Rattle.host_io.specs.Pieces.{PutsFront}
+use Rattle.host_io.specs.Environment.{Environment}
+use Rattle.host_io.specs.Pieces.{PutsPrefix}
 use Rattle.pump_line.specs.Task.{Task}
 use Rattle.pump_cli.specs.Calls.{CallsMade, FaultBy, HeldAfter}
 use Rattle.pump_cli.specs.Codes.{IsFinal, IsOfRefusal, IsSilent}
@@ -12,14 +12,14 @@ use Rattle.pump_cli.specs.declared.status.Status.TheVariants.{BadWords, Memory}
 
 -- `due` is what the definition of the program says, where the content that it rests on is told; `task` is what the words ask
 -- for.
-pub record Answers {I : Type 0} (due : Option Outcome) (task : Option Task) (status : Status) (before after : Outside I) : Type 0 where
-  -- No fault and no want of memory: all the pieces that are due, in their order, and the status that is.
+pub record Headline {I : Type 0} (due : Option Outcome) (task : Option Task) (status : Status) (before after : Environment I) : Type 0 where
+  -- No fault, and memory did not run out: all the pieces that are due, in their order, and the status that is.
   pub exact : IsFinal status → IfSome due (λ outcome. Finishes outcome before.taken after.taken status)
-  -- In any case a front of these pieces: the first ones as a whole, of the next one at most a front, and nothing more.
-  pub front : IfSome due (λ outcome. PutsFront before.taken after.taken outcome.pieces)
-  -- Where no count of faults rose, nothing but want of memory stands in the way of that.
+  -- In any case a prefix of these pieces: the first ones as a whole, of the next one at most a prefix, and nothing more.
+  pub prefix : IfSome due (λ outcome. PutsPrefix before.taken after.taken outcome.pieces)
+  -- Where no count of faults rose, nothing but running out of memory stands in the way of that.
   pub complete : AllStayed before.faults after.faults → status ≢ Memory → IsFinal status
-  -- Of the calls on files that the task makes a front was made, and no other call.
+  -- Of the calls on files that the task makes a prefix was made, and no other call.
   pub calls : CallsMade task status before after
   -- Where a count rose the status is that count's: no fault is passed over, and none is made up.
   pub faults : FaultBy calls.broken status before.faults after.faults

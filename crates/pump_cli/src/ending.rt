@@ -54,14 +54,14 @@ fn has_any(kind: Kind, stops: &[Option<Stop>]) -> bool
     false
 }
 
-/// Whether the engine ran out of tag words.
+/// Whether the engine ran out of tag numbers.
 fn is_out(halt: Option<Halt>) -> bool
     ensures { result ≡ is_out halt }
 {
-    matches!(halt, Some(Halt::TagWords))
+    matches!(halt, Some(Halt::TagNumbers))
 }
 
-/// The status of a run that ended with these stops, of an engine that has tag words left.
+/// The status of a run that ended with these stops, of an engine that has tag numbers left.
 #[tactic(auto, unfolding(crate::specs::Endings::status_of_stops))]
 fn status_of_stops(stops: &[Option<Stop>]) -> Status
     ensures value { result ≡ status_of_stops stops.now }
@@ -92,7 +92,7 @@ pub(crate) fn status_of(halt: Option<Halt>, stops: &[Option<Stop>]) -> Status
     }
 }
 
-/// Tells that the engine ran out of tag words, or else that the turns ran out with a hart ready.
+/// Tells that the engine ran out of tag numbers, or else that the turns ran out with a hart ready.
 #[tactic(auto, unfolding(crate::specs::Endings::last_pieces))]
 fn tell_last<L: Sink>(halt: Option<Halt>, stops: &[Option<Stop>], err: &mut L) -> Result<(), PutEnd>
     ensures told { (out : Option (List ℕ)) → Puts
@@ -110,7 +110,7 @@ fn tell_last<L: Sink>(halt: Option<Halt>, stops: &[Option<Stop>], err: &mut L) -
     Ok(())
 }
 
-/// Tells that an engine is out of tag words at its start, which ends its run.
+/// Tells that an engine is out of tag numbers at its start, which ends its run.
 pub(crate) fn end_at_start<L: Sink>(err: &mut L) -> Result<Status, Cut>
     ensures does { (out : Option (List ℕ)) → Does out_at_start
         (record { out = out; err = L.taken err.old })
@@ -120,7 +120,7 @@ pub(crate) fn end_at_start<L: Sink>(err: &mut L) -> Result<Status, Cut>
         (record { out = out; err = L.faults err.new }) result }
     ensures kind { IfOk result IsOfRun }
 {
-    tell_last(Some(Halt::TagWords), &[], err)?;
+    tell_last(Some(Halt::TagNumbers), &[], err)?;
     Ok(Status::TagsOut)
 }
 

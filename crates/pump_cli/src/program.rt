@@ -9,12 +9,12 @@ ghost use Rattle.pump_line.specs.Task.{AllowsTags, LoadTask, disassemble, load, 
 ghost use Rattle.pump_line.specs.Told.{run_value, shell_value, texts_of, task_value};
 ghost use Rattle.pump_cli.specs.Facts.{status_in};
 ghost use Rattle.pump_cli.specs.ListedBack.{ListsBack};
-ghost use Rattle.pump_cli.specs.Outsides.{outside};
+ghost use Rattle.pump_cli.specs.Environments.{environment};
 ghost use Rattle.pump_cli.specs.Program.{outcome_of_content, outcome_of_load, outcome_of_task, program};
 ghost use Rattle.pump_cli.specs.Reading.{image_read};
 ghost use Rattle.pump_cli.specs.Runs.{EachRun, IsOut, IsSafeRun, IsSpent, TheRun};
 ghost use Rattle.pump_cli.specs.Sessions.{TellsRuns, TheSession};
-ghost use Rattle.pump_cli.specs.Theorem.{Answers};
+ghost use Rattle.pump_cli.specs.Theorem.{Headline};
 
 use crate::cut::Cut;
 use crate::listing::list_words;
@@ -39,13 +39,13 @@ fn run_task<F: Files, S: Source, K: Sink, L: Sink>(
     err: &mut L,
 ) -> Result<Status, Cut>
     requires { 1 ≤ task.tags }
-    ensures { Answers
+    ensures { Headline
         (outcome_of_content (run (run_value task.entry)) (F.held files.old task.entry.image.now)
         (S.left input.old))
         (Some (run (run_value task.entry))) (status_in result)
-        (outside F.tells F.held F.read_faults F.write_faults F.calls S.left S.closed S.faults
+        (environment F.tells F.held F.read_faults F.write_faults F.calls S.left S.closed S.faults
         K.taken K.faults L.taken L.faults files.old input.old out.old err.old)
-        (outside F.tells F.held F.read_faults F.write_faults F.calls S.left S.closed S.faults
+        (environment F.tells F.held F.read_faults F.write_faults F.calls S.left S.closed S.faults
         K.taken K.faults L.taken L.faults files.new input.new out.new err.new) }
 {
     let image = match load_image(alloc, files, task.image) {
@@ -59,7 +59,7 @@ fn run_task<F: Files, S: Source, K: Sink, L: Sink>(
     run_image(alloc, task, &image, fed, out, err)
 }
 
-/// Loads the image, and obeys the input's lines over it.
+/// Loads the image, and executes the input's lines over it.
 fn shell_task<F: Files, S: Source, K: Sink, L: Sink>(
     alloc: Global,
     task: ShellTask<'_>,
@@ -69,13 +69,13 @@ fn shell_task<F: Files, S: Source, K: Sink, L: Sink>(
     err: &mut L,
 ) -> Result<Status, Cut>
     requires { 1 ≤ task.tags }
-    ensures { Answers
+    ensures { Headline
         (outcome_of_content (shell (shell_value task.entry)) (F.held files.old task.entry.image.now)
         (S.left input.old))
         (Some (shell (shell_value task.entry))) (status_in result)
-        (outside F.tells F.held F.read_faults F.write_faults F.calls S.left S.closed S.faults
+        (environment F.tells F.held F.read_faults F.write_faults F.calls S.left S.closed S.faults
         K.taken K.faults L.taken L.faults files.old input.old out.old err.old)
-        (outside F.tells F.held F.read_faults F.write_faults F.calls S.left S.closed S.faults
+        (environment F.tells F.held F.read_faults F.write_faults F.calls S.left S.closed S.faults
         K.taken K.faults L.taken L.faults files.new input.new out.new err.new) }
 {
     match load_image(alloc, files, task.image) {
@@ -94,12 +94,12 @@ fn do_task<F: Files, S: Source, K: Sink, L: Sink>(
     err: &mut L,
 ) -> Result<Status, Cut>
     requires { AllowsTags (task_value task) }
-    ensures { Answers
+    ensures { Headline
         (outcome_of_task (task_value task.entry) (F.held files.old) (S.left input.old))
         (Some (task_value task.entry)) (status_in result)
-        (outside F.tells F.held F.read_faults F.write_faults F.calls S.left S.closed S.faults
+        (environment F.tells F.held F.read_faults F.write_faults F.calls S.left S.closed S.faults
         K.taken K.faults L.taken L.faults files.old input.old out.old err.old)
-        (outside F.tells F.held F.read_faults F.write_faults F.calls S.left S.closed S.faults
+        (environment F.tells F.held F.read_faults F.write_faults F.calls S.left S.closed S.faults
         K.taken K.faults L.taken L.faults files.new input.new out.new err.new) }
 {
     match task {
@@ -129,12 +129,12 @@ fn run_words<F: Files, S: Source, K: Sink, L: Sink>(
     out: &mut K,
     err: &mut L,
 ) -> Result<Status, Cut>
-    ensures { Answers
+    ensures { Headline
         (program (texts_of words.now.items) (F.held files.old) (S.left input.old))
         (task_of (texts_of words.now.items)) (status_in result)
-        (outside F.tells F.held F.read_faults F.write_faults F.calls S.left S.closed S.faults
+        (environment F.tells F.held F.read_faults F.write_faults F.calls S.left S.closed S.faults
         K.taken K.faults L.taken L.faults files.old input.old out.old err.old)
-        (outside F.tells F.held F.read_faults F.write_faults F.calls S.left S.closed S.faults
+        (environment F.tells F.held F.read_faults F.write_faults F.calls S.left S.closed S.faults
         K.taken K.faults L.taken L.faults files.new input.new out.new err.new) }
 {
     match read_task(alloc, words) {
@@ -149,13 +149,13 @@ fn run_words<F: Files, S: Source, K: Sink, L: Sink>(
 /// first turn, by `shell` line by line; `asm`, `dis` and `load` leave it alone. The one file that is changed is that which `asm`
 /// saves: it holds the one spelling of the image that the source is assembled to, and a source that is refused saves nothing.
 ///
-/// Without fault and want of memory the bytes and the status are those of the machine that asks the chosen policies at
+/// Without a fault or running out of memory the bytes and the status are those of the machine that asks the chosen policies at
 /// every turn of every hart, however many rules are kept: on the whole input, or at the commands of its lines. Where some rules
-/// may be kept, a run ends at the turn that would give words to more tags than may have them. `Answers` (specs/Theorem.antt) has
-/// the whole promise, fact by fact.
+/// may be kept, a run ends at the turn that would give words to more tags than may have them. `Headline` (specs/Theorem.antt) has
+/// the whole guarantee, fact by fact.
 ///
 /// A run whose turns are spent made as many as its limit says, and left a hart that is ready (`spent`); one that ends out of tag
-/// words ran out of them (`tags_out`), as does the start of a session (`Obeyed`, specs/Facts.antt).
+/// numbers ran out of them (`tags_out`), as does the start of a session (`Executed`, specs/Facts.antt).
 ///
 /// `load` makes the source of a workload itself, runs its image under every policy on no input, and tells in one line on standard
 /// output how many turns, hits and misses there were, and its status. What is due of it is that line alone, whatever files and
@@ -180,12 +180,12 @@ pub fn pump<F: Files, S: Source, K: Sink, L: Sink>(
     out: &mut K,
     err: &mut L,
 ) -> Status
-    ensures answers { Answers
+    ensures answers { Headline
         (program (texts_of words.now.items) (F.held files.old) (S.left input.old))
         (task_of (texts_of words.now.items)) result
-        (outside F.tells F.held F.read_faults F.write_faults F.calls S.left S.closed S.faults
+        (environment F.tells F.held F.read_faults F.write_faults F.calls S.left S.closed S.faults
         K.taken K.faults L.taken L.faults files.old input.old out.old err.old)
-        (outside F.tells F.held F.read_faults F.write_faults F.calls S.left S.closed S.faults
+        (environment F.tells F.held F.read_faults F.write_faults F.calls S.left S.closed S.faults
         K.taken K.faults L.taken L.faults files.new input.new out.new err.new) }
     ensures safe { (held : List ℕ → Option (List ℕ)) (left : Option (List ℕ)) → TellBytes held
         → EachRun IsSafeRun (texts_of words.now.items) held left }

@@ -2,7 +2,7 @@
 
 ghost use Rattle.std.specs.Prelude.{◌≡◌, ◌+◌, Ok, Err, IfOk, IfSome, IsTrue, OnOk};
 ghost use Rattle.shared_terms.specs.Counts.{next_count};
-ghost use Rattle.host_io.specs.Fronts.{LosesFront};
+ghost use Rattle.host_io.specs.Prefixes.{LosesPrefix};
 ghost use Rattle.asm_emit.specs.Assembled.{image_of_source};
 ghost use Rattle.image_format.specs.Reading.{image_of};
 ghost use Rattle.pump_cli.specs.Early.{InputRoseBy, IsOfFile, ReadRoseBy};
@@ -147,7 +147,7 @@ pub(crate) fn read_input<S: Source>(alloc: Global, input: &mut S) -> Result<Vec<
     ensures long { (refusal : Refusal) → result ≡ Err (EarlyEnd.Refused refusal)
         → refusal ≡ Refusal.TooLong }
     ensures closed { OnOk result (IsTrue (S.closed input.new)) }
-    ensures moved { LosesFront (S.left input.old) (S.left input.new) (input_limit + 4096) }
+    ensures moved { LosesPrefix (S.left input.old) (S.left input.new) (input_limit + 4096) }
     ensures faults { InputRoseBy (S.faults input.old) (S.faults input.new) result }
 {
     match read_to_end(alloc, input, INPUT_LIMIT) {

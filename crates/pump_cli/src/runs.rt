@@ -21,7 +21,7 @@ use pump_line::RunTask;
 use pump_loader::{BareLoad, PlainLoad, PumpLoad};
 use std::alloc::Global;
 
-/// Runs what a loader starts, on these bytes of input; a start that needs too many tag words makes no turn. It stays a call,
+/// Runs what a loader starts, on these bytes of input; a start that needs too many tag numbers makes no turn. It stays a call,
 /// so that each kind of engine has a loop of its own.
 #[inline(never)]
 fn run_load<D: Loader, K: Sink, L: Sink>(

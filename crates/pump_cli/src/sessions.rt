@@ -1,7 +1,7 @@
 //! A session of the monitor shell, from the image on.
 
 ghost use Rattle.std.specs.Prelude.{◌≡◌, ℕ, List, Option, ◌+◌, ◌≤◌, IfOk, IfSome, IsTrue, Ok, OnOk, true};
-ghost use Rattle.host_io.specs.Fronts.{LosesFront};
+ghost use Rattle.host_io.specs.Prefixes.{LosesPrefix};
 ghost use Rattle.pump_shell.specs.Told.{told_of};
 ghost use Rattle.pump_line.specs.Told.{shell_value};
 ghost use Rattle.pump_cli.specs.Codes.{IsOfSession};
@@ -61,7 +61,7 @@ pub(crate) fn obey_lines<S: Source, K: Sink, L: Sink>(
         (record { out = K.faults out.new; err = L.faults err.new }) result }
     ensures kind { IfOk result IsOfSession }
     ensures long { result ≡ Ok Status.TooLong → IfSome (S.left input.old) IsLongInput }
-    // A start that is out of tag words, whatever the input is.
+    // A start that is out of tag numbers, whatever the input is.
     ensures tags_out { result ≡ Ok Status.TagsOut
         → is_over_at_start (shell_value task.entry) image.now ≡ true }
     ensures no_start { is_over_at_start (shell_value task.entry) image.now ≡ true
@@ -74,7 +74,7 @@ pub(crate) fn obey_lines<S: Source, K: Sink, L: Sink>(
     ensures closed { OnOk result (IfSome (S.left input.old) (λ bytes.
         (told_of (setup_of (shell_value task.entry)) image.now input_limit bytes).end
         ≡ SessionEnd.InputEnd → IsTrue (S.closed input.new))) }
-    ensures moved { LosesFront (S.left input.old) (S.left input.new) (input_limit + 4096) }
+    ensures moved { LosesPrefix (S.left input.old) (S.left input.new) (input_limit + 4096) }
 {
     let setup = Setup {
         basis: basis_of(task.choice),

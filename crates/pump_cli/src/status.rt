@@ -22,7 +22,7 @@ pub enum Status {
     Faulted,
     /// The turns ran out with a hart ready.
     TurnsSpent,
-    /// The engine ran out of tag words.
+    /// The engine ran out of tag numbers.
     TagsOut,
     /// The file of the image or of the source could not be read.
     ReadFailed,

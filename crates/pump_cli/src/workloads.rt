@@ -125,7 +125,7 @@ fn run_unseen<E: Engine>(alloc: Global, limit: u64, engine: &mut E) -> Result<St
     }
 }
 
-/// Runs a workload of so many blocks on what a loader starts, and tells how it went; a start that needs too many tag words
+/// Runs a workload of so many blocks on what a loader starts, and tells how it went; a start that needs too many tag numbers
 /// makes no turn. It stays a call, so that each kind of engine has a loop of its own.
 #[inline(never)]
 fn run_blocks<D: Loader, K: Sink>(

@@ -1,10 +1,14 @@
--- How a turn of words ended: what a failure and an idle turn leave, a service of the policy, and want of memory.
+-- How a turn of words ended: what a failure and an idle turn leave, a service of the policy, and running out of memory.
+use Rattle.std.proofs.Common.{length, map}
 use Rattle.std.proofs.Common.{◌≡◌, ℕ, Bool, true, false, ◌&&◌, ◌||◌, not, Option, Some, None, Result, Ok, Err, IsOk, is_ok, ◌≢◌, refl, sym, ap, ◌∙◌, subst}
 use Rattle.std.proofs.lemmas.Bool.{false≢true}
+use Rattle.std.proofs.lemmas.List.{length-map}
 use Rattle.policy_trait.specs.Model.{PolicyModel}
 use Rattle.shared_terms.specs.Steps.{◌>>=◌}
 use Rattle.policy_trait.specs.declared.rules.Outs.{Outs}
 use Rattle.policy_trait.specs.declared.services.PlanEnd.{PlanEnd}
+use Rattle.tag_memory.specs.Maps.{hart_by}
+use Rattle.tag_memory.specs.Ram.{ram_bytes}
 use Rattle.monitor_calls.specs.Service.{Job}
 use Rattle.turn_steps.specs.Feeds.{Tape}
 use Rattle.turn_steps.specs.Looks.{is_call}
@@ -15,7 +19,7 @@ use Rattle.turn_steps.specs.declared.stop.Stop.{Stop}
 use Rattle.turn_steps.specs.declared.stop.Stop.TheVariants as stop
 use Rattle.engine_trait.specs.Accounts.{is_kept}
 use Rattle.engine_trait.specs.EngineLaws.{is_made}
-use Rattle.engine_trait.specs.Machine.{Machine, is_ready_in}
+use Rattle.engine_trait.specs.Machine.{CoreState, Machine, is_ready_in}
 use Rattle.engine_trait.specs.Standing.{GivesUp, IsFailure, Standing, Stepped, StopsOnly, Unchanged, is_ready, step}
 use Rattle.engine_trait.specs.Turn.{Turned, rule_answer, rule_at, attempt, carried_at, turn_effect, end_of, is_served, turn_job, preparation, settlement, stopped_at, turn_by, turn_of}
 use Rattle.engine_trait.specs.declared.ends.TurnEnd.{TurnEnd}
@@ -25,6 +29,7 @@ use Rattle.engine_trait.proofs.TurnLemmas.{allowed_turn, planned_turn}
 use Rattle.miss_handler.specs.declared.ends.AskEnd.{AskEnd}
 use Rattle.miss_handler.specs.declared.ends.AskEnd.TheVariants as ask_end
 use Rattle.pump_engine.specs.Pump.{PumpState, account_by_words, machine_by_words, standing_by_words}
+use Rattle.pump_engine.specs.Steps.{after_stop}
 use Rattle.pump_engine.specs.Steps.{Allows, EndsService, HasParts, answer_in, finds_rule, key_in, service_in, takes_memory, unanswered_end}
 use Rattle.pump_engine.proofs.CountLemmas.{key_by_words, rule_allows}
 use Rattle.pump_engine.proofs.TurnLemmas.{StepsTo, served_gives_up, served_now, served_turn, unserved_turn}
@@ -92,7 +97,7 @@ module _ {S T : Type 0} (eq : T → T → Bool) (m : PolicyModel T S) (e : Stand
         unfed = sym (ap (λ (s : Stepped S T). s.feed) steps) ∙ ap (λ (s : Stepped S T). s.feed) stays.idle;
       }
 
--- want of memory is told of nothing else
+-- running out of memory is told of nothing else
 pub memory_unanswered : (pc : ℕ) (end : AskEnd) → unanswered_end pc end ≡ ends.Memory → end ≡ ask_end.Memory
 memory_unanswered pc (ask_end.Stopped refusal) is = absurd cc
 memory_unanswered pc ask_end.TagsOut is = absurd cc
@@ -158,3 +163,28 @@ module _ {S T : Type 0} (eq : T → T → Bool) (m : PolicyModel T S) (p : PumpS
       (λ kept. missed (ap (λ key. is_kept eq key (account_by_words m p)) (sym (key_by_words m p h look eq))
       ∙ sym (ap (finds_rule eq m (standing_by_words m p) h) found)
       ∙ kept))
+
+-- ---- what no turn changes
+
+-- an instruction that was carried out ended neither for running out of memory nor idle
+pub ends_made : (d : Done) → (end_of d ≢ ends.Memory) × (end_of d ≢ ends.Idle)
+ends_made (done.Stepped byte) = (λ out. cc, λ idle. cc)
+ends_made done.Broke = (λ out. cc, λ idle. cc)
+ends_made (done.Exited code) = (λ out. cc, λ idle. cc)
+
+module _ {T : Type 0} (new mid old : CoreState T) (same : mid ≡ old) where
+  pub count_stays : {U : Type 0} (f g : T → U) → length new.harts ≡ length mid.harts
+      → length (map (hart_by f) new.harts) ≡ length (map (hart_by g) old.harts)
+  count_stays f g count =
+      length-map new.harts (hart_by f) ∙ count ∙ ap (λ (c : CoreState T). length c.harts) same
+      ∙ sym (length-map old.harts (hart_by g))
+
+  pub bytes_stay : ram_bytes new.ram ≡ ram_bytes mid.ram → ram_bytes new.ram ≡ ram_bytes old.ram
+  bytes_stay bytes = bytes ∙ ap (λ (c : CoreState T). ram_bytes c.ram) same
+
+module _ {S T : Type 0} (p q : PumpState S T) (h : ℕ) (why : Stop) (state : q ≡ after_stop p h why) where
+  pub stopped_count : length q.core.harts ≡ length p.core.harts
+  stopped_count = ap (λ (s : PumpState S T). length s.core.harts) state
+
+  pub stopped_bytes : ram_bytes q.core.ram ≡ ram_bytes p.core.ram
+  stopped_bytes = ap (λ (s : PumpState S T). ram_bytes s.core.ram) state

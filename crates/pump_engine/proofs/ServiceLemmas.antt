@@ -28,7 +28,7 @@ use Rattle.engine_trait.proofs.MapLemmas.{args_on_by, hart_at_by}
 use Rattle.rule_cache.specs.Named.{keys_by}
 use Rattle.tag_intern.specs.Table.{Extends, TableState, cut_to}
 use Rattle.tag_intern.specs.Words.{tag_at}
-use Rattle.tag_intern.proofs.TableLemmas.{front}
+use Rattle.tag_intern.proofs.TableLemmas.{prefix}
 use Rattle.miss_handler.specs.Asked.{AreOutWords}
 use Rattle.miss_handler.specs.Books.{rulebook_of}
 use Rattle.word_service.specs.Written.{IsAnswerBelow, IsWordBelow}
@@ -73,7 +73,7 @@ module _ {S T : Type 0} (eq : T → T → Bool) (m : PolicyModel T S) (p : PumpS
 -- tags that were added are cut off again
 pub cut_back : {T : Type 0} (old new : TableState T) (len : ℕ) → Extends old.tags new.tags → new.limit ≡ old.limit → len ≡ length old.tags → cut_to new len ≡ old
 cut_back old new len extends limit_is len_is = λ j. record {
-  tags = (ap (λ n. take n new.tags) len_is ∙ front old.tags new.tags extends) j;
+  tags = (ap (λ n. take n new.tags) len_is ∙ prefix old.tags new.tags extends) j;
   limit = limit_is j;
 }
 
@@ -204,7 +204,7 @@ module _ {S T : Type 0} (eq : T → T → Bool) (m : PolicyModel T S) (p : PumpS
       ends_by f (after_halt p halt.Memory) ended ends.Memory (λ job is. (refl, first_told job is ∙ ap not fits))
 
   -- and where it can't
-  pub wants_words : (f : PumpState S T) (ended : TurnEnd) → room ≡ false → f ≡ after_halt p halt.TagWords → ended ≡ ends.TagsOut → EndsService eq m p h look outs f ended
+  pub wants_words : (f : PumpState S T) (ended : TurnEnd) → room ≡ false → f ≡ after_halt p halt.TagNumbers → ended ≡ ends.TagsOut → EndsService eq m p h look outs f ended
   wants_words f ended over =
-      ends_by f (after_halt p halt.TagWords) ended ends.TagsOut
+      ends_by f (after_halt p halt.TagNumbers) ended ends.TagsOut
       (λ job is. (refl, first_over eq (written_tags job) (account_by_words m p) (first_told job is ∙ ap not over)))

@@ -192,7 +192,7 @@ module _ {S T : Type 0} (eq : T → T → Bool) (m : PolicyModel T S) (e : Stand
 
   abbrev out_with : Account T → Stepped S T
   out_with account = record {
-    standing = record e { account = record account { halt = Some halt.TagWords } };
+    standing = record e { account = record account { halt = Some halt.TagNumbers } };
     feed = feed;
     ended = ends.TagsOut;
   }

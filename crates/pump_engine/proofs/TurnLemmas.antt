@@ -119,9 +119,9 @@ module _ {S T : Type 0} (eq : T → T → Bool) (m : PolicyModel T S) (p : PumpS
           (look_counted_asked given.machine ∙ sym given.account) given.within
           ∙ counts_on (account_by_words m q) (record { machine = stopped_at (machine_by_words m q) h why; feed = feed; ended = ends.Stopped why }))
 
-      out_turn : Unanswered eq m p h look q ask_end.TagsOut → StepsTo (after_halt q halt.TagWords) feed ends.TagsOut
+      out_turn : Unanswered eq m p h look q ask_end.TagsOut → StepsTo (after_halt q halt.TagNumbers) feed ends.TagsOut
       out_turn given =
-          by_asked given.machine (after_halt q halt.TagWords) feed ends.TagsOut
+          by_asked given.machine (after_halt q halt.TagNumbers) feed ends.TagsOut
           (out_at_rule eq m (asked given.machine) feed h (asked_ready given.machine) (account_by_words m q) (ruled_in eq m p h look)
           (look_counted_asked given.machine ∙ sym given.account) (rule_counted_asked given.machine) (given.over refl))
 
@@ -226,9 +226,9 @@ module _ {S T : Type 0} (eq : T → T → Bool) (m : PolicyModel T S) (p : PumpS
                   ended = ends.Ran None;
                 })
 
-            out_by : is_over (written_in eq m q h look outs job) ≡ true → StepsTo (after_halt q halt.TagWords) feed ends.TagsOut
+            out_by : is_over (written_in eq m q h look outs job) ≡ true → StepsTo (after_halt q halt.TagNumbers) feed ends.TagsOut
             out_by over =
-                by_asked rule.machine (after_halt q halt.TagWords) feed ends.TagsOut
+                by_asked rule.machine (after_halt q halt.TagNumbers) feed ends.TagsOut
                 (out_at_service eq m now feed h (asked_ready rule.machine) (account_by_words m q)
                 (record (written_in eq m q h look outs job) { turns = next_count p.turns }) counted_now rule.within
                 (accounted_ruled eq m now.machine h look prepared_now outs_now (Ok (Some job)) now.account (account_by_words m q) allowed_now planned_now counted_now) over)
@@ -241,7 +241,7 @@ module _ {S T : Type 0} (eq : T → T → Bool) (m : PolicyModel T S) (p : PumpS
             served_turn (ends.Stopped why) never has_memory = absurd never
             served_turn ends.Idle never has_memory = absurd never
             served_turn ends.TagsOut out has_memory =
-                told f (after_halt q halt.TagWords) feed feed ends.TagsOut ends.TagsOut (out_by out.1) out.0 refl refl
+                told f (after_halt q halt.TagNumbers) feed feed ends.TagsOut ends.TagsOut (out_by out.1) out.0 refl refl
             served_turn ends.Memory halted has_memory = absurd (has_memory refl)
 
             -- the turn comes to it

@@ -78,7 +78,7 @@ module _ {S T : Type 0} (eq : T → T → Bool) (m : PolicyModel T S) (p : PumpS
     pub within : is_over (account_by_words m q) ≡ false
     pub words : AreOutWords (length q.table.tags) outs
 
-  -- there are no outputs: the look-up is counted, and nothing else is done. For want of memory it is so only where the rule
+  -- there are no outputs: the look-up is counted, and nothing else is done. Where memory runs out it is so only where the rule
   -- allows and its outputs can have words.
   pub record Unanswered (q : PumpState S T) (end : AskEnd) : Type 0 where
     pub account : account_by_words m q ≡ looked_in
@@ -97,7 +97,7 @@ unanswered_end pc ask_end.Memory = ends.Memory
 
 abbrev pub after_unanswered : {S T : Type 0} → PumpState S T → ℕ → AskEnd → PumpState S T
 after_unanswered p h (ask_end.Stopped refusal) = after_stop p h (violation (hart_at p.core h).pc refusal)
-after_unanswered p h ask_end.TagsOut = after_halt p halt.TagWords
+after_unanswered p h ask_end.TagsOut = after_halt p halt.TagNumbers
 after_unanswered p h ask_end.Memory = after_halt p halt.Memory
 
 -- ---- a service of the policy
@@ -132,7 +132,7 @@ module _ {S T : Type 0} (eq : T → T → Bool) (m : PolicyModel T S) (p : PumpS
   -- how it ended where nothing refuses it
   abbrev pub CarriesOut : Job T → PumpState S T → TurnEnd → Type 0
   CarriesOut job q (ends.Ran None) = Serves job q
-  CarriesOut job q ends.TagsOut = (q ≡ after_halt p halt.TagWords) × (is_over (written_in job) ≡ true)
+  CarriesOut job q ends.TagsOut = (q ≡ after_halt p halt.TagNumbers) × (is_over (written_in job) ≡ true)
   CarriesOut job q ends.Memory = (q ≡ after_halt p halt.Memory) × (is_over (first_in job) ≡ false)
   CarriesOut job q other = ⊥
 

@@ -154,16 +154,16 @@ impl<P: Policy, T: TagTable<Tag = P::Tag>, C: RuleStore> Pump<P, T, C> {
         TurnEnd::Stopped(why)
     }
 
-    /// Stops the engine as a whole for want of tag words.
+    /// Stops the engine as a whole, since tag numbers ran out.
     fn run_out(&mut self) -> TurnEnd
-        ensures state { self.new ≡ after_halt self.old Halt.TagWords }
+        ensures state { self.new ≡ after_halt self.old Halt.TagNumbers }
         ensures end { result ≡ TurnEnd.TagsOut }
     {
-        self.halt = Some(Halt::TagWords);
+        self.halt = Some(Halt::TagNumbers);
         TurnEnd::TagsOut
     }
 
-    /// Stops the engine as a whole for want of memory.
+    /// Stops the engine as a whole, since memory ran out.
     fn give_up(&mut self) -> TurnEnd
         ensures state { self.new ≡ after_halt self.old Halt.Memory }
         ensures end { result ≡ TurnEnd.Memory }
@@ -277,7 +277,7 @@ impl<P: Policy, T: TagTable<Tag = P::Tag>, C: RuleStore> Pump<P, T, C> {
             ≡ Ok (job_by job.plan job.words.items)) }
         ensures err { IfErr result
             (λ end. EndsAs end (service_in P.Tag.eq P.model self.now h look.now outs)) }
-        // Want of memory is told only of a service that nothing refuses and that has words to write.
+        // Running out of memory is told only of a service that nothing refuses and that has words to write.
         ensures memory { result ≡ Err ServeEnd.Memory
             → IsOkAnd (service_in P.Tag.eq P.model self.now h look.now outs)
             (λ job. 1 ≤ length job.words) }
@@ -317,7 +317,7 @@ impl<P: Policy, T: TagTable<Tag = P::Tag>, C: RuleStore> Pump<P, T, C> {
         }
     }
 
-    /// Ends a call of a service that nothing refuses, and whose words found no memory: for want of tag words where the
+    /// Ends a call of a service that nothing refuses, and whose words found no memory: tag numbers ran out where the
     /// first tag that it writes can't have one.
     fn end_without_memory(&mut self, h: u32, look: &Look, outs: OutWords) -> TurnEnd
         requires hart { h < length self.old.core.harts }

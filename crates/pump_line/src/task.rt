@@ -2,10 +2,9 @@
 
 ghost use Rattle.std.specs.Prelude.{◌≡◌, ◌≢◌, Some, None, IfOk, IfErr, option_and_then, option_map};
 ghost use Rattle.clap.specs.Words.{first_of, found_of, kind_of, rows_of, subcommand_rows_of};
-ghost use Rattle.pump_line.specs.Request.{assemble_in, disassemble_in, load_in, request_at, request_by, run_in};
-ghost use Rattle.pump_line.specs.Request.{shell_in};
-ghost use Rattle.pump_line.specs.Task.{AllowsTags, load_task_in, run_task_in, shell_task_in, task_in, task_of};
-ghost use Rattle.pump_line.specs.Told.{assemble_value, disassemble_value, load_value, run_value, shell_value};
+ghost use Rattle.pump_line.specs.Request.{assemble_asked, assemble_in, disassemble_asked, disassemble_in, load_asked};
+ghost use Rattle.pump_line.specs.Request.{load_in, request_at, request_by, run_asked, run_in, shell_asked, shell_in};
+ghost use Rattle.pump_line.specs.Task.{AllowsTags, task_in, task_of};
 ghost use Rattle.pump_line.specs.Told.{task_value, text_value, texts_of};
 
 use crate::command::pump_command;
@@ -113,72 +112,78 @@ fn text_of<'a>(matches: &ArgMatches<'a>, id: &str) -> Option<&'a str>
 
 /// The run that a match of `run` asks for; `None` where a value is bad.
 #[tactic(auto, unfolding(crate::specs::Request::run_in, crate::specs::Task::run_task_in))]
-fn run_task<'a>(matches: &ArgMatches<'a>) -> Option<RunTask<'a>>
-    ensures { option_map run_value result
-        ≡ option_and_then run_task_in (run_in (rows_of (found_of matches.now))) }
+fn run_task<'a>(matches: &ArgMatches<'a>) -> Option<Task<'a>>
+    ensures { option_map task_value result
+        ≡ option_and_then task_in
+        (option_map run_asked (run_in (rows_of (found_of matches.now)))) }
 {
     let image = text_of(matches, "image")?;
     let choice = choice_from(text_of(matches, "policy"))?;
     let cache = read_cache(text_of(matches, "cache"))?;
     let tags = read_tags(text_of(matches, "tags"))?;
     let turns = read_turns(text_of(matches, "turns"))?;
-    Some(RunTask {
+    Some(Task::Run(RunTask {
         image,
         choice,
         cache,
         tags,
         turns,
-    })
+    }))
 }
 
 /// The session of the shell that a match of `shell` asks for; `None` where a value is bad.
 #[tactic(auto, unfolding(crate::specs::Request::shell_in, crate::specs::Task::shell_task_in))]
-fn shell_task<'a>(matches: &ArgMatches<'a>) -> Option<ShellTask<'a>>
-    ensures { option_map shell_value result
-        ≡ option_and_then shell_task_in (shell_in (rows_of (found_of matches.now))) }
+fn shell_task<'a>(matches: &ArgMatches<'a>) -> Option<Task<'a>>
+    ensures { option_map task_value result
+        ≡ option_and_then task_in
+        (option_map shell_asked (shell_in (rows_of (found_of matches.now)))) }
 {
     let image = text_of(matches, "image")?;
     let choice = choice_from(text_of(matches, "policy"))?;
     let cache = read_cache(text_of(matches, "cache"))?;
     let tags = read_tags(text_of(matches, "tags"))?;
-    Some(ShellTask {
+    Some(Task::Shell(ShellTask {
         image,
         choice,
         cache,
         tags,
-    })
+    }))
 }
 
 /// The assembly that a match of `asm` asks for.
 #[tactic(auto, unfolding(crate::specs::Request::assemble_in))]
-fn assemble_task<'a>(matches: &ArgMatches<'a>) -> Option<AssembleTask<'a>>
-    ensures { option_map assemble_value result ≡ assemble_in (rows_of (found_of matches.now)) }
+fn assemble_task<'a>(matches: &ArgMatches<'a>) -> Option<Task<'a>>
+    ensures { option_map task_value result
+        ≡ option_and_then task_in
+        (option_map assemble_asked (assemble_in (rows_of (found_of matches.now)))) }
 {
     let source = text_of(matches, "source")?;
     let image = text_of(matches, "image")?;
-    Some(AssembleTask { source, image })
+    Some(Task::Assemble(AssembleTask { source, image }))
 }
 
 /// The listing that a match of `dis` asks for.
 #[tactic(auto, unfolding(crate::specs::Request::disassemble_in))]
-fn disassemble_task<'a>(matches: &ArgMatches<'a>) -> Option<DisassembleTask<'a>>
-    ensures { option_map disassemble_value result
-        ≡ disassemble_in (rows_of (found_of matches.now)) }
+fn disassemble_task<'a>(matches: &ArgMatches<'a>) -> Option<Task<'a>>
+    ensures { option_map task_value result
+        ≡ option_and_then task_in
+        (option_map disassemble_asked (disassemble_in (rows_of (found_of matches.now)))) }
 {
     let image = text_of(matches, "image")?;
-    Some(DisassembleTask { image })
+    Some(Task::Disassemble(DisassembleTask { image }))
 }
 
 /// The run of a workload that a match of `load` asks for; `None` where a value is bad.
 #[tactic(auto, unfolding(crate::specs::Request::load_in, crate::specs::Task::load_task_in))]
-fn load_task(matches: &ArgMatches) -> Option<LoadTask>
-    ensures { option_map load_value result
-        ≡ option_and_then load_task_in (load_in (rows_of (found_of matches.now))) }
+fn load_task<'a>(matches: &ArgMatches<'a>) -> Option<Task<'a>>
+    ensures { option_map task_value result
+        ≡ option_and_then task_in
+        (option_map load_asked (load_in (rows_of (found_of matches.now)))) }
 {
     let count = read_count(text_of(matches, "count")?)?;
     let cache = read_cache(text_of(matches, "cache"))?;
     let tags = read_tags(text_of(matches, "tags"))?;
-    Some(LoadTask { count, cache, tags })
+    Some(Task::Load(LoadTask { count, cache, tags }))
 }
 
 /// What a match of the subcommand with this name asks for.
@@ -188,11 +193,11 @@ fn task_named<'a>(name: &str, matches: &ArgMatches<'a>) -> Option<Task<'a>>
         ≡ option_and_then task_in (request_by name.now (rows_of (found_of matches.now))) }
 {
     match name {
-        "run" => Some(Task::Run(run_task(matches)?)),
-        "shell" => Some(Task::Shell(shell_task(matches)?)),
-        "asm" => Some(Task::Assemble(assemble_task(matches)?)),
-        "dis" => Some(Task::Disassemble(disassemble_task(matches)?)),
-        "load" => Some(Task::Load(load_task(matches)?)),
+        "run" => run_task(matches),
+        "shell" => shell_task(matches),
+        "asm" => assemble_task(matches),
+        "dis" => disassemble_task(matches),
+        "load" => load_task(matches),
         _ => None,
     }
 }
@@ -225,7 +230,7 @@ fn end_of(error: &Error) -> WordsEnd
 /// 1,048,576 for `--tags` (65,536) and 1 to 1,000,000,000 for `--turns` (1,000,000). COUNT is 1 to 10 decimal digits that write
 /// 1 to 1,000. So some tag may have a word in every task that starts an image. SOURCE and IMAGE are names of files, of any
 /// text: no file is looked at. This is the project's own
-/// command line; `clap` judges its form. Any other words are `Bad`. A line in want of memory may end as `Memory`.
+/// command line; `clap` judges its form. Any other words are `Bad`. A line that runs out of memory may end as `Memory`.
 pub fn read_task<'a>(alloc: Global, words: &'a Vec<String>) -> Result<Task<'a>, WordsEnd>
     ensures task { IfOk result (λ t. task_of (texts_of words.now.items) ≡ Some (task_value t)) }
     ensures tags { IfOk result (λ t. AllowsTags (task_value t)) }

@@ -10,7 +10,7 @@ ghost use Rattle.engine_trait.specs.Mirrored.{IsMirrored};
 ghost use Rattle.pump_loader.specs.PlainLoads.{bare_start_of, start_of};
 
 /// Where no policy is chosen, the start under the policy that is nothing mirrors that under the chosen ones: it is the same
-/// but that its tags have no content. The function does nothing.
+/// but that its tags have no content.
 pub fn bare_law()
     ensures { (basis : Basis) (g : Picture) → is_none basis.choice ≡ true
         → IsMirrored no_tag all nothing (start_of basis g) (bare_start_of g) }

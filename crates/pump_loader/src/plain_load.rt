@@ -43,7 +43,7 @@ impl<'a> PlainLoad<'a> {
     }
 }
 
-/// The engine at the start of the image under the chosen policies. The only error is want of memory.
+/// The engine at the start of the image under the chosen policies. The only error is running out of memory.
 fn start_chosen(alloc: Global, basis: Basis, image: &Image) -> Result<Plain<All>, AllocError>
     ensures { IfOk result (λ engine. engine ≡ start_of basis image.now) }
 {
@@ -63,7 +63,7 @@ impl<'a> Loader for PlainLoad<'a> {
         ensures within { IfOk result (λ engine. is_over (start_of_load self.now).account ≡ false) }
         ensures out { result ≡ Err LoadEnd.TagsOut
             → is_over (start_of_load self.now).account ≡ true }
-        // An engine without tag words does not run out of them.
+        // An engine without tag numbers does not run out of them.
         ensures memory { result ≢ Err LoadEnd.TagsOut }
     {
         match start_chosen(self.alloc, self.basis, self.image) {
@@ -110,7 +110,7 @@ impl<'a> Loader for BareLoad<'a> {
         ensures within { IfOk result (λ engine. is_over (bare_start_of self.now).account ≡ false) }
         ensures out { result ≡ Err LoadEnd.TagsOut
             → is_over (bare_start_of self.now).account ≡ true }
-        // An engine without tag words does not run out of them.
+        // An engine without tag numbers does not run out of them.
         ensures memory { result ≢ Err LoadEnd.TagsOut }
     {
         match start_under(self.alloc, Nothing, self.image) {

@@ -80,7 +80,7 @@ module _ {S T : Type 0} (eq : T → T → Bool) (m : PolicyModel T S) (limit : �
   abbrev told : List ℕ → Told
   told bytes = told_from eq m limit start bytes
 
-  -- a start that needs too many tag words
+  -- a start that needs too many tag numbers
   pub over_end : (left : Option (List ℕ)) → is_over start.account ≡ true → IfSome left (λ bytes. session_end.TagsOut ≡ (told bytes).end)
   over_end None over = tt
   over_end (Some bytes) over = sym (ap (λ (t : Told). t.end) (told_over eq m limit start bytes over))

@@ -29,7 +29,7 @@ SessionCause before now (Err ReadFailed) = (Rose before.input now.input) × (now
 SessionCause before now (Err PutFailed) = (now.input ≡ before.input) × (Rose before.out now.out)
 SessionCause before now (Err Memory) = now ≡ before
 
--- No session was made, for want of tag words at its start, or of memory before that was found: the input was not read, and nothing
+-- No session was made, since tag numbers ran out at its start, or memory before that was found: the input was not read, and nothing
 -- was put.
 pub record NoSession {I : Type 0} (input input_now : I) (old new : Option (List ℕ)) (result : Result SessionEnd SessionCut) : Type 0 where
   pub ends : (result ≡ Ok TagsOut) ⊎ (result ≡ Err Memory)

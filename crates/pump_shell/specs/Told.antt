@@ -20,11 +20,11 @@ pub record Told : Type 0 where
   pub pieces : List Piece
   pub end : SessionEnd
 
--- a start that needs more tag words than there may be: no line is obeyed
+-- a start that needs more tag numbers than there may be: no line is executed
 abbrev pub out_at_start : Told
 out_at_start = record { pieces = []; end = TagsOut }
 
--- the replies and the end of a session whose input was obeyed
+-- the replies and the end of a session whose input was executed
 abbrev pub told_by : {S T : Type 0} → Shell S T → Told
 told_by shell = record { pieces = shell.pieces; end = end_of shell.end }
 

@@ -15,7 +15,7 @@ pub enum SessionEnd {
     InputEnd,
     /// The input gives more bytes than the limit.
     TooLong,
-    /// The start needs more tag words than there may be: nothing was obeyed.
+    /// The start needs more tag numbers than there may be: nothing was executed.
     TagsOut,
 }
 

@@ -1,5 +1,5 @@
 //! A session of the monitor shell over an image and an input: the engine that the setup asks for, at its start, and then the
-//! input's lines, each obeyed as its newline comes.
+//! input's lines, each executed as its newline comes.
 #![tactic(auto)]
 
 mod ends;

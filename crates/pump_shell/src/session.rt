@@ -1,7 +1,7 @@
 //! A session, from its setup, its image and its input.
 
 ghost use Rattle.std.specs.Prelude.{◌≡◌, ◌+◌, ◌<◌, ◌≤◌, IfOk, IfSome, IsTrue, Ok, length, true};
-ghost use Rattle.host_io.specs.Fronts.{LosesFront};
+ghost use Rattle.host_io.specs.Prefixes.{LosesPrefix};
 ghost use Rattle.engine_trait.specs.Accounts.{is_over};
 ghost use Rattle.shell_turns.specs.Cuts.{PutsOut};
 ghost use Rattle.pump_shell.specs.Ends.{NoSession, SessionCause};
@@ -38,7 +38,7 @@ fn run_from<L: Loader, S: Source, K: Sink>(
     ensures over { is_over (L.start loader).account ≡ true
         → NoSession input.old input.new (K.taken out.old) (K.taken out.new) result }
     ensures closed { result ≡ Ok SessionEnd.InputEnd → IsTrue (S.closed input.new) }
-    ensures moved { LosesFront (S.left input.old) (S.left input.new) (limit + 4096) }
+    ensures moved { LosesPrefix (S.left input.old) (S.left input.new) (limit + 4096) }
     ensures cause { SessionCause
         (record { input = S.faults input.old; out = K.faults out.old })
         (record { input = S.faults input.new; out = K.faults out.new }) result }
@@ -75,7 +75,7 @@ fn session_asked<S: Source, K: Sink>(
     ensures over { is_over (start_of_setup setup image.now).account ≡ true
         → NoSession input.old input.new (K.taken out.old) (K.taken out.new) result }
     ensures closed { result ≡ Ok SessionEnd.InputEnd → IsTrue (S.closed input.new) }
-    ensures moved { LosesFront (S.left input.old) (S.left input.new) (limit + 4096) }
+    ensures moved { LosesPrefix (S.left input.old) (S.left input.new) (limit + 4096) }
     ensures cause { SessionCause
         (record { input = S.faults input.old; out = K.faults out.old })
         (record { input = S.faults input.new; out = K.faults out.new }) result }
@@ -106,7 +106,7 @@ fn session_kept<S: Source, K: Sink>(
     ensures over { is_over (start_of_setup setup image.now).account ≡ true
         → NoSession input.old input.new (K.taken out.old) (K.taken out.new) result }
     ensures closed { result ≡ Ok SessionEnd.InputEnd → IsTrue (S.closed input.new) }
-    ensures moved { LosesFront (S.left input.old) (S.left input.new) (limit + 4096) }
+    ensures moved { LosesPrefix (S.left input.old) (S.left input.new) (limit + 4096) }
     ensures cause { SessionCause
         (record { input = S.faults input.old; out = K.faults out.old })
         (record { input = S.faults input.new; out = K.faults out.new }) result }
@@ -115,9 +115,9 @@ fn session_kept<S: Source, K: Sink>(
     run_from(alloc, loader, input, limit, out)
 }
 
-/// Starts the image as the setup says, and obeys the input's lines, each as its newline comes, up to `quit` or to the end of the
-/// input, which ends a last line that was begun. Of an input of more than `limit` bytes those lines are obeyed that end within
-/// them. What is replied is put on `out` line by line. Where the start needs more tag words than there may be, the input is left
+/// Starts the image as the setup says, and executes the input's lines, each as its newline comes, up to `quit` or to the end of the
+/// input, which ends a last line that was begun. Of an input of more than `limit` bytes those lines are executed that end within
+/// them. What is replied is put on `out` line by line. Where the start needs more tag numbers than there may be, the input is left
 /// alone, and nothing is put.
 pub fn run_session<S: Source, K: Sink>(
     alloc: Global,
@@ -137,7 +137,7 @@ pub fn run_session<S: Source, K: Sink>(
     ensures long { result ≡ Ok SessionEnd.TooLong
         → IfSome (S.left input.old) (λ bytes. limit < length bytes) }
 
-    // A start that is out of tag words leaves input and output alone, whatever the input is.
+    // A start that is out of tag numbers leaves input and output alone, whatever the input is.
     ensures out_of_tags { result ≡ Ok SessionEnd.TagsOut
         → is_over (start_of_setup setup image.now).account ≡ true }
     ensures over { is_over (start_of_setup setup image.now).account ≡ true
@@ -145,7 +145,7 @@ pub fn run_session<S: Source, K: Sink>(
 
     // What was moved out of the input stood first, and it is closed where its end was met.
     ensures closed { result ≡ Ok SessionEnd.InputEnd → IsTrue (S.closed input.new) }
-    ensures moved { LosesFront (S.left input.old) (S.left input.new) (limit + 4096) }
+    ensures moved { LosesPrefix (S.left input.old) (S.left input.new) (limit + 4096) }
     ensures cause { SessionCause
         (record { input = S.faults input.old; out = K.faults out.old })
         (record { input = S.faults input.new; out = K.faults out.new }) result }

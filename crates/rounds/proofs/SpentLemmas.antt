@@ -127,7 +127,7 @@ module _ {S T : Type 0} (e : Standing S T) where
 module _ {S T : Type 0} (eq : T → T → Bool) (m : PolicyModel T S) where
   module _ (e : Standing S T) (feed : Tape) (h : ℕ) where
     abbrev Halts : Standing S T → Type 0
-    Halts f = f.account.halt ≡ Some halt.TagWords
+    Halts f = f.account.halt ≡ Some halt.TagNumbers
 
     out_by : (ready over : Bool) → is_ready e h ≡ ready → ready ≡ true → is_made (step_by eq m e feed h ready over).ended ≡ false
         → Halts (step_by eq m e feed h ready over).standing
@@ -135,7 +135,7 @@ module _ {S T : Type 0} (eq : T → T → Bool) (m : PolicyModel T S) where
     out_by true true is ready unmade = refl
     out_by true false is ready unmade = absurd (false≢true (sym unmade ∙ turn_made m e.machine feed h (ready_parts e h is).1))
 
-    -- a ready hart's turn that was not made ran out of tag words
+    -- a ready hart's turn that was not made ran out of tag numbers
     unmade_is_out : is_ready e h ≡ true → is_made (step eq m e feed h).ended ≡ false → Halts (step eq m e feed h).standing
     unfolding step
     unmade_is_out ready unmade = out_by (is_ready e h) (is_over (account_after_turn eq m e.machine h e.account)) refl ready unmade
@@ -171,8 +171,8 @@ module _ {S T : Type 0} (eq : T → T → Bool) (m : PolicyModel T S) where
       let after = step eq m e feed h in
       let out = unmade_is_out e feed h ready is in
       let none : next_turn others.standing 0 ≡ None
-      = ap (λ (course : Course S T). next_turn course.standing 0) (rest ∙ halted_stays n (h + 1) after.standing after.feed halt.TagWords out)
-      ∙ halted_none after.standing halt.TagWords 0 out in
+      = ap (λ (course : Course S T). next_turn course.standing 0) (rest ∙ halted_stays n (h + 1) after.standing after.feed halt.TagNumbers out)
+      ∙ halted_none after.standing halt.TagNumbers 0 out in
       absurd cc
 
   taken_spent : (n from : ℕ) (e : Standing S T) (feed : Tape) (next : Option ℕ) (go : ℕ → Course S T) → next_turn e from ≡ next

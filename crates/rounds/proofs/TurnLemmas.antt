@@ -1,7 +1,7 @@
 -- Rounds, one turn at a time, and what is put of them on the way.
 use Rattle.std.proofs.Common.{◌≡◌, ℕ, zero, suc, ◌+◌, ◌-◌, ◌<◌, Bool, true, false, List, [], ◌∷◌, ◌++◌, Option, Some, None, Result, Err, refl, ap, sym, subst, ◌∙◌, if◌then◌else◌, arith}
 use Rattle.std.proofs.lemmas.List.Concat.{flat_map-cons}
-use Rattle.host_io.specs.Pieces.{Piece, PutsAll, PutsFirst, PutsFront, PutsSoFar, Taken}
+use Rattle.host_io.specs.Pieces.{Piece, PutsAll, PutsFirst, PutsPrefix, PutsSoFar, Taken}
 use Rattle.host_io.proofs.PieceLemmas.{puts_are_cut, puts_are_cut_between, puts_are_whole, puts_begin, puts_go_on}
 use Rattle.policy_trait.specs.Model.{PolicyModel}
 use Rattle.turn_steps.specs.Feeds.{Tape}
@@ -156,7 +156,7 @@ module _ {S T : Type 0} (eq : T → T → Bool) (m : PolicyModel T S) where
         (subst (λ (tape : Tape). IsLeft (rounds eq m (limit - (counter + 1)) (h + 1) (step eq m e feed h).standing tape) all start new) (sym fed_is)
         (on_from puts))
 
-    pub left_is_cut : PutsFront now new (shown_by h (step eq m e feed h).ended) → PutsFront start new (pieces_of all.events)
+    pub left_is_cut : PutsPrefix now new (shown_by h (step eq m e feed h).ended) → PutsPrefix start new (pieces_of all.events)
     left_is_cut cut = puts_are_cut start now new (shown_by h (step eq m e feed h).ended) (pieces_of others.events) (pieces_of all.events) puts_left cut
 
     pub left_is_cut_between : PutsFirst now new (shown_by h (step eq m e feed h).ended) → PutsFirst start new (pieces_of all.events)

@@ -78,7 +78,7 @@ taking (Some h) stay go = go h
 
 module _ {S T : Type 0} (eq : T → T → Bool) (m : PolicyModel T S) where
   -- At most so many turns, round after round from a place on. They end early where no hart is ready, and where the engine
-  -- runs out of tag words: that turn is not counted, and none follows.
+  -- runs out of tag numbers: that turn is not counted, and none follows.
   unfoldable pub rounds : ℕ → ℕ → Standing S T → Tape → Course S T
   rounds zero from e feed = stays e feed
   rounds (suc n) from e feed =

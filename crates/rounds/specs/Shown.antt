@@ -1,4 +1,4 @@
--- What turns show on the outside.
+-- What turns show to the environment.
 use Rattle.std.specs.Prelude.{ℕ, List, [], ◌∷◌, Some, None}
 use Rattle.std.specs.List.{flat_map}
 use Rattle.host_io.specs.Pieces.{Piece, err, out}

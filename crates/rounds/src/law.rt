@@ -1,4 +1,5 @@
-// What holds of rounds.
+//! What holds of rounds.
+
 ghost use Rattle.std.specs.Prelude.{◌≡◌, ℕ, ◌≤◌, Some, length, map};
 ghost use Rattle.turn_steps.specs.Feeds.{Tape};
 ghost use Rattle.engine_trait.specs.Mirrored.{IsMirrored};
@@ -11,8 +12,7 @@ use policy_trait::Policy;
 
 /// The machine, the feed and the events of rounds are those of the run along the list of their
 /// counted turns, of which there are at most so many as were asked for, and as many where a turn
-/// would still come. So what holds of every run of the machine holds of rounds. The function does
-/// nothing.
+/// would still come. So what holds of every run of the machine holds of rounds.
 pub fn rounds_law<P: Policy>()
     ensures run { (limit from : ℕ) (e : Standing P P.Tag) (feed : Tape) →
         trace_of (rounds P.Tag.eq P.model limit from e feed)
@@ -26,7 +26,7 @@ pub fn rounds_law<P: Policy>()
 {}
 
 /// Rounds of an engine without a rule cache and of one that mirrors it, on the same feed, show the
-/// same. The function does nothing.
+/// same.
 pub fn mirror_law<P: Policy, Q: Policy>()
     ensures { (f : P.Tag → Q.Tag) (e : Standing P P.Tag) (d : Standing Q Q.Tag)
         (limit from : ℕ) (feed : Tape) → IsMirrored f P.model Q.model e d

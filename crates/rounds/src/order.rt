@@ -1,4 +1,5 @@
-// Whose turn is next.
+//! Whose turn is next.
+
 ghost use Rattle.std.specs.Prelude.{◌≡◌, ◌+◌, ◌-◌, ◌<◌, false, IfSome, length};
 ghost use Rattle.rounds.specs.Course.{first_ready, is_stop, next_hart, next_turn, order_in, unless_stopped};
 

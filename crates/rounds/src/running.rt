@@ -1,4 +1,5 @@
-// The loop of rounds.
+//! The loop of rounds.
+
 ghost use Rattle.std.specs.Prelude.{◌≡◌, ◌≢◌, ◌<◌, Err, None, Some, IfOk, OnOk, length};
 ghost use Rattle.host_io.specs.Pieces.{Puts, PutsFirst};
 ghost use Rattle.engine_trait.specs.Standing.{step};
@@ -80,7 +81,7 @@ pub fn make_rounds<E: Engine, K: Sink, L: Sink>(
         ≡ (rounds E.P.Tag.eq E.P.model limit 0 (E.standing engine.old) feed.old).standing) }
     ensures feed { OnOk result (feed.new
         ≡ (rounds E.P.Tag.eq E.P.model limit 0 (E.standing engine.old) feed.old).feed) }
-    // What the turns show was put in their order, or after an error a front of it.
+    // What the turns show was put in their order, or after an error a prefix of it.
     ensures puts { Puts (record { out = K.taken out.old; err = L.taken err.old })
         (record { out = K.taken out.new; err = L.taken err.new })
         (pieces_of (rounds E.P.Tag.eq E.P.model limit 0 (E.standing engine.old) feed.old).events)

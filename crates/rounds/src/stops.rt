@@ -1,4 +1,5 @@
-// How harts stand.
+//! How harts stand.
+
 ghost use Rattle.std.specs.Prelude.{◌≡◌};
 ghost use Rattle.rounds.specs.Course.{hart_stops};
 

@@ -1,7 +1,8 @@
-// What a turn shows.
+//! What a turn shows.
+
 ghost use Rattle.std.specs.Prelude.{◌≡◌, ◌≢◌, true, Err, OnErr, OnOk};
 ghost use Rattle.host_io.specs.Causes.{PutCause};
-ghost use Rattle.host_io.specs.Fronts.{TakesAll, TakesFront};
+ghost use Rattle.host_io.specs.Prefixes.{TakesAll, TakesPrefix};
 ghost use Rattle.host_io.specs.Pieces.{Puts, PutsFirst};
 ghost use Rattle.host_io.specs.TwoSinks.{PutsCause};
 ghost use Rattle.engine_trait.specs.EngineLaws.{is_made};
@@ -44,7 +45,7 @@ pub(crate) fn tell<K: Sink, L: Sink>(
 pub fn put_stop<K: Sink>(h: u32, why: Stop, sink: &mut K) -> Result<(), PutEnd>
     ensures ok { OnOk result (TakesAll (K.taken sink.old) (K.taken sink.new) (stop_line h why)) }
     ensures failed { result ≡ Err PutEnd.Failed
-        → TakesFront (K.taken sink.old) (K.taken sink.new) (stop_line h why) }
+        → TakesPrefix (K.taken sink.old) (K.taken sink.new) (stop_line h why) }
     ensures memory { result ≡ Err PutEnd.Memory → K.taken sink.new ≡ K.taken sink.old }
     ensures cause { PutCause (K.faults sink.old) (K.faults sink.new) result }
 {

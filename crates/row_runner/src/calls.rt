@@ -143,9 +143,9 @@ fn left_of(row: &Row, input: &PiecedSource<MemSource>) -> Option<u64>
     }
 }
 
-/// The outside of a call.
+/// The environment of a call.
 #[derive(Drop)]
-struct Outside {
+struct Environment {
     files: MemFiles,
     input: PiecedSource<MemSource>,
     out: MemSink,
@@ -160,11 +160,11 @@ fn input_of(alloc: Global, row: &Row) -> Result<PiecedSource<MemSource>, AllocEr
 }
 
 /// What a row tells, before its call.
-fn outside_of(alloc: Global, row: &Row, files: MemFiles) -> Result<Outside, AllocError> {
+fn environment_of(alloc: Global, row: &Row, files: MemFiles) -> Result<Environment, AllocError> {
     let out = MemSink::new(alloc, row.failing.puts.to_vec(alloc)?);
     let err = MemSink::new(alloc, row.failing.tells.to_vec(alloc)?);
     let input = input_of(alloc, row)?;
-    Ok(Outside {
+    Ok(Environment {
         files,
         input,
         out,
@@ -173,27 +173,32 @@ fn outside_of(alloc: Global, row: &Row, files: MemFiles) -> Result<Outside, Allo
 }
 
 /// Calls the program with these words. The answer is its status.
-fn call(alloc: Global, words: &Vec<String>, outside: &mut Outside) -> u8 {
+fn call(alloc: Global, words: &Vec<String>, environment: &mut Environment) -> u8 {
     let status = pump(
         alloc,
         words,
-        &mut outside.files,
-        &mut outside.input,
-        &mut outside.out,
-        &mut outside.err,
+        &mut environment.files,
+        &mut environment.input,
+        &mut environment.out,
+        &mut environment.err,
     );
     status.code()
 }
 
-/// What a call of a row left outside, with this status.
-fn seen(alloc: Global, row: &Row, status: u8, outside: &mut Outside) -> Result<Outcome, AllocError>
+/// What a call of a row left environment, with this status.
+fn seen(
+    alloc: Global,
+    row: &Row,
+    status: u8,
+    environment: &mut Environment,
+) -> Result<Outcome, AllocError>
     ensures status { IfOk result (λ came. came.status ≡ status) }
     ensures asked { IfOk result (λ came. IsSome came.left ↔ IsSome row.now.due.left) }
 {
-    let left = left_of(row, &outside.input);
-    let out = outside.out.bytes().to_vec(alloc)?;
-    let err = outside.err.bytes().to_vec(alloc)?;
-    let held = all_held(alloc, row, &mut outside.files)?;
+    let left = left_of(row, &environment.input);
+    let out = environment.out.bytes().to_vec(alloc)?;
+    let err = environment.err.bytes().to_vec(alloc)?;
+    let held = all_held(alloc, row, &mut environment.files)?;
     Ok(Outcome {
         out,
         err,
@@ -212,7 +217,7 @@ pub(crate) fn outcome_of(
 ) -> Result<Outcome, AllocError>
     ensures asked { IfOk result (λ came. IsSome came.left ↔ IsSome row.now.due.left) }
 {
-    let mut outside = outside_of(alloc, row, files)?;
-    let status = call(alloc, words, &mut outside);
-    seen(alloc, row, status, &mut outside)
+    let mut environment = environment_of(alloc, row, files)?;
+    let status = call(alloc, words, &mut environment);
+    seen(alloc, row, status, &mut environment)
 }

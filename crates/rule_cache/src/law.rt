@@ -12,7 +12,7 @@ ghost use Rattle.rule_cache.specs.declared.key.Key.{Key as StoreKey};
 
 use pump_words::Same;
 
-/// A store is one after each call: the keys of each set are distinct and no more than its ways. The function does nothing.
+/// A store is one after each call: the keys of each set are distinct and no more than its ways.
 pub fn store_law()
     ensures made { (sets ways : ℕ) → 1 ≤ sets → 1 ≤ ways → IsStore (empty_store sets ways) }
     ensures find { (key : StoreKey) (store : Store) → IsStore store
@@ -22,8 +22,7 @@ pub fn store_law()
     ensures clear { (store : Store) → IsStore store → IsStore (store_without_rules store) }
 {}
 
-/// Beside a store, an account that has its keys by their tags finds as it does and keeps as it does. The function does
-/// nothing.
+/// Beside a store, an account that has its keys by their tags finds as it does and keeps as it does.
 pub fn account_law<T: Same>()
     ensures apart { (tag_of : ℕ → T) (bound : ℕ) (store : Store) (key : StoreKey)
         → TellsBelow tag_of T.eq bound → IsKeyBelow bound key

@@ -19,7 +19,7 @@ pub trait RuleStore: Drop {
     /// Of how many sets, of how many ways each, it can be.
     ghost fits: { ℕ → ℕ → Type 0 };
 
-    /// A store of so many sets of so many ways, with no rule in it and no look-ups counted. Its error is want of memory.
+    /// A store of so many sets of so many ways, with no rule in it and no look-ups counted. Its error is running out of memory.
     fn made(alloc: Global, sets: u32, ways: u32) -> Result<Self, AllocError>
         requires some { 1 ≤ sets }
         requires room { 1 ≤ ways }
@@ -33,7 +33,7 @@ pub trait RuleStore: Drop {
         ensures state { state self.new ≡ looked_for key.now (state self.old) };
 
     /// Keeps a rule as the most recent one of its set, in the place of one with its key. Where the set has more rules then
-    /// than ways, the last one goes. Nothing is counted. Want of memory changes nothing, and never comes where the key is
+    /// than ways, the last one goes. Nothing is counted. Running out of memory changes nothing, and never comes where the key is
     /// there.
     fn keep(&mut self, key: Key, words: OutWords) -> Result<(), AllocError>
         ensures kept { OnOk result (state self.new ≡ store_with key words (state self.old)) }

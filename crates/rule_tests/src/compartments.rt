@@ -1,12 +1,10 @@
-//! Values stated by the rules of compartments: a table of rules, three services at their limits, and the texts.
+//! Values stated by the rules of compartments: a table of rules, and three services at their limits.
 
 use crate::refusals::refused;
 use compartment_policy::{CompartmentTag, Compartments};
 use policy_trait::{
-    Answer, Args, Birth, CompartmentSet, Ins, Outs, Part, Plan, PlanEnd, Policy, Refused, Rest,
-    Why, Words,
+    Answer, Args, CompartmentSet, Ins, Outs, Part, Plan, PlanEnd, Policy, Refused, Rest, Why, Words,
 };
-use pump_words::Line;
 use rv_decode::Group;
 use std::test::Fail;
 
@@ -15,50 +13,49 @@ const PLAIN: CompartmentTag = CompartmentTag::Plain;
 /// The bytes of memory in each test.
 const RAM: u32 = 64;
 
-#[test]
-fn rules_of_entering(rt: HostRuntime) {
-    // pc: owner, jumped; word: owner, into; group; the new pc's `jumped`, where it is allowed
-    let rows = [
-        (2, false, 2, 0, Group::AddImm, Some(false)),
-        (2, true, 2, 0, Group::Jal, Some(true)),
-        (2, false, 2, 0, Group::Jalr, Some(true)),
-        (2, false, 2, 0, Group::Branch, Some(false)),
-        // another's word, by a jump and let in
-        (2, true, 5, 0b100, Group::Call, Some(false)),
-        (2, true, 5, 0b100, Group::Jalr, Some(true)),
-        (31, true, 5, 0x8000_0000, Group::Fence, Some(false)),
-        // let in without a jump, a jump without leave, the leave of others, and a number that no set has
-        (2, false, 5, 0b100, Group::Call, None),
-        (2, true, 5, 0, Group::Call, None),
-        (2, true, 5, 0xFFFF_FFFB, Group::Call, None),
-        (32, true, 5, 0xFFFF_FFFF, Group::Call, None),
-    ];
-    let policy = Compartments::new(6);
-    for (from, jumped, owner, into, group, answer) in rows {
-        let inputs = inputs(pc(from, jumped), place(owner, into, 0), PLAIN);
-        let expected = match answer {
-            Some(jumped) => Ok(Outs {
-                pc: pc(owner, jumped),
-                result: PLAIN,
-            }),
-            None => Err(refused(Part::Comp, Why::Rule(group))),
-        };
-        assert!(rt; policy.rule(group, inputs) == expected);
-    }
-}
+const NO_RANGE: PlanEnd = PlanEnd::Refused(Refused {
+    part: Part::Comp,
+    why: Why::Range,
+});
+
+const NO_ARGS: PlanEnd = PlanEnd::Refused(Refused {
+    part: Part::Comp,
+    why: Why::Args,
+});
+
+/// The owner of the pc and whether it has jumped, the owner of the word and the set that it lets in, a group, and whether the
+/// new pc has jumped, where that is allowed.
+const ENTERINGS: &[(u32, bool, u32, u32, Group, Option<bool>)] = &[
+    (2, false, 2, 0, Group::AddImm, Some(false)),
+    (2, true, 2, 0, Group::Jal, Some(true)),
+    (2, false, 2, 0, Group::Jalr, Some(true)),
+    (2, false, 2, 0, Group::Branch, Some(false)),
+    // another's word, by a jump and let in
+    (2, true, 5, 0b100, Group::Call, Some(false)),
+    (2, true, 5, 0b100, Group::Jalr, Some(true)),
+    (31, true, 5, 0x8000_0000, Group::Fence, Some(false)),
+    // let in without a jump, a jump without leave, the leave of others, and a number that no set has
+    (2, false, 5, 0b100, Group::Call, None),
+    (2, true, 5, 0, Group::Call, None),
+    (2, true, 5, 0xFFFF_FFFB, Group::Call, None),
+    (32, true, 5, 0xFFFF_FFFF, Group::Call, None),
+];
 
 #[test]
-fn no_rule_of_other_tags(rt: HostRuntime) {
-    let rows = [
+fn rules_of_entering(rt: HostRuntime) {
+    for &(from, jumped, owner, into, group, answer) in ENTERINGS {
+        let inputs = inputs(pc(from, jumped), place(owner, into, 0), PLAIN);
+        let outs = answer.map(|jumped| (pc(owner, jumped), PLAIN));
+        assert!(rt; is_answered(group, inputs, outs));
+    }
+    let others = [
         (PLAIN, place(0, 0, 0)),
         (place(0, 0, 0), place(0, 0, 0)),
         (pc(0, true), PLAIN),
         (pc(0, true), pc(0, true)),
     ];
-    let policy = Compartments::new(1);
-    for (pc, instruction) in rows {
-        let answer = policy.rule(Group::Const, inputs(pc, instruction, PLAIN));
-        assert!(rt; answer == Err(refused(Part::Comp, Why::Rule(Group::Const))));
+    for (pc, instruction) in others {
+        assert!(rt; is_answered(Group::Const, inputs(pc, instruction, PLAIN), None));
     }
 }
 
@@ -74,115 +71,95 @@ fn rules_of_stores(rt: HostRuntime) {
         (PLAIN, false),
         (pc(5, false), false),
     ];
-    let policy = Compartments::new(6);
     for (word, allowed) in rows {
-        for group in [Group::StoreWord, Group::StorePart] {
-            // compartment 2 has jumped to a word of compartment 5, which is the one that stores
-            let inputs = inputs(pc(2, true), place(5, 0b100, 0), word);
-            let expected = if allowed {
-                Ok(Outs {
-                    pc: pc(5, false),
-                    result: word,
-                })
-            } else {
-                Err(refused(Part::Comp, Why::Rule(group)))
-            };
-            assert!(rt; policy.rule(group, inputs) == expected);
-        }
+        // compartment 2 has jumped to a word of compartment 5, which is the one that stores
+        let stored = inputs(pc(2, true), place(5, 0b100, 0), word);
+        let outs = allowed.then_some((pc(5, false), word));
+        assert!(rt; is_answered(Group::StoreWord, stored, outs));
+        assert!(rt; is_answered(Group::StorePart, stored, outs));
         // a load asks nothing of its word
-        let loaded = policy.rule(Group::LoadWord, inputs(pc(5, false), place(5, 0, 0), word));
-        assert!(rt;
-            loaded
-                == Ok(Outs {
-                    pc: pc(5, false),
-                    result: PLAIN
-                })
-        );
+        let loaded = inputs(pc(5, false), place(5, 0, 0), word);
+        assert!(rt; is_answered(Group::LoadWord, loaded, Some((pc(5, false), PLAIN))));
     }
 }
+
+/// Compartments, a service, base and words, a2, and the refusal.
+const REFUSALS: &[(u32, u32, u32, u32, u32, PlanEnd)] = &[
+    (4, 32, 2, 1, 0, NO_RANGE),
+    (32, 32, 2, 1, 0, NO_RANGE),
+    (32, 32, 0, 1, 0, PlanEnd::Spent),
+    (4, 33, 2, 1, 4, NO_RANGE),
+    (4, 33, 0, 1, 4, NO_ARGS),
+    (4, 34, 2, 1, 4, NO_RANGE),
+    (4, 34, 0, 1, 4, NO_ARGS),
+    (32, 34, 0, 1, 32, NO_ARGS),
+];
 
 #[test]
 fn refusals_of_services_in_their_order(rt: HostRuntime) {
-    let (range, bad_range) = ((0, 1), (2, 1));
-    let no_range = PlanEnd::Refused(refused(Part::Comp, Why::Range));
-    let no_args = PlanEnd::Refused(refused(Part::Comp, Why::Args));
-    // compartments, service, base and words, a2, the refusal
-    let rows = [
-        (4, 32, bad_range, 0, no_range),
-        (32, 32, bad_range, 0, no_range),
-        (32, 32, range, 0, PlanEnd::Spent),
-        (4, 33, bad_range, 4, no_range),
-        (4, 33, range, 4, no_args),
-        (4, 34, bad_range, 4, no_range),
-        (4, 34, range, 4, no_args),
-        (32, 34, range, 32, no_args),
-    ];
-    for (count, service, (base, words), a2, end) in rows {
+    for &(count, service, base, words, a2, end) in REFUSALS {
         let policy = Compartments::new(count);
-        let planned = policy.plan(service, &arguments(base, words, a2), pc(0, false));
-        assert!(rt; planned == Err(end));
+        assert!(rt; range_of(&policy, service, base, words, a2) == Some(Err(end)));
     }
 }
 
+/// Base, words, and whether they lie within 64 bytes.
+const RANGES: &[(u32, u32, bool)] = &[
+    (0, 16, true),
+    (0, 17, false),
+    (60, 1, true),
+    (60, 2, false),
+    (64, 1, false),
+    (0, 0, false),
+    (64, 0, false),
+    (1, 1, false),
+    (2, 1, false),
+    (3, 1, false),
+    // sums that do not fit into 32 bits
+    (0xFFFF_FFFC, 1, false),
+    (0xFFFF_FFFC, 0xFFFF_FFFF, false),
+    (4, 0x3FFF_FFFF, false),
+    (0, 0x4000_0000, false),
+];
+
 #[test]
 fn ranges_at_their_ends(rt: HostRuntime) {
-    // base, words, whether they lie within 64 bytes
-    let rows = [
-        (0, 16, true),
-        (0, 17, false),
-        (60, 1, true),
-        (60, 2, false),
-        (64, 1, false),
-        (0, 0, false),
-        (64, 0, false),
-        (1, 1, false),
-        (2, 1, false),
-        (3, 1, false),
-        // sums that do not fit into 32 bits
-        (0xFFFF_FFFC, 1, false),
-        (0xFFFF_FFFC, 0xFFFF_FFFF, false),
-        (4, 0x3FFF_FFFF, false),
-        (0, 0x4000_0000, false),
-    ];
     let policy = Compartments::new(2);
-    for service in [32, 33, 34] {
-        for (base, words, lies) in rows {
-            let planned = policy.plan(service, &arguments(base, words, 1), pc(0, false));
-            match planned {
-                Ok(plan) => {
-                    assert!(rt; lies);
-                    assert!(rt; plan.range == Some(Words { base, count: words }));
-                }
-                Err(end) => {
-                    assert!(rt; !lies);
-                    assert!(rt; end == PlanEnd::Refused(refused(Part::Comp, Why::Range)));
-                }
-            }
+    for &(base, words, lies) in RANGES {
+        let range = Some(Words { base, count: words });
+        let expected = if lies { Ok(range) } else { Err(NO_RANGE) };
+        for service in [32, 33, 34] {
+            assert!(rt; range_of(&policy, service, base, words, 1) == Some(expected));
         }
     }
+}
+
+/// Whether the next compartment gets that number. Letting it in takes none.
+fn is_numbered(policy: &mut Compartments, number: u32) -> Result<bool, Fail> {
+    let answer = Answer {
+        value: number,
+        tag: PLAIN,
+        rest: Rest::Plain,
+    };
+    let tag = new_tag(policy, 32, 0, place(0, 6, 7));
+    let split = carried_out(policy, 32, 0)?.ok_or("a number is left")?;
+    let let_in = carried_out(policy, 33, number)?.ok_or("a compartment of that number")?;
+    Ok(
+        tag == Some(Ok(place(number, 0, 0)))
+            && split.answer == Some(answer)
+            && let_in.answer.is_none()
+            && !split.zero
+            && !let_in.zero,
+    )
 }
 
 #[test]
 fn compartments_are_numbered_until_they_are_spent(rt: HostRuntime) -> Result<(), Fail> {
     let mut policy = Compartments::new(1);
     for number in 1..32 {
-        let answer = Answer {
-            value: number,
-            tag: PLAIN,
-            rest: Rest::Plain,
-        };
-        let tag = new_tag(&policy, 32, 0, place(0, 6, 7));
-        assert!(rt; tag == Some(Ok(place(number, 0, 0))), "at {number}");
-        let plan = carried_out(&mut policy, 32, 0)?.ok_or("a number is left")?;
-        assert!(rt; plan.answer == Some(answer));
-        assert!(rt; !plan.zero);
-        // letting another in takes no number
-        let plan = carried_out(&mut policy, 33, number)?.ok_or("a compartment of that number")?;
-        assert!(rt; plan.answer.is_none());
-        assert!(rt; !plan.zero);
+        assert!(rt; is_numbered(&mut policy, number)?, "at {number}");
     }
-    let spent = policy.plan(32, &arguments(0, 1, 0), pc(0, false));
-    assert!(rt; spent == Err(PlanEnd::Spent));
+    assert!(rt; range_of(&policy, 32, 0, 1, 0) == Some(Err(PlanEnd::Spent)));
     Ok(())
 }
 
@@ -234,42 +211,6 @@ fn consent_to_zeroing(rt: HostRuntime) {
     }
 }
 
-#[test]
-fn tags_at_the_start(rt: HostRuntime) {
-    let policy = Compartments::new(4);
-    let birth = Birth {
-        owner: 3,
-        into: CompartmentSet::of_bits(5),
-        write: CompartmentSet::of_bits(6),
-        code: true,
-        label: Some(7),
-        heap: true,
-    };
-    assert!(rt; policy.start_pc(&birth) == pc(3, false));
-    assert!(rt; policy.start_word(&birth) == place(3, 5, 6));
-    assert!(rt; policy.plain() == PLAIN);
-}
-
-#[test]
-fn texts_of_tags(rt: HostRuntime) {
-    let policy = Compartments::new(1);
-    let rows = [
-        (PLAIN, b"plain".as_slice()),
-        (pc(2, false), b"pc(2,-)".as_slice()),
-        (pc(31, true), b"pc(31,j)".as_slice()),
-        (place(2, 10, 0), b"place(2,0000000A,00000000)".as_slice()),
-        (
-            place(10, 0, 0xFEDC_BA98),
-            b"place(10,00000000,FEDCBA98)".as_slice(),
-        ),
-    ];
-    for (tag, text) in rows {
-        let mut line = Line::new();
-        policy.show(tag, &mut line);
-        assert_eq!(rt; line.as_slice(), text);
-    }
-}
-
 fn pc(owner: u32, jumped: bool) -> CompartmentTag {
     CompartmentTag::Pc { owner, jumped }
 }
@@ -308,6 +249,36 @@ fn arguments(base: u32, words: u32, a2: u32) -> Args<CompartmentTag> {
         t1: PLAIN,
         t2: PLAIN,
         ram: RAM,
+    }
+}
+
+/// Whether the rule of the group gives these tags of the pc and of the result, or refuses where there are none.
+fn is_answered(
+    group: Group,
+    inputs: Ins<CompartmentTag>,
+    outs: Option<(CompartmentTag, CompartmentTag)>,
+) -> bool {
+    let answer = match outs {
+        Some((pc, result)) => Ok(Outs { pc, result }),
+        None => Err(refused(Part::Comp, Why::Rule(group))),
+    };
+    Compartments::new(6).rule(group, inputs) == answer
+}
+
+/// The range of a service that is called from a word of compartment 0; none of one that the policy doesn't know.
+fn range_of(
+    policy: &Compartments,
+    service: u32,
+    base: u32,
+    words: u32,
+    a2: u32,
+) -> Option<Result<Option<Words>, PlanEnd>> {
+    if !policy.knows(service) {
+        return None;
+    }
+    match policy.plan(service, &arguments(base, words, a2), pc(0, false)) {
+        Ok(plan) => Some(Ok(plan.range)),
+        Err(end) => Some(Err(end)),
     }
 }
 

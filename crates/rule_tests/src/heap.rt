@@ -1,12 +1,10 @@
-//! Values stated by the rules of heap safety: a table of rules, two services with their refusals, and the texts.
+//! Values stated by the rules of heap safety: a table of rules, and two services with their refusals.
 
 use crate::refusals::refused;
 use heap_policy::{Content, Heap, HeapTag};
 use policy_trait::{
-    Answer, Args, Birth, CompartmentSet, Ins, Outs, Part, Plan, PlanEnd, Policy, Refused, Rest,
-    Why, Words,
+    Answer, Args, Ins, Outs, Part, Plan, PlanEnd, Policy, Refused, Rest, Why, Words,
 };
-use pump_words::Line;
 use rv_decode::Group;
 use std::alloc::Global;
 use std::test::Fail;
@@ -180,26 +178,30 @@ const SECOND: &[Row] = &[
     (Group::Call, VAL, FREE, VAL, None),
 ];
 
+/// The rows of every group.
+const RULES: &[&[Row]] = &[
+    GOES_ON,
+    FIRST,
+    MOVED,
+    LOADS,
+    STORES,
+    SUMS,
+    DIFFERENCES,
+    BOTH,
+    SECOND,
+];
+
 #[test]
 fn rules_of_every_group(rt: HostRuntime) {
     let heap = heap(rt.alloc());
-    assert_eq!(rt; first_unkept(&heap, GOES_ON), None);
-    assert_eq!(rt; first_unkept(&heap, FIRST), None);
-    assert_eq!(rt; first_unkept(&heap, MOVED), None);
-    assert_eq!(rt; first_unkept(&heap, LOADS), None);
-    assert_eq!(rt; first_unkept(&heap, STORES), None);
-    assert_eq!(rt; first_unkept(&heap, SUMS), None);
-    assert_eq!(rt; first_unkept(&heap, DIFFERENCES), None);
-    assert_eq!(rt; first_unkept(&heap, BOTH), None);
-    assert_eq!(rt; first_unkept(&heap, SECOND), None);
+    for rows in RULES {
+        for &row in *rows {
+            assert!(rt; is_kept(&heap, row));
+        }
+    }
 }
 
-/// The place of the first row that the policy does not keep.
-fn first_unkept(heap: &Heap, rows: &[Row]) -> Option<usize> {
-    rows.iter().position(|row| !is_kept(heap, *row))
-}
-
-/// Whether the policy answers this at an instruction outside the heap region, whatever the pc's tag is, and obeys no other
+/// Whether the policy answers this at an instruction outside the heap region, whatever the pc's tag is, and executes no other
 /// word.
 fn is_kept(heap: &Heap, row: Row) -> bool {
     let (group, t1, t2, tm, result) = row;
@@ -217,9 +219,12 @@ fn is_kept(heap: &Heap, row: Row) -> bool {
         && rule(STATIC, PTR) == refusal
 }
 
-/// Calls of the services, one after another: the service, the value and the tag of a0, and the answer with its tag, if
-/// there is one, or the refusal. Each call that has a plan is carried out.
-const CALLS: &[(u32, u32, HeapTag, Result<Option<(u32, HeapTag)>, PlanEnd>)] = &[
+/// The answer of a service with its tag, if there is one, or the refusal.
+type Answered = Result<Option<(u32, HeapTag)>, PlanEnd>;
+
+/// Calls of the services, one after another: the service, the value and the tag of a0, and what is answered. Each call that
+/// has a plan is carried out.
+const CALLS: &[(u32, u32, HeapTag, Answered)] = &[
     // whole words, at least one, one block behind the other
     (MALLOC, 0, VAL, Ok(Some((64, HeapTag::Ptr(0))))),
     (MALLOC, 4, VAL, Ok(Some((68, HeapTag::Ptr(1))))),
@@ -272,23 +277,31 @@ const LISTED: &[(u32, Option<(u32, u32, u32)>)] = &[
     (4_294_967_295, None),
 ];
 
+/// What a service answers that is carried out where it has a plan.
+fn answered(heap: &mut Heap, service: u32, a0: u32, t0: HeapTag) -> Result<Answered, Fail> {
+    match carried_out(heap, service, a0, t0)? {
+        Ok((plan, _)) => match plan.answer {
+            Some(
+                Answer {
+                    value,
+                    tag,
+                    rest: Rest::Plain,
+                },
+            ) => Ok(Ok(Some((value, tag)))),
+            Some(_) => Err("the rest is plain".into()),
+            None => Ok(Ok(None)),
+        },
+        Err(end) => Ok(Err(end)),
+    }
+}
+
 #[test]
 fn calls_in_their_order(rt: HostRuntime) -> Result<(), Fail> {
     let mut heap = heap(rt.alloc());
     assert!(rt; heap.listed(0).is_none());
     for &(service, a0, t0, answer) in CALLS {
-        let planned = carried_out(&mut heap, service, a0, t0)?;
-        let expected = match answer {
-            Ok(Some((value, tag))) => Ok(Some(Answer {
-                value,
-                tag,
-                rest: Rest::Plain,
-            })),
-            Ok(None) => Ok(None),
-            Err(end) => Err(end),
-        };
         assert!(rt;
-            planned.map(|(plan, _)| plan.answer) == expected,
+            answered(&mut heap, service, a0, t0)? == answer,
             "{service} of {a0}"
         );
     }
@@ -331,27 +344,41 @@ fn plans_and_the_words_they_retag(rt: HostRuntime) -> Result<(), Fail> {
     Ok(())
 }
 
+/// Whether block after block of the whole region gets these numbers, each but the last taken back before the next.
+fn are_numbered(heap: &mut Heap, count: u32) -> Result<bool, Fail> {
+    for number in 0..count {
+        if number > 0 {
+            let last = HeapTag::Ptr(number - 1);
+            if answered(heap, TAKE_BACK, BASE, last)? != Ok(None) {
+                return Ok(false);
+            }
+        }
+        let block = Some((BASE, HeapTag::Ptr(number)));
+        if answered(heap, MALLOC, BYTES, VAL)? != Ok(block) {
+            return Ok(false);
+        }
+    }
+    Ok(true)
+}
+
+/// Calls as above, of a heap whose last block is live: the arguments are judged first, and a place is sought last.
+const SPENT_CALLS: &[(u32, u32, HeapTag, Answered)] = &[
+    (MALLOC, 4, PTR, Err(ARGS)),
+    (MALLOC, 4, VAL, Err(PlanEnd::Spent)),
+    (TAKE_BACK, BASE, HeapTag::Ptr(1_048_575), Ok(None)),
+    (MALLOC, 4, VAL, Err(PlanEnd::Spent)),
+];
+
 #[test]
 fn blocks_are_numbered_until_they_are_spent(rt: HostRuntime) -> Result<(), Fail> {
     let mut heap = heap(rt.alloc());
-    for number in 0..1_048_576 {
-        let plan = carried_out(&mut heap, MALLOC, 32, VAL)?;
+    assert!(rt; are_numbered(&mut heap, 1_048_576)?);
+    for &(service, a0, t0, answer) in SPENT_CALLS {
         assert!(rt;
-            plan.map(|(plan, _)| plan.note) == Ok(number),
-            "at {number}"
+            answered(&mut heap, service, a0, t0)? == answer,
+            "{service} of {a0}"
         );
-        // only the last block stays
-        if number < 1_048_575 {
-            let plan = carried_out(&mut heap, TAKE_BACK, 64, HeapTag::Ptr(number))?;
-            assert!(rt; plan.is_ok(), "at {number}");
-        }
     }
-    // the arguments are judged first, and a place is sought last
-    assert!(rt; carried_out(&mut heap, MALLOC, 4, PTR)? == Err(ARGS));
-    assert!(rt; carried_out(&mut heap, MALLOC, 4, VAL)? == Err(PlanEnd::Spent));
-    let last = HeapTag::Ptr(1_048_575);
-    assert!(rt; carried_out(&mut heap, TAKE_BACK, 64, last)?.is_ok());
-    assert!(rt; carried_out(&mut heap, MALLOC, 4, VAL)? == Err(PlanEnd::Spent));
     assert!(rt; heap.listed(0).is_none());
     Ok(())
 }
@@ -373,53 +400,6 @@ fn words_zeroed_by_another_policy(rt: HostRuntime) {
     for &(old, new) in WIPED {
         let expected = new.ok_or(refused(Part::Heap, Why::Consent));
         assert!(rt; heap.wipe(PTR, old) == expected);
-    }
-}
-
-#[test]
-fn starts_loans_and_numbers(rt: HostRuntime) {
-    let policy = heap(rt.alloc());
-    for (heap, tag) in [(false, STATIC), (true, FREE)] {
-        let birth = Birth {
-            owner: 3,
-            into: CompartmentSet::of_bits(5),
-            write: CompartmentSet::of_bits(6),
-            code: true,
-            label: Some(7),
-            heap,
-        };
-        assert!(rt; policy.start_pc(&birth) == VAL);
-        assert!(rt; policy.start_word(&birth) == tag);
-    }
-    for tag in [VAL, PTR, STATIC_PTR, CELL, FREE] {
-        assert!(rt; policy.lend(tag).is_ok());
-    }
-    for (number, known) in [(47, false), (48, true), (49, true), (50, false)] {
-        assert!(rt; policy.knows(number) == known);
-    }
-    assert!(rt; policy.uses(MALLOC) == 1);
-    assert!(rt; policy.uses(TAKE_BACK) == 1);
-}
-
-/// Texts: the tag and its text.
-const TEXTS: &[(HeapTag, &[u8])] = &[
-    (VAL, b"val"),
-    (PTR, b"ptr(5)"),
-    (HeapTag::Ptr(4_294_967_295), b"ptr(4294967295)"),
-    (STATIC, b"static(val)"),
-    (STATIC_PTR, b"static(ptr(6))"),
-    (CELL, b"cell(5,val)"),
-    (CELL_PTR, b"cell(5,ptr(6))"),
-    (FREE, b"free"),
-];
-
-#[test]
-fn texts_of_tags(rt: HostRuntime) {
-    let heap = heap(rt.alloc());
-    for &(tag, text) in TEXTS {
-        let mut line = Line::new();
-        heap.show(tag, &mut line);
-        assert_eq!(rt; line.as_slice(), text);
     }
 }
 

@@ -1,57 +1,52 @@
-//! Values stated by the rules of sealing: a table of rules, three services, and the texts of the tags.
+//! Values stated by the rules of sealing: a table of rules, and three services.
 
 use crate::refusals::refused;
 use policy_trait::{Answer, Args, Ins, Outs, Part, Plan, PlanEnd, Policy, Refused, Rest, Why};
-use pump_words::Line;
 use rv_decode::Group;
 use sealing_policy::{SealTag, Sealing};
 use std::test::Fail;
 
+const DATA: SealTag = SealTag::Data;
+
+const KEY: SealTag = SealTag::Key(3);
+
+const SEALED: SealTag = SealTag::Sealed(3);
+
+/// A group, its instruction, first and second operand and memory word, and its result, where it is allowed.
+type RuleRow = (Group, SealTag, SealTag, SealTag, SealTag, Option<SealTag>);
+
+const RULE_ROWS: &[RuleRow] = &[
+    (Group::Move, DATA, SEALED, DATA, DATA, Some(SEALED)),
+    (Group::AddImm, DATA, SEALED, DATA, DATA, None),
+    (Group::LoadWord, DATA, DATA, DATA, KEY, Some(KEY)),
+    (Group::LoadWord, DATA, KEY, DATA, DATA, None),
+    (Group::LoadPart, DATA, DATA, DATA, KEY, None),
+    (Group::StoreWord, DATA, DATA, SEALED, KEY, Some(SEALED)),
+    (Group::StorePart, DATA, DATA, DATA, SEALED, None),
+    (Group::Const, DATA, SEALED, KEY, SEALED, Some(DATA)),
+    (Group::Call, DATA, SEALED, DATA, DATA, Some(DATA)),
+    (Group::Call, DATA, DATA, KEY, DATA, None),
+    // no instruction that is not data
+    (Group::Fence, SEALED, DATA, DATA, DATA, None),
+];
+
 #[test]
 fn rules_of_some_groups(rt: HostRuntime) {
     let policy = Sealing::new();
-    let (data, key, sealed) = (SealTag::Data, SealTag::Key(3), SealTag::Sealed(3));
-    // group, first and second operand, memory word, result
-    let rows = [
-        (Group::Move, sealed, data, data, Some(sealed)),
-        (Group::AddImm, sealed, data, data, None),
-        (Group::LoadWord, data, data, key, Some(key)),
-        (Group::LoadWord, key, data, data, None),
-        (Group::LoadPart, data, data, key, None),
-        (Group::StoreWord, data, sealed, key, Some(sealed)),
-        (Group::StorePart, data, data, sealed, None),
-        (Group::Const, sealed, key, sealed, Some(data)),
-        (Group::Call, sealed, data, data, Some(data)),
-        (Group::Call, data, key, data, None),
-    ];
-    for (group, t1, t2, tm, result) in rows {
+    for &(group, ci, t1, t2, tm, result) in RULE_ROWS {
         let inputs = Ins {
-            pc: key,
-            ci: data,
+            pc: KEY,
+            ci,
             t1,
             t2,
             tm,
         };
         let answer = match result {
-            Some(result) => Ok(Outs { pc: data, result }),
+            Some(result) => Ok(Outs { pc: DATA, result }),
             None => Err(refused(Part::Seal, Why::Rule(group))),
         };
         assert!(rt; policy.rule(group, inputs) == answer);
     }
-}
-
-#[test]
-fn no_instruction_that_is_not_data(rt: HostRuntime) {
-    let data = SealTag::Data;
-    let inputs = Ins {
-        pc: data,
-        ci: SealTag::Sealed(0),
-        t1: data,
-        t2: data,
-        tm: data,
-    };
-    let answer = Err(refused(Part::Seal, Why::Rule(Group::Fence)));
-    assert!(rt; Sealing::new().rule(Group::Fence, inputs) == answer);
 }
 
 #[test]
@@ -74,24 +69,24 @@ fn keys_are_numbered_until_they_are_spent(rt: HostRuntime) -> Result<(), Fail> {
     Ok(())
 }
 
+/// A service, the tags of a0 and a1, and the tag of the answer or why it is refused.
+const ANSWERS: &[(u32, SealTag, SealTag, Result<SealTag, Why>)] = &[
+    (17, DATA, KEY, Ok(SEALED)),
+    (17, DATA, DATA, Err(Why::Args)),
+    (17, KEY, KEY, Err(Why::Args)),
+    (17, SEALED, KEY, Err(Why::Args)),
+    (18, SEALED, KEY, Ok(DATA)),
+    (18, SEALED, SealTag::Key(4), Err(Why::WrongKey)),
+    (18, SEALED, DATA, Err(Why::Args)),
+    (18, SEALED, SEALED, Err(Why::Args)),
+    (18, DATA, KEY, Err(Why::Args)),
+];
+
 #[test]
 fn answers_of_seal_and_unseal(rt: HostRuntime) {
     let policy = Sealing::new();
-    let (data, key, sealed) = (SealTag::Data, SealTag::Key(3), SealTag::Sealed(3));
-    // service, tags of a0 and a1, tag of the answer or the refusal
-    let rows = [
-        (17, data, key, Ok(sealed)),
-        (17, data, data, Err(Why::Args)),
-        (17, key, key, Err(Why::Args)),
-        (17, sealed, key, Err(Why::Args)),
-        (18, sealed, key, Ok(data)),
-        (18, sealed, SealTag::Key(4), Err(Why::WrongKey)),
-        (18, sealed, data, Err(Why::Args)),
-        (18, sealed, sealed, Err(Why::Args)),
-        (18, data, key, Err(Why::Args)),
-    ];
-    for (service, t0, t1, answer) in rows {
-        let planned = policy.plan(service, &arguments(t0, t1), data);
+    for &(service, t0, t1, answer) in ANSWERS {
+        let planned = policy.plan(service, &arguments(t0, t1), DATA);
         let answer = match answer {
             Ok(tag) => Ok(Some(Answer {
                 value: 77,
@@ -102,16 +97,6 @@ fn answers_of_seal_and_unseal(rt: HostRuntime) {
         };
         assert!(rt; planned.map(|plan| plan.answer) == answer);
     }
-}
-
-#[test]
-fn texts_of_tags(rt: HostRuntime) {
-    let mut line = Line::new();
-    let policy = Sealing::new();
-    policy.show(SealTag::Data, &mut line);
-    policy.show(SealTag::Key(3), &mut line);
-    policy.show(SealTag::Sealed(3), &mut line);
-    assert_eq!(rt; line.as_slice(), b"datakey(3)sealed(3)".as_slice());
 }
 
 /// Arguments with these tags of a0 and a1. The value in a1 is that of no key.

@@ -2,10 +2,9 @@
 
 use crate::raising::Raising;
 use policy_trait::{Answer, Args, CompartmentSet, Ins, Outs, Plan, Rest, Words};
-use pump_words::Line;
 
 #[test]
-fn tags_of_a_rule_are_changed(rt: HostRuntime) {
+fn tags_of_rules_and_services_are_changed(rt: HostRuntime) {
     let inputs = Ins {
         pc: 1,
         ci: 2,
@@ -27,10 +26,6 @@ fn tags_of_a_rule_are_changed(rt: HostRuntime) {
         result: 102,
     };
     assert!(rt; outputs.map(&Raising { by: 100 }) == changed);
-}
-
-#[test]
-fn tags_of_a_service_are_changed(rt: HostRuntime) {
     let arguments = Args {
         a0: 1,
         a1: 2,
@@ -73,13 +68,6 @@ fn compartments_of_a_set(rt: HostRuntime) {
         assert!(rt; set.has(number) == is_in, "at {number}");
     }
     assert!(rt; !CompartmentSet::of_bits(0xFFFF_FFFF).has(32));
-}
-
-#[test]
-fn text_of_a_set(rt: HostRuntime) {
-    let mut line = Line::new();
-    CompartmentSet::of_bits(0xA1).show(&mut line);
-    assert_eq!(rt; line.as_slice(), b"000000A1".as_slice());
 }
 
 /// A plan with these tags of the pc and of the answer.

@@ -53,26 +53,23 @@ fn rules_of_some_groups(rt: HostRuntime) {
             None => Err(refused(Part::Own, Why::Rule(group))),
         };
         assert!(rt; Taint.rule(group, inputs(CLEAN, t1, t2, tm)) == answer);
-        // no tainted word is obeyed
+        // no tainted word is executed
         let answer = Err(refused(Part::Own, Why::Rule(group)));
         assert!(rt; Taint.rule(group, inputs(TAINTED, t1, t2, tm)) == answer);
     }
 }
 
 #[test]
-fn ignored_inputs_of_a_store(rt: HostRuntime) {
-    let mask = Mask {
+fn other_answers(rt: HostRuntime) {
+    let of_a_store = Mask {
         pc: true,
         ci: false,
         t1: false,
         t2: false,
         tm: true,
     };
-    assert!(rt; Taint.ignores(Group::StoreWord) == mask);
-}
-
-#[test]
-fn zero_and_the_start_are_clean(rt: HostRuntime) {
+    assert!(rt; Taint.ignores(Group::StoreWord) == of_a_store);
+    // zero and the start are clean
     let birth = Birth {
         owner: 0,
         into: CompartmentSet::empty(),

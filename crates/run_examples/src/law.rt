@@ -14,7 +14,7 @@ ghost use Rattle.run_examples.specs.Example.{all_four, blocks, events, image, ju
 
 /// In the example's run, of which the laws on runs speak, each turn retires, and the books at its end hold what they are to: the key that was made and what it
 /// sealed, the word that a compartment let another one write, where the harts were and the one indirect jump, and the block
-/// that was handed out and taken back. The function does nothing.
+/// that was handed out and taken back.
 pub fn example_law()
     ensures image { IsImage image }
     ensures safe { IsSafe all_four image events }

@@ -1,4 +1,4 @@
--- Attacks end in a stop: a turn that retired would have been as its policy promises.
+-- Attacks end in a stop: a turn that retired would have been as its policy guarantees.
 use Rattle.std.proofs.Common.{◌≡◌, inl, inr, ℕ, Bool, true, false, List, Option, Some, None, option_map, refl, sym, ap, ◌∙◌}
 use Rattle.policy_trait.specs.Model.{PolicyModel}
 use Rattle.policy_trait.specs.declared.birth.Birth.{Birth}
@@ -22,47 +22,47 @@ use Rattle.part_turns.proofs.TurnLemmas.{turn_shown}
 use Rattle.part_turns.specs.Keeps.{Keeps}
 use Rattle.part_turns.specs.Maps.{call_by, event_with, seen_by, work_by}
 use Rattle.part_turns.specs.Moments.{Service, service_by}
-use Rattle.seal_runs.proofs.TurnLemmas.{keeps_line}
+use Rattle.seal_runs.proofs.TurnLemmas.{keeps_invariant}
 use Rattle.seal_runs.specs.KeyBook.{key_book}
-use Rattle.seal_runs.specs.SealLine.{SealLine}
+use Rattle.seal_runs.specs.SealInvariant.{SealInvariant}
 use Rattle.seal_runs.specs.SealSafe.{SealTurn}
 use Rattle.comp_runs.proofs.TurnLemmas.{comp_keeps}
-use Rattle.comp_runs.specs.CompLine.{CompLine}
+use Rattle.comp_runs.specs.CompInvariant.{CompInvariant}
 use Rattle.comp_runs.specs.CompTurn.{CompTurn}
 use Rattle.flow_runs.proofs.KeepsLemmas.{turns_keep}
-use Rattle.flow_runs.specs.FlowLine.{FlowLine}
+use Rattle.flow_runs.specs.FlowInvariant.{FlowInvariant}
 use Rattle.flow_runs.specs.FlowTurn.{FlowTurn}
 use Rattle.heap_runs.proofs.TurnLemmas.{keeps as heap_keeps}
 use Rattle.heap_runs.specs.BlockBook.{block_book}
-use Rattle.heap_runs.specs.HeapLine.{HeapLine}
+use Rattle.heap_runs.specs.HeapInvariant.{HeapInvariant}
 use Rattle.heap_runs.specs.HeapSafe.{HeapTurn, is_in_heap}
 use Rattle.run_props.proofs.EndLemmas.{ready_ends, retired_call}
 use Rattle.run_props.proofs.PartLemmas.{comp_is_part, flow_is_part, heap_is_part, seal_is_part}
 use Rattle.run_props.specs.Attacks.{GoesAstray, MissesBlock, Trespasses, UnsealsWithoutKey, enters, forged, outside, stores, unlisted, zeroes}
 use Rattle.run_props.specs.Ends.{IsStopped}
 use Rattle.policy_choice.specs.AllLaws.{AllHold, all_laws}
-use Rattle.run_props.specs.Line.{InLine}
+use Rattle.run_props.specs.Invariant.{MeetsInvariant}
 use Rattle.run_props.specs.Views.{comp_view, flow_view, heap_view, seal_view}
 
 module _ (s : Machine AllState AllTag) (feed : Tape) (h : ℕ) where
   abbrev turn : Event AllTag
   turn = event_of all s feed h
 
-  module _ {U V : Type 0} (m : PolicyModel U V) (l : View AllTag AllState U V) (line : List (Event U) → Machine V U → Type 0)
-      (promise : List (Event U) → Event U → Type 0) (part : IsPart all m l) (keeps : Keeps m line promise) (events : List (Event U))
-      (stands : InLine l line events s) (ready : is_ready_in s.core h ≡ true) where
-    -- the turn is as the policy promises
-    promised : promise events (event_with l.tag turn)
-    promised =
+  module _ {U V : Type 0} (m : PolicyModel U V) (l : View AllTag AllState U V) (invariant : List (Event U) → Machine V U → Type 0)
+      (guarantee : List (Event U) → Event U → Type 0) (part : IsPart all m l) (keeps : Keeps m invariant guarantee) (events : List (Event U))
+      (stands : MeetsInvariant l invariant events s) (ready : is_ready_in s.core h ≡ true) where
+    -- the turn is as the policy guarantees
+    guaranteed : guarantee events (event_with l.tag turn)
+    guaranteed =
         (keeps.turn events (seen_by l s) h (event_with l.tag turn) (seen_by l (turn_of all s feed h).machine)
         (seen_sound all m l part s stands.on stands.sound) stands.held
         ((turn_shown all m l AllHold all_laws part s stands.on feed h).turns stands.sound stands.valid)
         (words_stay all l AllHold all_laws s stands.sound stands.valid feed h)).0
 
     -- one that cannot have retired ended in a stop
-    stopped_unless : (promise events (event_with l.tag turn) → is_retirement turn ≡ true → ⊥) → IsStopped turn
+    stopped_unless : (guarantee events (event_with l.tag turn) → is_retirement turn ≡ true → ⊥) → IsStopped turn
     stopped_unless never = elim (ready_ends all s feed h ready) [
-      | inl done ↦ absurd (never promised done)
+      | inl done ↦ absurd (never guaranteed done)
       | inr stop ↦ stop
     ]
 
@@ -72,7 +72,7 @@ module _ (s : Machine AllState AllTag) (feed : Tape) (h : ℕ) where
 
   -- ---- sealing
 
-  module _ (events : List (Event SealTag)) (stands : InLine seal_view SealLine events s) (ready : is_ready_in s.core h ≡ true)
+  module _ (events : List (Event SealTag)) (stands : MeetsInvariant seal_view SealInvariant events s) (ready : is_ready_in s.core h ≡ true)
       (attack : UnsealsWithoutKey (event_with seal_view.tag turn)) where
     by_call : SealTurn (key_book events) (event_with seal_view.tag turn) → is_retirement turn ≡ true
         → (call : Option (Call AllTag)) → turn.call ≡ call → option_map (call_by seal_view.tag) call ≡ Some attack.call → ⊥
@@ -86,13 +86,13 @@ module _ (s : Machine AllState AllTag) (feed : Tape) (h : ℕ) where
 
     pub seal_stops : IsStopped turn
     seal_stops =
-        stopped_unless sealing seal_view SealLine (λ before event. SealTurn (key_book before) event) seal_is_part keeps_line events stands ready
+        stopped_unless sealing seal_view SealInvariant (λ before event. SealTurn (key_book before) event) seal_is_part keeps_invariant events stands ready
         (λ kept done. by_call kept done turn.call refl attack.called)
 
   -- ---- compartments
 
   module _ (birth : ℕ → Birth) (entries : List ℕ) (events : List (Event CompartmentTag))
-      (stands : InLine comp_view (CompLine birth entries) events s) (ready : is_ready_in s.core h ≡ true) where
+      (stands : MeetsInvariant comp_view (CompInvariant birth entries) events s) (ready : is_ready_in s.core h ≡ true) where
     trespass_fails : Trespasses birth entries s.policy events turn → CompTurn birth entries events (event_with comp_view.tag turn)
         → is_retirement turn ≡ true → ⊥
     trespass_fails (stores touch accessed is_store foreign) kept done =
@@ -106,13 +106,13 @@ module _ (s : Machine AllState AllTag) (feed : Tape) (h : ℕ) where
 
     pub comp_stops : Trespasses birth entries s.policy events turn → IsStopped turn
     comp_stops attack =
-        stopped_unless compartments comp_view (CompLine birth entries) (CompTurn birth entries) comp_is_part (comp_keeps birth entries) events stands ready
+        stopped_unless compartments comp_view (CompInvariant birth entries) (CompTurn birth entries) comp_is_part (comp_keeps birth entries) events stands ready
         (trespass_fails attack)
 
   -- ---- control flow
 
   module _ (birth : ℕ → Birth) (words : List ℕ) (edges : List (ℕ × ℕ)) (events : List (Event FlowTag))
-      (stands : InLine flow_view (FlowLine birth words edges) events s) (ready : is_ready_in s.core h ≡ true) where
+      (stands : MeetsInvariant flow_view (FlowInvariant birth words edges) events s) (ready : is_ready_in s.core h ≡ true) where
     stray_fails : GoesAstray birth words edges events (event_with flow_view.tag turn) → FlowTurn birth words edges events (event_with flow_view.tag turn)
         → is_retirement turn ≡ true → ⊥
     stray_fails (outside no_code) kept done = let code = (kept.code done).code in absurd (cc (code, no_code))
@@ -120,13 +120,13 @@ module _ (s : Machine AllState AllTag) (feed : Tape) (h : ℕ) where
 
     pub flow_stops : GoesAstray birth words edges events (event_with flow_view.tag turn) → IsStopped turn
     flow_stops attack =
-        stopped_unless flow flow_view (FlowLine birth words edges) (FlowTurn birth words edges) flow_is_part (turns_keep birth words edges) events stands ready
+        stopped_unless flow flow_view (FlowInvariant birth words edges) (FlowTurn birth words edges) flow_is_part (turns_keep birth words edges) events stands ready
         (stray_fails attack)
 
   -- ---- heap safety
 
   module _ (base top : ℕ) (events : List (Event HeapTag))
-      (stands : InLine heap_view (HeapLine base top) events s) (ready : is_ready_in s.core h ≡ true) where
+      (stands : MeetsInvariant heap_view (HeapInvariant base top) events s) (ready : is_ready_in s.core h ≡ true) where
     miss_fails : MissesBlock base top (block_book events) (event_with heap_view.tag turn) → HeapTurn base top (block_book events) (event_with heap_view.tag turn)
         → is_retirement turn ≡ true → ⊥
     miss_fails (outside touch asked number accessed asks pointer without) kept done = by_place (is_in_heap base top touch.address) refl
@@ -139,5 +139,5 @@ module _ (s : Machine AllState AllTag) (feed : Tape) (h : ℕ) where
 
     pub heap_stops : MissesBlock base top (block_book events) (event_with heap_view.tag turn) → IsStopped turn
     heap_stops attack =
-        stopped_unless heap heap_view (HeapLine base top) (λ before event. HeapTurn base top (block_book before) event) heap_is_part (heap_keeps base top) events stands ready
+        stopped_unless heap heap_view (HeapInvariant base top) (λ before event. HeapTurn base top (block_book before) event) heap_is_part (heap_keeps base top) events stands ready
         (miss_fails attack)

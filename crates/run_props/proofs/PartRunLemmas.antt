@@ -27,14 +27,14 @@ module _ (basis : Basis) (g : Picture) (feed : Tape) (items : List Item) where
   fed_run = run_along all (start_machine all (choice_state basis g) g) feed items
 
   -- v is the part's value at the start
-  pub part_keeps : {U V : Type 0} (m : PolicyModel U V) (l : View AllTag AllState U V) (line : List (Event U) → Machine V U → Type 0)
-      (promise : List (Event U) → Event U → Type 0) (v : V) → IsImage g → IsPart all m l → Keeps m line promise
+  pub part_keeps : {U V : Type 0} (m : PolicyModel U V) (l : View AllTag AllState U V) (invariant : List (Event U) → Machine V U → Type 0)
+      (guarantee : List (Event U) → Event U → Type 0) (v : V) → IsImage g → IsPart all m l → Keeps m invariant guarantee
       → l.is_on (choice_state basis g) ≡ true → l.value (choice_state basis g) ≡ v
-      → line [] (first_machine m v (birth_of g) (memory_of g) g.entries) → RunKeeps l line promise fed_run
+      → invariant [] (first_machine m v (birth_of g) (memory_of g) g.entries) → RunKeeps l invariant guarantee fed_run
   unfolding start_machine
-  part_keeps {U} {V} m l line promise v is part keeps on value first =
+  part_keeps {U} {V} m l invariant guarantee v is part keeps on value first =
       let start = start_machine all (choice_state basis g) g in
       let seen = seen_start all m l part (choice_state basis g) g on (length-memory_of g is)
       ∙ ap (λ (x : V). first_machine m x (birth_of g) (memory_of g) g.entries) value in
-      runs_keep all m l AllHold all_laws part line promise keeps start feed items on (start_sound basis g is) (start_holds basis g is)
-      (subst (line []) (sym seen) first)
+      runs_keep all m l AllHold all_laws part invariant guarantee keeps start feed items on (start_sound basis g is) (start_holds basis g is)
+      (subst (invariant []) (sym seen) first)

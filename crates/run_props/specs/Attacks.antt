@@ -17,7 +17,7 @@ use Rattle.comp_runs.specs.CompTurn.{last_of as last_turn}
 use Rattle.comp_runs.specs.OwnerBook.{covers, owner_book}
 use Rattle.flow_policy.specs.declared.tag.FlowTag.{FlowTag}
 use Rattle.flow_runs.specs.EdgeWalk.{Visit, visit_of, walk_of}
-use Rattle.flow_runs.specs.FlowLine.{last_of}
+use Rattle.flow_runs.specs.FlowInvariant.{last_of}
 use Rattle.flow_runs.specs.FlowSafe.{IsListed}
 use Rattle.heap_runs.specs.BlockBook.{BlockBook}
 use Rattle.heap_runs.specs.HeapSafe.{ReachesBlock, is_in_heap}

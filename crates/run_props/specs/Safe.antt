@@ -9,15 +9,15 @@ use Rattle.policy_choice.specs.All.{AllState, AllTag, all, choice_state, pair_of
 use Rattle.policy_choice.specs.declared.basis.Basis.{Basis}
 use Rattle.tag_loader.specs.Births.{birth_of}
 use Rattle.tag_loader.specs.Start.{memory_of, start_machine}
-use Rattle.seal_runs.specs.SealLine.{SealLine}
+use Rattle.seal_runs.specs.SealInvariant.{SealInvariant}
 use Rattle.seal_runs.specs.SealSafe.{SealSafe}
-use Rattle.comp_runs.specs.CompLine.{CompLine}
+use Rattle.comp_runs.specs.CompInvariant.{CompInvariant}
 use Rattle.comp_runs.specs.CompSafe.{CompSafe}
-use Rattle.flow_runs.specs.FlowLine.{FlowLine}
+use Rattle.flow_runs.specs.FlowInvariant.{FlowInvariant}
 use Rattle.flow_runs.specs.FlowSafe.{FlowSafe}
-use Rattle.heap_runs.specs.HeapLine.{HeapLine}
+use Rattle.heap_runs.specs.HeapInvariant.{HeapInvariant}
 use Rattle.heap_runs.specs.HeapSafe.{HeapSafe}
-use Rattle.run_props.specs.Line.{InLine}
+use Rattle.run_props.specs.Invariant.{MeetsInvariant}
 use Rattle.run_props.specs.Views.{comp_view, events_by, flow_view, heap_view, seal_view}
 
 -- the run of an image under the chosen policies, along any list of turns and fed bytes
@@ -38,9 +38,9 @@ module _ (basis : Basis) (g : Picture) where
     pub flow : basis.choice.flow ≡ true → FlowSafe (birth_of g) (memory_of g) (map pair_of g.edges) (events_by flow_view events)
     pub heap : basis.choice.heap ≡ true → HeapSafe g.heap_base (heap_top g) (events_by heap_view events)
 
-  -- a state that a run with these events came to is one of which the line of each chosen policy speaks
-  pub record IsInLine (events : List (Event AllTag)) (s : Machine AllState AllTag) : Type 0 where
-    pub seal : basis.choice.seal ≡ true → InLine seal_view SealLine (events_by seal_view events) s
-    pub comp : basis.choice.comp ≡ true → InLine comp_view (CompLine (birth_of g) g.entries) (events_by comp_view events) s
-    pub flow : basis.choice.flow ≡ true → InLine flow_view (FlowLine (birth_of g) (memory_of g) (map pair_of g.edges)) (events_by flow_view events) s
-    pub heap : basis.choice.heap ≡ true → InLine heap_view (HeapLine g.heap_base (heap_top g)) (events_by heap_view events) s
+  -- a state that a run with these events came to is one of which the invariant of each chosen policy speaks
+  pub record MeetsInvariants (events : List (Event AllTag)) (s : Machine AllState AllTag) : Type 0 where
+    pub seal : basis.choice.seal ≡ true → MeetsInvariant seal_view SealInvariant (events_by seal_view events) s
+    pub comp : basis.choice.comp ≡ true → MeetsInvariant comp_view (CompInvariant (birth_of g) g.entries) (events_by comp_view events) s
+    pub flow : basis.choice.flow ≡ true → MeetsInvariant flow_view (FlowInvariant (birth_of g) (memory_of g) (map pair_of g.edges)) (events_by flow_view events) s
+    pub heap : basis.choice.heap ≡ true → MeetsInvariant heap_view (HeapInvariant g.heap_base (heap_top g)) (events_by heap_view events) s

@@ -25,15 +25,15 @@ ghost use Rattle.engine_trait.specs.Events.{Call, Event, event_of};
 ghost use Rattle.engine_trait.specs.Machine.{Machine, is_ready_in};
 ghost use Rattle.part_turns.specs.Maps.{event_with};
 ghost use Rattle.policy_choice.specs.All.{AllState, AllTag};
-ghost use Rattle.seal_runs.specs.SealLine.{SealLine};
-ghost use Rattle.comp_runs.specs.CompLine.{CompLine};
-ghost use Rattle.flow_runs.specs.FlowLine.{FlowLine};
+ghost use Rattle.seal_runs.specs.SealInvariant.{SealInvariant};
+ghost use Rattle.comp_runs.specs.CompInvariant.{CompInvariant};
+ghost use Rattle.flow_runs.specs.FlowInvariant.{FlowInvariant};
 ghost use Rattle.heap_runs.specs.BlockBook.{block_book};
-ghost use Rattle.heap_runs.specs.HeapLine.{HeapLine};
+ghost use Rattle.heap_runs.specs.HeapInvariant.{HeapInvariant};
 ghost use Rattle.run_props.specs.Attacks.{GoesAstray, MissesBlock, Trespasses, UnsealsWithoutKey, WouldZero};
 ghost use Rattle.run_props.specs.Ends.{IsStopped};
-ghost use Rattle.run_props.specs.Line.{InLine};
-ghost use Rattle.run_props.specs.Safe.{IsInLine, IsSafe, heap_top, run_of};
+ghost use Rattle.run_props.specs.Invariant.{MeetsInvariant};
+ghost use Rattle.run_props.specs.Safe.{MeetsInvariants, IsSafe, heap_top, run_of};
 ghost use Rattle.run_props.specs.Views.{comp_view, events_by, flow_view, heap_view, seal_view};
 
 use compartment_policy::CompartmentTag;
@@ -41,7 +41,7 @@ use flow_policy::FlowTag;
 use heap_policy::HeapTag;
 use sealing_policy::SealTag;
 
-/// Each of the four policies is a part of all of them together, wherever it is chosen. The function does nothing.
+/// Each of the four policies is a part of all of them together, wherever it is chosen.
 pub fn parts_law()
     ensures seal { IsPart all sealing seal_view }
     ensures comp { IsPart all compartments comp_view }
@@ -49,14 +49,14 @@ pub fn parts_law()
     ensures heap { IsPart all heap heap_view }
 {}
 
-/// Where sealing is chosen, along any list of turns and fed bytes, each unsealing used its key. The function does nothing.
+/// Where sealing is chosen, along any list of turns and fed bytes, each unsealing used its key.
 pub fn seal_law()
     ensures { (basis : Basis) (g : Picture) (items : List Item) → IsImage g
         → basis.choice.seal ≡ true → SealSafe (events_by seal_view (run_of basis g items).events) }
 {}
 
 /// Where compartments are chosen, along any list of turns and fed bytes, each store lies in its compartment's permitted
-/// words, and a compartment is entered by right alone. The function does nothing.
+/// words, and a compartment is entered by right alone.
 pub fn comp_law()
     ensures { (basis : Basis) (g : Picture) (items : List Item) → IsImage g
         → basis.choice.comp ≡ true
@@ -64,7 +64,7 @@ pub fn comp_law()
 {}
 
 /// Where control flow is chosen, along any list of turns and fed bytes, each hart runs the image's code alone, and each
-/// indirect jump is a listed edge. The function does nothing.
+/// indirect jump is a listed edge.
 pub fn flow_law()
     ensures { (basis : Basis) (g : Picture) (items : List Item) → IsImage g
         → basis.choice.flow ≡ true
@@ -72,8 +72,7 @@ pub fn flow_law()
         (events_by flow_view (run_of basis g items).events) }
 {}
 
-/// Where heap safety is chosen, along any list of turns and fed bytes, each heap access lies in its pointer's live block. The
-/// function does nothing.
+/// Where heap safety is chosen, along any list of turns and fed bytes, each heap access lies in its pointer's live block.
 pub fn heap_law()
     ensures { (basis : Basis) (g : Picture) (items : List Item) → IsImage g
         → basis.choice.heap ≡ true
@@ -81,8 +80,7 @@ pub fn heap_law()
         (events_by heap_view (run_of basis g items).events) }
 {}
 
-/// Each run keeps what is said of each chosen policy, whatever bytes were there to be got at its start. The function does
-/// nothing.
+/// Each run keeps what is said of each chosen policy, whatever bytes were there to be got at its start.
 pub fn run_law()
     ensures { (basis : Basis) (g : Picture) (feed : Tape) (items : List Item) → IsImage g
         → IsSafe basis g
@@ -90,36 +88,36 @@ pub fn run_law()
 {}
 
 /// In each state that a run comes to, the tags say of the places what the books say of the events: it is one of which the
-/// line of each chosen policy speaks, whatever bytes were there to be got at the run's start. The function does nothing.
-pub fn line_law()
+/// invariant of each chosen policy speaks, whatever bytes were there to be got at the run's start.
+pub fn invariant_law()
     ensures { (basis : Basis) (g : Picture) (feed : Tape) (items : List Item) → IsImage g
-        → IsInLine basis g
+        → MeetsInvariants basis g
         (run_along all (start_machine all (choice_state basis g) g) feed items).events
         (run_along all (start_machine all (choice_state basis g) g) feed items).machine }
 {}
 
-/// In every state of which the line of sealing speaks, a ready hart's turn that unseals without the key ends in a stop that is
-/// no exit. The function does nothing.
+/// In every state of which the invariant of sealing speaks, a ready hart's turn that unseals without the key ends in a stop that is
+/// no exit.
 pub fn seal_attack_law()
     ensures { (events : List (Event SealTag)) (s : Machine AllState AllTag) (feed : Tape) (h : ℕ)
-        → InLine seal_view SealLine events s → is_ready_in s.core h ≡ true
+        → MeetsInvariant seal_view SealInvariant events s → is_ready_in s.core h ≡ true
         → UnsealsWithoutKey (event_with seal_view.tag (event_of all s feed h))
         → IsStopped (event_of all s feed h) }
 {}
 
-/// In every state of which the line of compartments speaks, a ready hart's turn ends in a stop that is no exit where it stores
-/// to a word that is not permitted, or calls a service that would make such a word zero, or obeys a foreign word without right
-/// of entry. The function does nothing.
+/// In every state of which the invariant of compartments speaks, a ready hart's turn ends in a stop that is no exit where it stores
+/// to a word that is not permitted, or calls a service that would make such a word zero, or executes a foreign word without right
+/// of entry.
 pub fn comp_attack_law()
     ensures { (birth : ℕ → Birth) (entries : List ℕ) (events : List (Event CompartmentTag))
         (s : Machine AllState AllTag) (feed : Tape) (h : ℕ)
-        → InLine comp_view (CompLine birth entries) events s → is_ready_in s.core h ≡ true
+        → MeetsInvariant comp_view (CompInvariant birth entries) events s → is_ready_in s.core h ≡ true
         → Trespasses birth entries s.policy events (event_of all s feed h)
         → IsStopped (event_of all s feed h) }
 {}
 
 /// Where heap safety is chosen, malloc would make zero the words at which the block fits first, and free those of the live block
-/// that the pointer in a0 points to, whichever policies are chosen too. The function does nothing.
+/// that the pointer in a0 points to, whichever policies are chosen too.
 pub fn zeroing_law()
     ensures malloc { (policy : AllState) (call : Call AllTag) (base : ℕ)
         → heap_view.is_on policy ≡ true → call.number ≡ malloc_service
@@ -131,21 +129,21 @@ pub fn zeroing_law()
         → WouldZero policy call (record { base = block.base; count = block.words }) }
 {}
 
-/// In every state of which the line of control flow speaks, a ready hart's turn ends in a stop that is no exit where it obeys a
-/// word outside the code, or one to which no edge leads from the jump before. The function does nothing.
+/// In every state of which the invariant of control flow speaks, a ready hart's turn ends in a stop that is no exit where it executes a
+/// word outside the code, or one to which no edge leads from the jump before.
 pub fn flow_attack_law()
     ensures { (birth : ℕ → Birth) (words : List ℕ) (edges : List (ℕ × ℕ))
         (events : List (Event FlowTag)) (s : Machine AllState AllTag) (feed : Tape) (h : ℕ)
-        → InLine flow_view (FlowLine birth words edges) events s → is_ready_in s.core h ≡ true
+        → MeetsInvariant flow_view (FlowInvariant birth words edges) events s → is_ready_in s.core h ≡ true
         → GoesAstray birth words edges events (event_with flow_view.tag (event_of all s feed h))
         → IsStopped (event_of all s feed h) }
 {}
 
-/// In every state of which the line of heap safety speaks, a ready hart's turn ends in a stop that is no exit where it accesses
-/// memory by a pointer that does not reach its live block, or the heap by what is no pointer. The function does nothing.
+/// In every state of which the invariant of heap safety speaks, a ready hart's turn ends in a stop that is no exit where it accesses
+/// memory by a pointer that does not reach its live block, or the heap by what is no pointer.
 pub fn heap_attack_law()
     ensures { (base top : ℕ) (events : List (Event HeapTag)) (s : Machine AllState AllTag)
-        (feed : Tape) (h : ℕ) → InLine heap_view (HeapLine base top) events s
+        (feed : Tape) (h : ℕ) → MeetsInvariant heap_view (HeapInvariant base top) events s
         → is_ready_in s.core h ≡ true
         → MissesBlock base top (block_book events)
         (event_with heap_view.tag (event_of all s feed h))

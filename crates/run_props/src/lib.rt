@@ -6,6 +6,6 @@
 mod law;
 
 pub use law::{
-    comp_attack_law, comp_law, flow_attack_law, flow_law, heap_attack_law, heap_law, line_law,
+    comp_attack_law, comp_law, flow_attack_law, flow_law, heap_attack_law, heap_law, invariant_law,
     parts_law, run_law, seal_attack_law, seal_law, zeroing_law,
 };

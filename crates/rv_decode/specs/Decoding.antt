@@ -1,5 +1,5 @@
 -- The instruction of a word as a function, by taking the fields out of the word.
--- It promises nothing by itself: that it finds the rows of the table, all and only those, is what `decode` and `table_law` ensure.
+-- It guarantees nothing by itself: that it finds the rows of the table, all and only those, is what `decode` and `table_law` ensure.
 use Rattle.std.specs.Prelude.{ℕ, ◌==◌, if◌then◌else◌, Option, Some, None}
 use Rattle.rv_decode.specs.Fields.{opcode_of, rd_of, f3_of, rs1_of, rs2_of, f7_of, immediate_of, store_offset_of, branch_offset_of, upper_immediate_of, jump_offset_of}
 use Rattle.rv_decode.specs.declared.instructions.Instr.{Instr}

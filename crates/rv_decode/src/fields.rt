@@ -10,7 +10,7 @@ use pump_words::{sign12, sign13, sign21};
 use std::marker::Model;
 
 /// The number of a register, 0 to 31.
-#[derive(Clone, Copy, Debug, PartialEq, Eq)]
+#[derive(Clone, Copy, PartialEq, Eq)]
 pub struct Register {
     number: u8,
 }
@@ -70,7 +70,7 @@ impl Register {
 }
 
 /// The amount of a shift by a constant, 0 to 31.
-#[derive(Clone, Copy, Debug, PartialEq, Eq)]
+#[derive(Clone, Copy, PartialEq, Eq)]
 pub struct ShiftAmount {
     count: u32,
 }
@@ -117,7 +117,7 @@ impl ShiftAmount {
 }
 
 /// An immediate or offset of 12 bits, sign-extended to a word: -2048 to 2047.
-#[derive(Clone, Copy, Debug, PartialEq, Eq)]
+#[derive(Clone, Copy, PartialEq, Eq)]
 pub struct Immediate {
     word: u32,
 }
@@ -164,7 +164,7 @@ impl Immediate {
 }
 
 /// The offset of a branch: an even number of 13 bits, sign-extended to a word, -4096 to 4094.
-#[derive(Clone, Copy, Debug, PartialEq, Eq)]
+#[derive(Clone, Copy, PartialEq, Eq)]
 pub struct BranchOffset {
     word: u32,
 }
@@ -213,7 +213,7 @@ impl BranchOffset {
 }
 
 /// The offset of a jump: an even number of 21 bits, sign-extended to a word, -1048576 to 1048574.
-#[derive(Clone, Copy, Debug, PartialEq, Eq)]
+#[derive(Clone, Copy, PartialEq, Eq)]
 pub struct JumpOffset {
     word: u32,
 }
@@ -262,7 +262,7 @@ impl JumpOffset {
 }
 
 /// The upper 20 bits of a word, with twelve zeros below.
-#[derive(Clone, Copy, Debug, PartialEq, Eq)]
+#[derive(Clone, Copy, PartialEq, Eq)]
 pub struct UpperImmediate {
     word: u32,
 }
@@ -318,7 +318,7 @@ impl UpperImmediate {
 }
 
 /// The word of a FENCE: opcode 0F and f3 0, with all other bits free.
-#[derive(Clone, Copy, Debug, PartialEq, Eq)]
+#[derive(Clone, Copy, PartialEq, Eq)]
 pub struct FenceWord {
     word: u32,
 }

@@ -17,7 +17,7 @@ pub(crate) const GET: u32 = 2;
 /// An operation group: instructions that the rules of a policy treat alike.
 ///
 /// The groups are this project's profile.
-#[derive(Clone, Copy, PartialEq, Eq, PartialOrd, Ord, Hash)]
+#[derive(Clone, Copy, PartialEq, Eq)]
 pub enum Group {
     /// LUI.
     Const,

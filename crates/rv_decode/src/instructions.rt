@@ -7,7 +7,7 @@ use crate::fields::{
 /// One instruction of RV32I, as the RISC-V unprivileged ISA has it.
 ///
 /// Immediates are sign-extended words. Sums wrap modulo 2^32.
-#[derive(Clone, Copy, PartialEq, Eq)]
+#[derive(Clone, Copy)]
 pub enum Instr {
     /// rd becomes imm.
     Lui {

@@ -39,7 +39,7 @@ pub enum Slot {
 
 /// The registers of an instruction's operands and of its result, as a turn takes them: x0, which is 0 and plain and
 /// drops what is written, stands for each that there is not.
-#[derive(Clone, Copy, PartialEq, Eq)]
+#[derive(Clone, Copy)]
 pub struct Places {
     /// The register of the first operand.
     pub first: Register,

@@ -9,7 +9,7 @@ use Rattle.sealing_policy.specs.Sealing.{HasFewKeys, key_limit}
 use Rattle.sealing_policy.specs.declared.tag.SealTag.{SealTag}
 use Rattle.sealing_policy.specs.declared.tag.SealTag.TheVariants.{Data, Key, Sealed}
 use Rattle.seal_runs.specs.KeyBook.{KeyBook, key_book, keys_after, no_keys, with_key, with_pair}
-use Rattle.seal_runs.specs.SealLine.{Fits}
+use Rattle.seal_runs.specs.SealInvariant.{Fits}
 
 -- ---- one event more
 

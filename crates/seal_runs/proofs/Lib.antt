@@ -1,5 +1,5 @@
 mod BookLemmas
-mod LineLemmas
+mod InvariantLemmas
 mod RuleLemmas
 mod ServiceLemmas
 pub mod StartLemmas

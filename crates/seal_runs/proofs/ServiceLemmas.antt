@@ -1,4 +1,4 @@
--- What a service does in the key book, what it promises, and that what it leaves fits.
+-- What a service does in the key book, what it guarantees, and that what it leaves fits.
 use Rattle.std.proofs.Common.{◌≡◌, ℕ, ◌<◌, ◌==◌, nat_lt, Bool, true, false, [], ◌∷◌, ◌++◌, length, Some, Result, Ok, Err, refl, sym, ap, ◌∙◌, subst, arith, if◌then◌else◌}
 use Rattle.std.specs.List.{Contains}
 use Rattle.std.proofs.lemmas.Bool.Decides.{nat_tests}
@@ -23,7 +23,7 @@ use Rattle.sealing_policy.specs.Sealing.{answering, key_limit, key_plan, refused
 use Rattle.sealing_policy.specs.declared.tag.SealTag.{SealTag}
 use Rattle.sealing_policy.specs.declared.tag.SealTag.TheVariants.{Data, Key, Sealed}
 use Rattle.seal_runs.specs.KeyBook.{KeyBook, answer_value, keys_by, with_key, with_pair}
-use Rattle.seal_runs.specs.SealLine.{Fits}
+use Rattle.seal_runs.specs.SealInvariant.{Fits}
 use Rattle.seal_runs.specs.SealSafe.{UsesKey}
 use Rattle.seal_runs.proofs.BookLemmas.{Grows, HasKeys, has_next_key, key_grows, pair_grows, same_grows}
 
@@ -38,7 +38,7 @@ book_by book a number p = keys_by book (Some (service_by_plan number a p))
 -- ---- what a service leaves
 
 module _ (book : KeyBook) (keys : ℕ) (a : Args SealTag) where
-  -- the book grows, the keys are counted, the answer and the words fit, and the promise is kept
+  -- the book grows, the keys are counted, the answer and the words fit, and the guarantee is kept
   pub record IsServedBy (number : ℕ) (p : Plan SealTag) : Type 0 where
     pub grows : Grows book (book_by book a number p)
     pub has : HasKeys (book_by book a number p) (value_after sealing keys p)

@@ -13,7 +13,7 @@ use Rattle.sealing_policy.specs.Sealing.{sealing}
 use Rattle.sealing_policy.specs.declared.tag.SealTag.{SealTag}
 use Rattle.sealing_policy.specs.declared.tag.SealTag.TheVariants.{Data}
 use Rattle.seal_runs.specs.KeyBook.{KeyBook, key_book}
-use Rattle.seal_runs.specs.SealLine.{Fits, SealLine}
+use Rattle.seal_runs.specs.SealInvariant.{Fits, SealInvariant}
 
 -- data fits any book
 data_fits : (book : KeyBook) (value : ℕ) (tag : SealTag) → tag ≡ Data → Fits book value tag
@@ -48,9 +48,9 @@ module _ (birth : ℕ → Birth) (words entries : List ℕ) where
     ram = are;
   }
 
-  pub first_line : All IsWord words → SealLine [] (first_machine sealing 0 birth words entries)
+  pub first_invariant : All IsWord words → SealInvariant [] (first_machine sealing 0 birth words entries)
   unfolding key_book
-  first_line are = record {
+  first_invariant are = record {
     registers = λ h r. data_fits (key_book {T = SealTag} []) _ _ (hart_data h r);
     words = λ address. data_fits (key_book {T = SealTag} []) _ _ (get_or-map (λ (n : ℕ). Data) (range_with_len 0 (length words)) (address / 4) 0);
     pcs = pc_data;

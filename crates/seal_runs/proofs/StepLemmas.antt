@@ -23,8 +23,8 @@ use Rattle.sealing_policy.specs.Sealing.{row_of, sealing_rule, tag_from}
 use Rattle.sealing_policy.specs.declared.tag.SealTag.{SealTag}
 use Rattle.sealing_policy.specs.declared.tag.SealTag.TheVariants.{Data}
 use Rattle.seal_runs.specs.KeyBook.{KeyBook}
-use Rattle.seal_runs.specs.SealLine.{Fits}
-use Rattle.seal_runs.proofs.LineLemmas.{FitHart, FitRam}
+use Rattle.seal_runs.specs.SealInvariant.{Fits}
+use Rattle.seal_runs.proofs.InvariantLemmas.{FitHart, FitRam}
 use Rattle.seal_runs.proofs.RuleLemmas.{computed_tag, result_tag}
 
 module _ (book : KeyBook) (hart : HartState SealTag) (ram : RamState SealTag)

@@ -1,4 +1,4 @@
--- Each turn under sealing keeps the line, and does what the key book allows.
+-- Each turn under sealing keeps the invariant, and does what the key book allows.
 use Rattle.std.proofs.Common.{◌≡◌, ℕ, true, List, [], ◌∷◌, ◌++◌, length, Some, None, Ok, sym, ap, ◌∙◌, subst}
 use Rattle.std.specs.Option.{ForSome}
 use Rattle.std.proofs.lemmas.Option.{none-some, same_Some}
@@ -26,10 +26,10 @@ use Rattle.part_turns.specs.Turns.{Does, Turns, after_service, after_step, exits
 use Rattle.sealing_policy.specs.Sealing.{sealing}
 use Rattle.sealing_policy.specs.declared.tag.SealTag.{SealTag}
 use Rattle.seal_runs.specs.KeyBook.{KeyBook, answer_value, key_book, keys_by}
-use Rattle.seal_runs.specs.SealLine.{Fits, SealLine}
+use Rattle.seal_runs.specs.SealInvariant.{Fits, SealInvariant}
 use Rattle.seal_runs.specs.SealSafe.{SealTurn, UsesKey}
 use Rattle.seal_runs.proofs.BookLemmas.{book_after, fits_grown, same_grows}
-use Rattle.seal_runs.proofs.LineLemmas.{FitHart, Holds, holds_from, line_from, pcs_put_back, put_back, ready_shape}
+use Rattle.seal_runs.proofs.InvariantLemmas.{FitHart, Holds, holds_from, invariant_from, pcs_put_back, put_back, ready_shape}
 use Rattle.seal_runs.proofs.RuleLemmas.{pc_tag}
 use Rattle.seal_runs.proofs.ServiceLemmas.{IsServedBy, book_by, served_by, service_by_plan}
 use Rattle.seal_runs.proofs.StepLemmas.{step_fits}
@@ -104,17 +104,17 @@ module _ (book : KeyBook) (s : SealMachine) (h : ℕ) (sound : IsMachine sealing
         keys = served.has;
       }
 
--- ---- the line and the promise
+-- ---- the invariant and the guarantee
 
 module _ (before : List SealEvent) (e : SealEvent) where
   abbrev Kept : SealMachine → Type 0
-  Kept t = SealTurn (key_book before) e × SealLine (before ++ e ∷ []) t
+  Kept t = SealTurn (key_book before) e × SealInvariant (before ++ e ∷ []) t
 
   -- a turn without a service
   quiet_kept : (t : SealMachine) → service_of e ≡ None → Holds (key_book before) t → HasWords t.core → Kept t
   quiet_kept t none holds values = (
     record { makes = λ x is. absurd (none-some x (sym none ∙ is)); unseals = λ x is. absurd (none-some x (sym none ∙ is)) },
-    line_from (before ++ e ∷ []) (key_book before) t (book_after before e ∙ ap (keys_by (key_book before)) none) holds values,
+    invariant_from (before ++ e ∷ []) (key_book before) t (book_after before e ∙ ap (keys_by (key_book before)) none) holds values,
   )
 
   -- a turn with that service
@@ -126,35 +126,35 @@ module _ (before : List SealEvent) (e : SealEvent) where
           subst (λ (y : Service SealTag). y.number ≡ 16 → answer_value y.answer ≡ Some (length (key_book before).made)) (same x told) served.makes;
       unseals = λ x told. subst (λ (y : Service SealTag). y.number ≡ 18 → UsesKey (key_book before) y) (same x told) served.unseals;
     },
-    line_from (before ++ e ∷ []) (book_by (key_book before) a number p) t (book_after before e ∙ ap (keys_by (key_book before)) is) holds values,
+    invariant_from (before ++ e ∷ []) (book_by (key_book before) a number p) t (book_after before e ∙ ap (keys_by (key_book before)) is) holds values,
   )
     where
       same : (x : Service SealTag) → service_of e ≡ Some x → service_by_plan number a p ≡ x
       same x told = same_Some (service_by_plan number a p) x (sym is ∙ told)
 
-  module _ (s : SealMachine) (h : ℕ) (sound : IsMachine sealing s) (line : SealLine before s) where
+  module _ (s : SealMachine) (h : ℕ) (sound : IsMachine sealing s) (invariant : SealInvariant before s) where
     -- what holds before the turn
     abbrev first : Holds (key_book before) s
-    first = holds_from before s line
+    first = holds_from before s invariant
 
     turn_kept : (t : SealMachine) → Turns sealing s h e t → HasWords t.core → Kept t
     turn_kept t (idles waits hart unretired none left) values = quiet_kept t none (subst (Holds (key_book before)) (sym left) first) values
     turn_kept t (stops why ready hart unretired none left) values =
-        quiet_kept t none (subst (Holds (key_book before)) (sym left) (stop_holds (key_book before) s h sound first line.values why)) values
+        quiet_kept t none (subst (Holds (key_book before)) (sym left) (stop_holds (key_book before) s h sound first invariant.values why)) values
     turn_kept t (exits look outs code allows none is touches left) values =
-        quiet_kept t none (subst (Holds (key_book before)) (sym left) (stop_holds (key_book before) s h sound first line.values _)) values
+        quiet_kept t none (subst (Holds (key_book before)) (sym left) (stop_holds (key_book before) s h sound first invariant.values _)) values
     turn_kept t (goes look outs register value allows none does left) values =
         quiet_kept t none
         (subst (Holds (key_book before)) (sym left)
-        (step_holds (key_book before) s h sound first line.values allows.ready look outs register value allows.rule does)) values
+        (step_holds (key_book before) s h sound first invariant.values allows.ready look outs register value allows.rule does)) values
     turn_kept t (serves look outs p words allows is touches told planned is_range retagged left) values =
         let a : Args SealTag = args_on (hart_at s.core h) s.core.ram in
         let served : IsServedBy (key_book before) s.policy a look.service p =
         served_by (key_book before) s.policy first.keys a outs.pc (first.harts h a0) (first.harts h 11) look.service p planned in
         served_kept t s.policy a look.service p told served
         (subst (Holds (book_by (key_book before) a look.service p)) (sym left)
-        (service_holds (key_book before) s h sound first line.values allows.ready look.service p words served look outs allows.rule is_range retagged))
+        (service_holds (key_book before) s h sound first invariant.values allows.ready look.service p words served look outs allows.rule is_range retagged))
         values
 
-pub keeps_line : Keeps sealing SealLine (λ before event. SealTurn (key_book before) event)
-keeps_line = record { turn = λ before s h e t sound line turns stay. turn_kept before e s h sound line t turns (stay line.values) }
+pub keeps_invariant : Keeps sealing SealInvariant (λ before event. SealTurn (key_book before) event)
+keeps_invariant = record { turn = λ before s h e t sound invariant turns stay. turn_kept before e s h sound invariant t turns (stay invariant.values) }

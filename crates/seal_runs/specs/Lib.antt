@@ -1,3 +1,3 @@
 pub mod KeyBook
-pub mod SealLine
+pub mod SealInvariant
 pub mod SealSafe

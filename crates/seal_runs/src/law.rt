@@ -8,17 +8,17 @@ ghost use Rattle.turn_steps.specs.Values.{IsWord};
 ghost use Rattle.part_turns.specs.Keeps.{Keeps};
 ghost use Rattle.part_turns.specs.Start.{first_machine};
 ghost use Rattle.seal_runs.specs.KeyBook.{key_book};
-ghost use Rattle.seal_runs.specs.SealLine.{SealLine};
+ghost use Rattle.seal_runs.specs.SealInvariant.{SealInvariant};
 ghost use Rattle.seal_runs.specs.SealSafe.{SealTurn};
 
-/// Each turn under sealing keeps its line, and does what the key book as it stands allows; so does each turn in which other
-/// policies are chosen too. The function does nothing.
+/// Each turn under sealing keeps its invariant, and does what the key book as it stands allows; so does each turn in which other
+/// policies are chosen too.
 pub fn key_law()
-    ensures { Keeps sealing SealLine (λ before event. SealTurn (key_book before) event) }
+    ensures { Keeps sealing SealInvariant (λ before event. SealTurn (key_book before) event) }
 {}
 
-/// The line holds at every start whose memory has words. The function does nothing.
+/// The invariant holds at every start whose memory has words.
 pub fn start_law()
     ensures { (birth : ℕ → Birth) (words entries : List ℕ)
-        → All IsWord words → SealLine [] (first_machine sealing 0 birth words entries) }
+        → All IsWord words → SealInvariant [] (first_machine sealing 0 birth words entries) }
 {}

@@ -168,12 +168,12 @@ impl Sealing {
 }
 
 /// Appends a number in parentheses behind a text that ends in the opening one.
-fn show_number(to: &mut Line, front: &[u8], number: u32)
-    requires { array_vec_len to.old + length front.now + 21 ≤ 512 }
-    ensures text { to.new.items ≡ to.old.items ++ front.now ++ decimal number ++ codes ")" }
-    ensures short { array_vec_len to.new ≤ array_vec_len to.old + length front.now + 21 }
+fn show_number(to: &mut Line, prefix: &[u8], number: u32)
+    requires { array_vec_len to.old + length prefix.now + 21 ≤ 512 }
+    ensures text { to.new.items ≡ to.old.items ++ prefix.now ++ decimal number ++ codes ")" }
+    ensures short { array_vec_len to.new ≤ array_vec_len to.old + length prefix.now + 21 }
 {
-    write_text(to, front);
+    write_text(to, prefix);
     dec(to, u64::from(number));
     write_text(to, b")");
 }

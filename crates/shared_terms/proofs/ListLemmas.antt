@@ -13,6 +13,6 @@ last_set {A} xs x some =
 pub last_split : {A : Type 0} (xs : List A) (none : A) → 0 < length xs → xs ≡ take (length xs - 1) xs ++ get_or xs (length xs - 1) none ∷ []
 last_split xs none some = sym (set-get_or xs (length xs - 1) none) ∙ last_set xs (get_or xs (length xs - 1) none) some
 
--- a walk's front and its next element
+-- a walk's prefix and its next element
 pub take_next : {A : Type 0} (xs : List A) (k : ℕ) (d : A) → k < length xs → take (k + 1) xs ≡ take k xs ++ get_or xs k d ∷ []
 take_next xs k d lt = ap (λ n. take n xs) (let next : k + 1 ≡ suc k = omega arith in next) ∙ take-suc xs k d lt

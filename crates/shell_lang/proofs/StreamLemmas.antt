@@ -114,19 +114,19 @@ rest_of bytes =
     ∙ ap (λ lines. end_answer (last_of lines)) (begun_empty bytes)
 
 -- a stream in two pieces is read as a whole
-pub line_in_pieces : (line : Text) (front back : List ℕ) → line_along line (front ++ back) ≡ line_along (line_along line front) back
+pub line_in_pieces : (line : Text) (prefix back : List ℕ) → line_along line (prefix ++ back) ≡ line_along (line_along line prefix) back
 unfolding line_along
 line_in_pieces line [] back = refl
-line_in_pieces line (byte ∷ front) back = line_in_pieces (line_after line byte) front back
+line_in_pieces line (byte ∷ prefix) back = line_in_pieces (line_after line byte) prefix back
 
-onto_append : (answer : Option Answer) (front back : List Answer) → onto_answers answer (front ++ back) ≡ onto_answers answer front ++ back
-onto_append None front back = refl
-onto_append (Some answer) front back = refl
+onto_append : (answer : Option Answer) (prefix back : List Answer) → onto_answers answer (prefix ++ back) ≡ onto_answers answer prefix ++ back
+onto_append None prefix back = refl
+onto_append (Some answer) prefix back = refl
 
-pub answers_in_pieces : (line : Text) (front back : List ℕ)
-    → answers_along line (front ++ back) ≡ answers_along line front ++ answers_along (line_along line front) back
+pub answers_in_pieces : (line : Text) (prefix back : List ℕ)
+    → answers_along line (prefix ++ back) ≡ answers_along line prefix ++ answers_along (line_along line prefix) back
 unfolding answers_along line_along
 answers_in_pieces line [] back = refl
-answers_in_pieces line (byte ∷ front) back =
-    let rest = answers_in_pieces (line_after line byte) front back in
-    rw rest (onto_append (byte_answer line byte) (answers_along (line_after line byte) front) (answers_along (line_along (line_after line byte) front) back))
+answers_in_pieces line (byte ∷ prefix) back =
+    let rest = answers_in_pieces (line_after line byte) prefix back in
+    rw rest (onto_append (byte_answer line byte) (answers_along (line_after line byte) prefix) (answers_along (line_along (line_after line byte) prefix) back))

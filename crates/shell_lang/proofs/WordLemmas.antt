@@ -71,8 +71,8 @@ first_word : (b : ℕ) (text : Text) → is_space b ≡ false
     → words_of (b ∷ text) ≡ take (position_or_len is_space (b ∷ text)) (b ∷ text) ∷ words_of (drop (position_or_len is_space (b ∷ text)) (b ∷ text))
 unfolding words_of
 first_word b text e =
-    let front : Cut text = cut text in
-    rw (e, one_more (position_or_len is_space text), front.whole) (ap (λ words. (b ∷ take (position_or_len is_space text) text) ∷ words) front.rest)
+    let prefix : Cut text = cut text in
+    rw (e, one_more (position_or_len is_space text), prefix.whole) (ap (λ words. (b ∷ take (position_or_len is_space text) text) ∷ words) prefix.rest)
 
 -- a text that has a byte behind the spaces in front has a word there
 pub word_cut : (text from : Text) (count : ℕ) → from ≡ drop (position_or_len is_other text) text → 0 < length from → count ≡ position_or_len is_space from

@@ -153,7 +153,7 @@ named_command name operands =
     option_or (running_command name operands)
     (option_or (hart_view name operands) (option_or (machine_view name operands) (session_command name operands)))
 
--- a line without words is obeyed as nothing
+-- a line without words is executed as nothing
 abbrev pub words_answer : List Text → Answer
 words_answer [] = Ok Blank
 words_answer (name ∷ operands) = unwrap_or (named_command name operands) (Err UnknownWord)

@@ -7,16 +7,16 @@ ghost use Rattle.shell_lang.specs.Words.{Text};
 
 /// From its start the reader answers, along any bytes, the lines that a newline ends, each as it is read alone; and where the
 /// stream then ends, what stands behind the last newline. How the stream was cut into pieces is not to be seen in its
-/// answers, nor in what it keeps. The function does nothing.
+/// answers, nor in what it keeps.
 pub fn stream_law()
     ensures lines { (bytes : List ℕ)
         → answers_along [] bytes ≡ map line_answer (ended_lines bytes) }
     ensures rest { (bytes : List ℕ)
         → end_answer (line_along [] bytes) ≡ end_answer (open_line bytes) }
 
-    ensures pieces { (line : Text) (front back : List ℕ)
-        → answers_along line (front ++ back)
-        ≡ answers_along line front ++ answers_along (line_along line front) back }
-    ensures kept { (line : Text) (front back : List ℕ)
-        → line_along line (front ++ back) ≡ line_along (line_along line front) back }
+    ensures pieces { (line : Text) (prefix back : List ℕ)
+        → answers_along line (prefix ++ back)
+        ≡ answers_along line prefix ++ answers_along (line_along line prefix) back }
+    ensures kept { (line : Text) (prefix back : List ℕ)
+        → line_along line (prefix ++ back) ≡ line_along (line_along line prefix) back }
 {}

@@ -13,7 +13,7 @@ use std::marker::Model;
 /// A reader of a stream of bytes as lines, which takes one byte at a time, and no memory. Of the line begun it keeps what
 /// tells its answer: its first 257 bytes, where a line of more than 256 is too long. What it answers along a stream is said by
 /// `stream_law`.
-#[derive(Debug, Drop)]
+#[derive(Drop)]
 pub struct Lines {
     begun: ArrayVec<u8, 257>,
 }

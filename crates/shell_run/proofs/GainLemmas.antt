@@ -22,13 +22,13 @@ use Rattle.shell_run.specs.Session.{SessionState, is_hart, is_place, is_range}
 -- ---- events along some items, and then others
 
 module _ {S T : Type 0} (m : PolicyModel T S) where
-  events_more : (s : Machine S T) (feed : Tape) (front back : List Item)
-      → (run_along m s feed (front ++ back)).events
-      ≡ (run_along m s feed front).events ++ (run_along m (run_along m s feed front).machine (run_along m s feed front).feed back).events
+  events_more : (s : Machine S T) (feed : Tape) (prefix back : List Item)
+      → (run_along m s feed (prefix ++ back)).events
+      ≡ (run_along m s feed prefix).events ++ (run_along m (run_along m s feed prefix).machine (run_along m s feed prefix).feed back).events
   events_more s feed [] back = refl
-  events_more s feed (turn h ∷ front) back =
-      ap (λ events. event_of m s feed h ∷ events) (events_more (turn_of m s feed h).machine (turn_of m s feed h).feed front back)
-  events_more s feed (fed byte ∷ front) back = events_more s (with_fed feed (byte ∷ [])) front back
+  events_more s feed (turn h ∷ prefix) back =
+      ap (λ events. event_of m s feed h ∷ events) (events_more (turn_of m s feed h).machine (turn_of m s feed h).feed prefix back)
+  events_more s feed (fed byte ∷ prefix) back = events_more s (with_fed feed (byte ∷ [])) prefix back
 
   -- bytes that are fed show nothing
   fed_none : (s : Machine S T) (feed : Tape) (bytes : List ℕ) → (run_along m s feed (map fed bytes)).events ≡ []

@@ -44,7 +44,7 @@ module _ (f : ℕ → List ℕ) where
         let rest = lines_from f (0 + (k + 1)) (count - (k + 1)) in
         let all : lines_from f 0 count ≡ (lines_from f 0 k ++ out (f k) ∷ []) ++ rest
         = ap (lines_from f 0) (let e : count ≡ k + 1 + (count - (k + 1)) = omega (arith, below) in e)
-        ∙ listed_on (k + 1) (count - (k + 1)) 0 ∙ ap (λ front. front ++ rest) (listed_next k) in
+        ∙ listed_on (k + 1) (count - (k + 1)) 0 ∙ ap (λ prefix. prefix ++ rest) (listed_next k) in
         subst (λ pieces. PutsOut old new pieces (fails B told)) (sym all)
         (puts_cut_in A B old new (lines_from f 0 k ++ out (f k) ∷ []) rest end told (puts_on old now new (lines_from f 0 k) (out (f k) ∷ []) tt (fails A end) puts one))
 

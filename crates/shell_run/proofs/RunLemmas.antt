@@ -21,16 +21,16 @@ record EndAlike {S T : Type 0} (one other : Trace S T) : Type 0 where
 
 module _ {S T : Type 0} (m : PolicyModel T S) where
   -- some items, and then others
-  abbrev after_front : Machine S T → Tape → List Item → List Item → Trace S T
-  after_front s feed front back = run_along m (run_along m s feed front).machine (run_along m s feed front).feed back
+  abbrev after_prefix : Machine S T → Tape → List Item → List Item → Trace S T
+  after_prefix s feed prefix back = run_along m (run_along m s feed prefix).machine (run_along m s feed prefix).feed back
 
-  run_more : (s : Machine S T) (feed : Tape) (front back : List Item) → EndAlike (run_along m s feed (front ++ back)) (after_front s feed front back)
+  run_more : (s : Machine S T) (feed : Tape) (prefix back : List Item) → EndAlike (run_along m s feed (prefix ++ back)) (after_prefix s feed prefix back)
   run_more s feed [] back = record { machine = refl; feed = refl }
-  run_more s feed (turn h ∷ front) back =
-      let more = run_more (turn_of m s feed h).machine (turn_of m s feed h).feed front back in
+  run_more s feed (turn h ∷ prefix) back =
+      let more = run_more (turn_of m s feed h).machine (turn_of m s feed h).feed prefix back in
       record { machine = more.machine; feed = more.feed }
-  run_more s feed (fed byte ∷ front) back =
-      let more = run_more s (with_fed feed (byte ∷ [])) front back in
+  run_more s feed (fed byte ∷ prefix) back =
+      let more = run_more s (with_fed feed (byte ∷ [])) prefix back in
       record { machine = more.machine; feed = more.feed }
 
   run_fed : (s : Machine S T) (feed : Tape) (bytes : List ℕ) → EndAlike (run_along m s feed (map fed bytes)) (record { machine = s; feed = with_fed feed bytes; events = [] })

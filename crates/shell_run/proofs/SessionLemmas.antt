@@ -42,11 +42,11 @@ module _ {S T : Type 0} (eq : T → T → Bool) (m : PolicyModel T S) (s : Sessi
       left = leaves.feed;
       taken = mid;
       whole = puts_as old mid (turns eq m breaks budget order s.standing s.feed).pieces count tt puts;
-      front = subst (λ (counted : ℕ). PutsOut mid new (out (turns_line counted) ∷ []) (cut_by end)) leaves.count line;
+      prefix = subst (λ (counted : ℕ). PutsOut mid new (out (turns_line counted) ∷ []) (cut_by end)) leaves.count line;
     }));
   }
 
--- ---- a command that is obeyed ends no session
+-- ---- a command that is executed ends no session
 
 module _ {S T : Type 0} (s : SessionState S T) where
   checked_lives : (test : Bool) (reply : Reply S T) → reply.after.ended ≡ s.ended → (reply_if s test reply).after.ended ≡ s.ended

@@ -135,7 +135,7 @@ module _ {S T : Type 0} (eq : T → T → Bool) (m : PolicyModel T S) (s : Sessi
 -- ---- commands that are cut short
 
 module _ {S T : Type 0} (eq : T → T → Bool) (m : PolicyModel T S) where
-  -- Cut short while the number of the turns was told: all of them were made, and all that they tell was put, and a front of that
+  -- Cut short while the number of the turns was told: all of them were made, and all that they tell was put, and a prefix of that
   -- line.
   pub record IsCutInCount (breaks : List ℕ) (budget : ℕ) (order : Order) (e : Standing S T) (feed : Tape) (f : Standing S T) (fed : Tape)
       (old new : Option (List ℕ)) (end : ObeyEnd) : Type 0 where
@@ -144,7 +144,7 @@ module _ {S T : Type 0} (eq : T → T → Bool) (m : PolicyModel T S) where
     -- what the sink had taken before that line
     pub taken : Option (List ℕ)
     pub whole : PutsOut old taken (turns eq m breaks budget order e feed).pieces all_put
-    pub front : PutsOut taken new (out (turns_line (length (turns eq m breaks budget order e feed).harts)) ∷ []) (cut_by end)
+    pub prefix : PutsOut taken new (out (turns_line (length (turns eq m breaks budget order e feed).harts)) ∷ []) (cut_by end)
 
   module _ (s : SessionState S T) where
     -- A session whose command was cut short: it stands as it did, or, where turns were asked for, after the last of them that was

@@ -13,7 +13,7 @@ use policy_trait::Policy;
 
 /// The machine and the feed of a session are those of a run from its start: the counted turns and the fed bytes since then, or
 /// since the last reset, in their order. The reply to a command that makes turns tells the events that the run gains by it, and
-/// their number; no other command gains one (`tells`). The start stays. The function does nothing.
+/// their number; no other command gains one (`tells`). The start stays.
 pub fn session_law<P: Policy>()
     ensures begins { (start : Standing P P.Tag) → IsAlong P.Tag.eq P.model (fresh start) [] }
     ensures goes_on { (s : SessionState P P.Tag) (items : List Item) (command : ShellCommand)

@@ -1,4 +1,4 @@
-//! A session, and how it obeys a command.
+//! A session, and how it executes a command.
 
 ghost use Rattle.std.specs.Prelude.{◌≡◌, ◌≤◌, [], IfErr, IfOk, IfSome, None, OnOk, false, true};
 ghost use Rattle.engine_trait.specs.Accounts.{is_over};
@@ -40,7 +40,7 @@ impl<L: Loader> Model for Session<L> {
 
 impl<L: Loader> Session<L> {
     /// A session at the start that the loader makes, with an empty feed and no breakpoint. `TagsOut` says that the start needs
-    /// more tag words than there may be.
+    /// more tag numbers than there may be.
     pub fn new(alloc: Global, loader: L) -> Result<Session<L>, LoadEnd>
         requires { L.E.P.longest ≤ 460 }
         ensures ok { IfOk result (λ session. session ≡ fresh (L.start loader)) }

@@ -78,36 +78,36 @@ module _ {S T : Type 0} (eq : T → T → Bool) (m : PolicyModel T S) where
   line_told s items (Ok command) along = gains_told eq m s items along command
   line_told s items (Err refusal) along = refl
 
-  module _ (s : SessionState S T) (items : List Item) (front : List Answer) (line : Answer) where
+  module _ (s : SessionState S T) (items : List Item) (prefix : List Answer) (line : Answer) where
     abbrev first : Script S T
-    first = script eq m s front
+    first = script eq m s prefix
 
     abbrev before : List Item
-    before = items_along eq m s items front
+    before = items_along eq m s items prefix
 
     abbrev after : List Item
-    after = items_along eq m s items (front ++ line ∷ [])
+    after = items_along eq m s items (prefix ++ line ∷ [])
 
     -- behind `quit` it adds nothing
     pub closed_by : first.quits ≡ true → after ≡ before
     closed_by quits =
-        items_more s items front (line ∷ []) ∙ ap (λ ends. if ends then before else items_along eq m first.after before (line ∷ [])) quits
+        items_more s items prefix (line ∷ []) ∙ ap (λ ends. if ends then before else items_along eq m first.after before (line ∷ [])) quits
 
     after_is : first.quits ≡ false → after ≡ items_of eq m first.after before line
     after_is goes =
-        items_more s items front (line ∷ []) ∙ ap (λ ends. if ends then before else items_along eq m first.after before (line ∷ [])) goes
+        items_more s items prefix (line ∷ []) ∙ ap (λ ends. if ends then before else items_along eq m first.after before (line ∷ [])) goes
         ∙ items_one first.after before line
 
-    reply_behind : first.quits ≡ false → (script eq m s (front ++ line ∷ [])).pieces ≡ first.pieces ++ (script_of_answer eq m first.after line).pieces
+    reply_behind : first.quits ≡ false → (script eq m s (prefix ++ line ∷ [])).pieces ≡ first.pieces ++ (script_of_answer eq m first.after line).pieces
     reply_behind goes =
         ap (λ (all : Script S T). all.pieces)
-        (script_more eq m s front (line ∷ []) ∙ goes_on first (λ t. script eq m t (line ∷ [])) goes
+        (script_more eq m s prefix (line ∷ []) ∙ goes_on first (λ t. script eq m t (line ∷ [])) goes
         ∙ ap (behind first.pieces) (script_one eq m first.after line))
 
-    pub next_told : IsAlong eq m s items → first.quits ≡ false → TellsNext eq m s front line (events_along eq m s before) (events_along eq m s after)
+    pub next_told : IsAlong eq m s items → first.quits ≡ false → TellsNext eq m s prefix line (events_along eq m s before) (events_along eq m s after)
     next_told along goes =
-        let start = ap (λ (e : Standing S T). e.machine) (script_start s front) in
-        let told = line_told first.after before line (script_goes eq m s items front along) in
+        let start = ap (λ (e : Standing S T). e.machine) (script_start s prefix) in
+        let told = line_told first.after before line (script_goes eq m s items prefix along) in
         record {
           reply = reply_behind goes;
           gain =
@@ -118,20 +118,20 @@ module _ {S T : Type 0} (eq : T → T → Bool) (m : PolicyModel T S) where
 
   -- ---- an input
 
-  module _ (s : SessionState S T) (front last : List Answer) where
+  module _ (s : SessionState S T) (prefix last : List Answer) where
     abbrev shell_by : Bool → Bool → Shell S T
     shell_by quits long =
-        if quits then ending_so Quit (script eq m s front) else
-        if long then ending_so TooLong (script eq m s front) else
-        at_the_end (followed_by (script eq m s front) (λ t. script eq m t last))
+        if quits then ending_so Quit (script eq m s prefix) else
+        if long then ending_so TooLong (script eq m s prefix) else
+        at_the_end (followed_by (script eq m s prefix) (λ t. script eq m t last))
 
-    shell_told : (quits long : Bool) → (script eq m s front).quits ≡ quits
-        → (shell_by quits long).pieces ≡ (script eq m s (front ++ (if long then [] else last))).pieces
+    shell_told : (quits long : Bool) → (script eq m s prefix).quits ≡ quits
+        → (shell_by quits long).pieces ≡ (script eq m s (prefix ++ (if long then [] else last))).pieces
     shell_told true long is =
         let rest = if long then [] else last in
-        sym (ap (λ (all : Script S T). all.pieces) (script_more eq m s front rest ∙ quit_ends (script eq m s front) (λ t. script eq m t rest) is))
-    shell_told false true is = ap (λ lines. (script eq m s lines).pieces) (sym (append-nil front))
-    shell_told false false is = ap (λ (all : Script S T). all.pieces) (sym (script_more eq m s front last))
+        sym (ap (λ (all : Script S T). all.pieces) (script_more eq m s prefix rest ∙ quit_ends (script eq m s prefix) (λ t. script eq m t rest) is))
+    shell_told false true is = ap (λ lines. (script eq m s lines).pieces) (sym (append-nil prefix))
+    shell_told false false is = ap (λ (all : Script S T). all.pieces) (sym (script_more eq m s prefix last))
 
   -- what a session over an input replies is what it replies to these lines
   pub shell_is_told : (limit : ℕ) (s : SessionState S T) (input : List ℕ) → (shell_of eq m limit s input).pieces ≡ (script eq m s (lines_within limit input)).pieces

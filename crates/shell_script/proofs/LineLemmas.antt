@@ -24,20 +24,20 @@ answers_of_none line = refl
 
 -- the next byte of a stream
 module _ (line : Text) (bytes : List ℕ) (k d byte : ℕ) (below : k < length bytes) (is : byte ≡ get_or bytes k d) where
-  abbrev front : List ℕ
-  front = take k bytes
+  abbrev prefix : List ℕ
+  prefix = take k bytes
 
-  next_is : take (k + 1) bytes ≡ front ++ byte ∷ []
+  next_is : take (k + 1) bytes ≡ prefix ++ byte ∷ []
   next_is =
-      take_next bytes k d below ∙ ap (λ next. front ++ next ∷ []) (sym is)
+      take_next bytes k d below ∙ ap (λ next. prefix ++ next ∷ []) (sym is)
 
-  pub line_next : line_along line (take (k + 1) bytes) ≡ line_after (line_along line front) byte
-  line_next = ap (line_along line) next_is ∙ line_in_pieces line front (byte ∷ []) ∙ line_of_one (line_along line front) byte
+  pub line_next : line_along line (take (k + 1) bytes) ≡ line_after (line_along line prefix) byte
+  line_next = ap (line_along line) next_is ∙ line_in_pieces line prefix (byte ∷ []) ∙ line_of_one (line_along line prefix) byte
 
-  pub answers_next : answers_along line (take (k + 1) bytes) ≡ answers_along line front ++ onto_answers (byte_answer (line_along line front) byte) []
+  pub answers_next : answers_along line (take (k + 1) bytes) ≡ answers_along line prefix ++ onto_answers (byte_answer (line_along line prefix) byte) []
   answers_next =
-      ap (answers_along line) next_is ∙ answers_in_pieces line front (byte ∷ [])
-      ∙ ap (λ answers. answers_along line front ++ answers) (answers_of_one (line_along line front) byte)
+      ap (answers_along line) next_is ∙ answers_in_pieces line prefix (byte ∷ [])
+      ∙ ap (λ answers. answers_along line prefix ++ answers) (answers_of_one (line_along line prefix) byte)
 
 -- all bytes of a stream, by some of the first
 pub answers_all : (line : Text) (bytes : List ℕ) (k : ℕ) → answers_along line bytes ≡ answers_along line (take k bytes) ++ answers_along (line_along line (take k bytes)) (drop k bytes)

@@ -1,4 +1,4 @@
--- Lines that are obeyed one after another.
+-- Lines that are executed one after another.
 use Rattle.std.proofs.Common.{◌≡◌, ℕ, Bool, true, false, List, [], ◌∷◌, ◌++◌, if◌then◌else◌, Option, refl, ap, sym, subst, ◌∙◌, append-nil, append_assoc}
 use Rattle.host_io.specs.Pieces.{Piece}
 use Rattle.policy_trait.specs.Model.{PolicyModel}
@@ -82,7 +82,7 @@ module _ {S T : Type 0} (eq : T → T → Bool) (m : PolicyModel T S) where
           subst (λ pieces. PutsOut old new pieces result) (sym (ap (λ (all : Script S T). all.pieces) next_is))
           (puts_on old mid new (script eq m s xs).pieces (script eq m now ys).pieces x result puts more)
 
-    -- lines that are not obeyed any more
+    -- lines that are not executed any more
     module _ (zs : List Answer) where
       pub quits_on : (t : SessionState S T) → Ends (script eq m s xs) t true → script eq m s (xs ++ zs) ≡ script eq m s xs
       quits_on t ends = script_more s xs zs ∙ quit_ends (script eq m s xs) (λ t. script eq m t zs) (sym ends.quits)

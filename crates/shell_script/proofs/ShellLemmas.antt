@@ -43,18 +43,18 @@ told_at_end left taken None P is ends holds = subst (λ known. IfSome known P) (
 told_at_end left taken (Some more) P is ends holds =
     subst (λ known. IfSome known P) (sym is) (subst P (sym (ap (λ bytes. taken ++ bytes) ends ∙ append-nil taken)) holds)
 
--- a piece as a front and what is behind it
-pub front_back : (count k : ℕ) (bytes : List ℕ) → k ≤ count → take count bytes ≡ take k bytes ++ drop k (take count bytes)
-front_back count k bytes within =
-    sym (take-append-drop k (take count bytes)) ∙ ap (λ front. front ++ drop k (take count bytes)) (take-take k count bytes within)
+-- a piece as a prefix and what is behind it
+pub prefix_back : (count k : ℕ) (bytes : List ℕ) → k ≤ count → take count bytes ≡ take k bytes ++ drop k (take count bytes)
+prefix_back count k bytes within =
+    sym (take-append-drop k (take count bytes)) ∙ ap (λ prefix. prefix ++ drop k (take count bytes)) (take-take k count bytes within)
 
--- the same after one piece more, of which a front was taken
-pub told_in : (left : Option (List ℕ)) (taken piece front back : List ℕ) (mid rest : Option (List ℕ)) (P : List ℕ → Type 0) → left ≡ prepend_known taken mid
-    → mid ≡ prepend_known piece rest → piece ≡ front ++ back → ((more : List ℕ) → rest ≡ Some more → P (taken ++ front ++ (back ++ more))) → IfSome left P
-told_in left taken piece front back mid rest P first moved split told =
+-- the same after one piece more, of which a prefix was taken
+pub told_in : (left : Option (List ℕ)) (taken piece prefix back : List ℕ) (mid rest : Option (List ℕ)) (P : List ℕ → Type 0) → left ≡ prepend_known taken mid
+    → mid ≡ prepend_known piece rest → piece ≡ prefix ++ back → ((more : List ℕ) → rest ≡ Some more → P (taken ++ prefix ++ (back ++ more))) → IfSome left P
+told_in left taken piece prefix back mid rest P first moved split told =
     told_of left (taken ++ piece) rest P (first ∙ ap (prepend_known taken) moved ∙ sym (prepend_known-append taken piece rest)) λ more is.
     subst P
-    (sym (append_assoc (taken ++ front) back more) ∙ ap (λ bytes. bytes ++ more) (append_assoc taken front back ∙ ap (λ bytes. taken ++ bytes) (sym split)))
+    (sym (append_assoc (taken ++ prefix) back more) ∙ ap (λ bytes. bytes ++ more) (append_assoc taken prefix back ∙ ap (λ bytes. taken ++ bytes) (sym split)))
     (told more is)
 
 module _ {S T : Type 0} (eq : T → T → Bool) (m : PolicyModel T S) (limit : ℕ) (s : SessionState S T) where
@@ -79,28 +79,28 @@ module _ {S T : Type 0} (eq : T → T → Bool) (m : PolicyModel T S) (limit : �
   lines_read : (input taken : List ℕ) → take limit input ≡ taken → lines_of input ≡ read taken
   lines_read input taken is = ap (script eq m s) (sym (answers_of (take limit input)) ∙ ap (answers_along []) is)
 
-  -- a front that a session has obeyed, and one piece more
-  module _ (taken front : List ℕ) (begun : Text) (kept : begun ≡ line_along [] taken) (now : SessionState S T) (ends : Ends (read taken) now false) where
+  -- a prefix that a session has executed, and one piece more
+  module _ (taken prefix : List ℕ) (begun : Text) (kept : begun ≡ line_along [] taken) (now : SessionState S T) (ends : Ends (read taken) now false) where
     abbrev pub next : Script S T
-    next = script eq m now (answers_along begun front)
+    next = script eq m now (answers_along begun prefix)
 
-    answers_are : answers_along [] (taken ++ front) ≡ answers_along [] taken ++ answers_along begun front
+    answers_are : answers_along [] (taken ++ prefix) ≡ answers_along [] taken ++ answers_along begun prefix
     answers_are =
-        answers_in_pieces [] taken front ∙ ap (λ text. answers_along [] taken ++ answers_along text front) (sym kept)
+        answers_in_pieces [] taken prefix ∙ ap (λ text. answers_along [] taken ++ answers_along text prefix) (sym kept)
 
-    pub piece_line : (text : Text) → text ≡ line_along begun front → text ≡ line_along [] (taken ++ front)
-    piece_line text is = is ∙ ap (λ line. line_along line front) kept ∙ sym (line_in_pieces [] taken front)
+    pub piece_line : (text : Text) → text ≡ line_along begun prefix → text ≡ line_along [] (taken ++ prefix)
+    piece_line text is = is ∙ ap (λ line. line_along line prefix) kept ∙ sym (line_in_pieces [] taken prefix)
 
-    pub piece_ends : (t : SessionState S T) (quits : Bool) → Ends next t quits → Ends (read (taken ++ front)) t quits
+    pub piece_ends : (t : SessionState S T) (quits : Bool) → Ends next t quits → Ends (read (taken ++ prefix)) t quits
     piece_ends t quits more =
         subst (λ answers. Ends (script eq m s answers) t quits) (sym answers_are)
-        (ends_on eq m s (answers_along [] taken) now ends (answers_along begun front) t quits more)
+        (ends_on eq m s (answers_along [] taken) now ends (answers_along begun prefix) t quits more)
 
     pub piece_puts : (old mid new : Option (List ℕ)) {B : Type 0} (result : Putting B) → PutsOut old mid (read taken).pieces done
-        → PutsOut mid new next.pieces result → PutsOut old new (read (taken ++ front)).pieces result
+        → PutsOut mid new next.pieces result → PutsOut old new (read (taken ++ prefix)).pieces result
     piece_puts old mid new result puts more =
         subst (λ answers. PutsOut old new (script eq m s answers).pieces result) (sym answers_are)
-        (puts_next eq m s (answers_along [] taken) now ends (answers_along begun front) old mid new tt result puts more)
+        (puts_next eq m s (answers_along [] taken) now ends (answers_along begun prefix) old mid new tt result puts more)
 
   -- the first bytes of an input, within the limit
   module _ (taken rest : List ℕ) (within : length taken ≤ limit) where

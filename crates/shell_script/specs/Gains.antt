@@ -14,7 +14,7 @@ module _ {S T : Type 0} (eq : T → T → Bool) (m : PolicyModel T S) where
   TellsLine s (Err refusal) before after = after ≡ before
 
   -- a line behind others: its reply comes behind theirs, and tells what the run gains by the line
-  pub record TellsNext (s : SessionState S T) (front : List Answer) (line : Answer) (before after : List (Event T)) : Type 0 where
-    pub reply : (script eq m s (front ++ line ∷ [])).pieces
-        ≡ (script eq m s front).pieces ++ (script_of_answer eq m (script eq m s front).after line).pieces
-    pub gain : TellsLine (script eq m s front).after line before after
+  pub record TellsNext (s : SessionState S T) (prefix : List Answer) (line : Answer) (before after : List (Event T)) : Type 0 where
+    pub reply : (script eq m s (prefix ++ line ∷ [])).pieces
+        ≡ (script eq m s prefix).pieces ++ (script_of_answer eq m (script eq m s prefix).after line).pieces
+    pub gain : TellsLine (script eq m s prefix).after line before after

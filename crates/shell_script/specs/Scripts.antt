@@ -1,4 +1,4 @@
--- Lines that a session obeys one after another.
+-- Lines that a session executes one after another.
 use Rattle.std.specs.Prelude.{◌≡◌, Bool, false, List, [], ◌∷◌, ◌++◌, Ok, Err, if◌then◌else◌}
 use Rattle.host_io.specs.Pieces.{Piece, out}
 use Rattle.policy_trait.specs.Model.{PolicyModel}
@@ -17,7 +17,7 @@ pub record Script (S T : Type 0) : Type 0 where
   pub quits : Bool
 
 module _ {S T : Type 0} where
-  -- no line was obeyed
+  -- no line was executed
   abbrev pub no_lines : SessionState S T → Script S T
   no_lines s = record { after = s; pieces = []; quits = false }
 
@@ -25,7 +25,7 @@ module _ {S T : Type 0} where
   abbrev pub behind : List Piece → Script S T → Script S T
   behind pieces script = record script { pieces = pieces ++ script.pieces }
 
-  -- after `quit` no more is obeyed
+  -- after `quit` no more is executed
   abbrev pub followed_by : Script S T → (SessionState S T → Script S T) → Script S T
   followed_by first others = if first.quits then first else behind first.pieces (others first.after)
 
@@ -40,7 +40,7 @@ module _ {S T : Type 0} (eq : T → T → Bool) (m : PolicyModel T S) where
   script_of_answer s (Ok command) = record { after = (reply_to eq m s command).after; pieces = (reply_to eq m s command).pieces; quits = is_quit command }
   script_of_answer s (Err refusal) = record { after = s; pieces = out (refusal_line (number_of refusal)) ∷ []; quits = false }
 
-  -- the lines, each by its answer, obeyed in their order up to `quit`
+  -- the lines, each by its answer, executed in their order up to `quit`
   unfoldable pub script : SessionState S T → List Answer → Script S T
   script s [] = no_lines s
   script s (answer ∷ answers) = followed_by (script_of_answer s answer) (λ t. script t answers)

@@ -26,12 +26,12 @@ lines_in bytes = map line_answer (ended_lines bytes)
 abbrev pub last_in : List ℕ → List Answer
 last_in bytes = onto_answers (end_answer (open_line bytes)) []
 
--- the lines of an input that are obeyed, up to `quit`: of a longer one those that end within the limit
+-- the lines of an input that are executed, up to `quit`: of a longer one those that end within the limit
 abbrev pub lines_within : ℕ → List ℕ → List Answer
 lines_within limit input = lines_in (take limit input) ++ (if nat_lt limit (length input) then [] else last_in input)
 
 module _ {S T : Type 0} where
-  -- a session that obeyed these lines and ended so
+  -- a session that executed these lines and ended so
   abbrev pub ending_so : ShellEnd → Script S T → Shell S T
   ending_so end script = record { after = script.after; pieces = script.pieces; end = end }
 
@@ -39,7 +39,7 @@ module _ {S T : Type 0} where
   abbrev pub at_the_end : Script S T → Shell S T
   at_the_end script = ending_so (if script.quits then Quit else InputEnd) script
 
--- Of a longer input the lines are obeyed that end within the limit. A `quit` among these ends the session before that.
+-- Of a longer input the lines are executed that end within the limit. A `quit` among these ends the session before that.
 unfoldable pub shell_of : {S T : Type 0} → (T → T → Bool) → PolicyModel T S → ℕ → SessionState S T → List ℕ → Shell S T
 shell_of eq m limit s input =
     let lines = script eq m s (lines_in (take limit input)) in

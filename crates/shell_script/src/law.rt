@@ -15,7 +15,7 @@ use policy_trait::Policy;
 /// After any lines the machine and the feed of a session are those of a run from its start, which stays: the counted turns and
 /// the fed bytes since then, or since the last reset, in their order (`along`, `stays`). One line more is replied to behind the
 /// others, and its reply tells the events that the run gains by it (`tells`); behind `quit` it gains none (`closed`). What a
-/// session over an input replies is what it replies to the lines that it obeys (`input`). The function does nothing.
+/// session over an input replies is what it replies to the lines that it executes (`input`).
 pub fn script_law<P: Policy>()
     ensures along { (s : SessionState P P.Tag) (items : List Item) (lines : List Answer)
         → IsAlong P.Tag.eq P.model s items
@@ -23,17 +23,17 @@ pub fn script_law<P: Policy>()
         (items_along P.Tag.eq P.model s items lines) }
     ensures stays { (s : SessionState P P.Tag) (lines : List Answer)
         → (script P.Tag.eq P.model s lines).after.start ≡ s.start }
-    ensures tells { (s : SessionState P P.Tag) (items : List Item) (front : List Answer)
+    ensures tells { (s : SessionState P P.Tag) (items : List Item) (prefix : List Answer)
         (line : Answer) → IsAlong P.Tag.eq P.model s items
-        → (script P.Tag.eq P.model s front).quits ≡ false
-        → TellsNext P.Tag.eq P.model s front line
-        (events_along P.Tag.eq P.model s (items_along P.Tag.eq P.model s items front))
+        → (script P.Tag.eq P.model s prefix).quits ≡ false
+        → TellsNext P.Tag.eq P.model s prefix line
+        (events_along P.Tag.eq P.model s (items_along P.Tag.eq P.model s items prefix))
         (events_along P.Tag.eq P.model s
-        (items_along P.Tag.eq P.model s items (front ++ line ∷ []))) }
-    ensures closed { (s : SessionState P P.Tag) (items : List Item) (front : List Answer)
-        (line : Answer) → (script P.Tag.eq P.model s front).quits ≡ true
-        → items_along P.Tag.eq P.model s items (front ++ line ∷ [])
-        ≡ items_along P.Tag.eq P.model s items front }
+        (items_along P.Tag.eq P.model s items (prefix ++ line ∷ []))) }
+    ensures closed { (s : SessionState P P.Tag) (items : List Item) (prefix : List Answer)
+        (line : Answer) → (script P.Tag.eq P.model s prefix).quits ≡ true
+        → items_along P.Tag.eq P.model s items (prefix ++ line ∷ [])
+        ≡ items_along P.Tag.eq P.model s items prefix }
     ensures input { (limit : ℕ) (s : SessionState P P.Tag) (input : List ℕ)
         → (shell_of P.Tag.eq P.model limit s input).pieces
         ≡ (script P.Tag.eq P.model s (lines_within limit input)).pieces }

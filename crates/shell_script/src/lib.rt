@@ -1,4 +1,4 @@
-//! A session of the monitor shell over an input: line after line, each obeyed as its newline comes.
+//! A session of the monitor shell over an input: line after line, each executed as its newline comes.
 #![tactic(auto)]
 
 mod law;

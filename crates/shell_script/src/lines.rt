@@ -1,4 +1,4 @@
-//! Lines that a session obeys one after another.
+//! Lines that a session executes one after another.
 
 ghost use Rattle.std.specs.Prelude.{◌≡◌, [], IfOk, None, OnOk, false};
 ghost use Rattle.shell_lang.specs.Stream.{answers_along, end_answer, line_along, onto_answers};
@@ -54,7 +54,7 @@ fn obey_answer<L: Loader, K: Sink>(
 }
 
 /// Obeys the lines that end within these bytes of a stream, each as its newline comes; what stands behind the last newline
-/// waits for more bytes. The answer is whether the session ended with `quit`, after which no more is obeyed.
+/// waits for more bytes. The answer is whether the session ended with `quit`, after which no more is executed.
 pub fn obey_bytes<L: Loader, K: Sink>(
     session: &mut Session<L>,
     lines: &mut Lines,

@@ -1,7 +1,7 @@
-//! An input that is read piece by piece, and whose lines a session obeys as they come.
+//! An input that is read piece by piece, and whose lines a session executes as they come.
 
 ghost use Rattle.std.specs.Prelude.{◌≡◌, ℕ, ◌+◌, [], IfOk, IfSome, IsTrue, None, Ok};
-ghost use Rattle.host_io.specs.Fronts.{LosesFront};
+ghost use Rattle.host_io.specs.Prefixes.{LosesPrefix};
 ghost use Rattle.shell_lang.specs.Stream.{end_answer, onto_answers};
 ghost use Rattle.shell_turns.specs.Cuts.{PutsOut};
 ghost use Rattle.shell_script.specs.Scripts.{Ends, script};
@@ -60,8 +60,8 @@ fn finish<L: Loader, K: Sink>(
 }
 
 /// Obeys the lines of an input as their newlines come, up to `quit` or to the end of the input, which ends a last line that was
-/// begun. Of an input of more than `limit` bytes those lines are obeyed that end within them.
-#[tactic(auto, using(host_io::proofs::ReadingLemmas::two_fronts))]
+/// begun. Of an input of more than `limit` bytes those lines are executed that end within them.
+#[tactic(auto, using(host_io::proofs::ReadingLemmas::two_prefixes))]
 pub fn obey_input<L: Loader, S: Source, K: Sink>(
     session: &mut Session<L>,
     input: &mut S,
@@ -78,7 +78,7 @@ pub fn obey_input<L: Loader, S: Source, K: Sink>(
 
     // What was moved out of the input stood first, and it is closed where its end was met.
     ensures closed { result ≡ Ok ShellEnd.InputEnd → IsTrue (S.closed input.new) }
-    ensures moved { LosesFront (S.left input.old) (S.left input.new) (limit + 4096) }
+    ensures moved { LosesPrefix (S.left input.old) (S.left input.new) (limit + 4096) }
     ensures cause { ShellCause
         (record { input = S.faults input.old; out = K.faults out.old })
         (record { input = S.faults input.new; out = K.faults out.new }) result }

@@ -142,10 +142,10 @@ module _ {S T : Type 0} (eq : T → T → Bool) (m : PolicyModel T S) (breaks : 
 
     -- ---- a turn that was not counted
 
-    -- an engine that ran is out of tag words since then
-    out_told : e.account.halt ≡ None → out_since None (Some halt.TagWords) ≡ told_of_events {T = T} breaks e (out_of_words eq m e feed h).standing []
+    -- an engine that ran is out of tag numbers since then
+    out_told : e.account.halt ≡ None → out_since None (Some halt.TagNumbers) ≡ told_of_events {T = T} breaks e (out_of_words eq m e feed h).standing []
     unfolding told_of_events
-    out_told ran = λ j. out_since (sym ran j) (Some halt.TagWords)
+    out_told ran = λ j. out_since (sym ran j) (Some halt.TagNumbers)
 
     abbrev Told : Turns S T → Stepped S T → Type 0
     Told others s = IsTold e feed (then_others breaks h s others)

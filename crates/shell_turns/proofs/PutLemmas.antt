@@ -1,12 +1,12 @@
--- Pieces on one sink: all of them, or a front.
+-- Pieces on one sink: all of them, or a prefix.
 use Rattle.std.proofs.Common.{◌≡◌, ℕ, List, [], ◌∷◌, ◌++◌, Option, Result, Ok, Err, refl, subst, append-nil}
 use Rattle.std.specs.Prelude.{OnOk}
 use Rattle.host_io.specs.Causes.{PutCause}
-use Rattle.host_io.specs.Fronts.{TakesAll, TakesFront}
+use Rattle.host_io.specs.Prefixes.{TakesAll, TakesPrefix}
 use Rattle.host_io.specs.Pieces.{Piece, Taken, out}
 use Rattle.host_io.specs.declared.traits.sink.PutEnd.{PutEnd}
 use Rattle.host_io.specs.declared.traits.sink.PutEnd.TheVariants as put_end
-use Rattle.host_io.proofs.PieceLemmas.{front_of_more_puts, put_on_out, puts_none, puts_then_all, puts_then_front}
+use Rattle.host_io.proofs.PieceLemmas.{prefix_of_more_puts, put_on_out, puts_none, puts_then_all, puts_then_prefix}
 use Rattle.shell_turns.specs.Cuts.{ObeyCause, PutsOut, answer_of}
 use Rattle.shell_turns.specs.declared.ends.ObeyEnd.{ObeyEnd}
 
@@ -45,7 +45,7 @@ puts_not_begun A old pieces end other = puts_none (beside other old) pieces
 
 -- a put of a sink is one piece: what the clauses of `put` say of its answers
 pub put_answered : (put : Result (Unit {0}) PutEnd) (old new : Option (List ℕ)) (bytes : List ℕ) → OnOk put (TakesAll old new bytes)
-    → (put ≡ Err put_end.Failed → TakesFront old new bytes) → (put ≡ Err put_end.Memory → new ≡ old) → PutsOut old new (out bytes ∷ []) (answer_of put)
+    → (put ≡ Err put_end.Failed → TakesPrefix old new bytes) → (put ≡ Err put_end.Memory → new ≡ old) → PutsOut old new (out bytes ∷ []) (answer_of put)
 unfolding PutsOut
 put_answered (Ok x) old new bytes ok failed memory other = put_on_out old new other bytes {A = Unit {0}} (Ok x) ok failed memory
 put_answered (Err put_end.Failed) old new bytes ok failed memory other = put_on_out old new other bytes {A = Unit {0}} (Err put_end.Failed) ok failed memory
@@ -62,12 +62,12 @@ module _ {A B F : Type 0} (old now new : Option (List ℕ)) (first second : List
   pub puts_on : (x : A) (result : Result B F) → PutsOut old now first (gives x) → PutsOut now new second result → PutsOut old new (first ++ second) result
   unfolding PutsOut
   puts_on x (Ok y) one two other = puts_then_all (beside other old) (beside other now) (beside other new) first second (one other) (two other)
-  puts_on x (Err end) one two other = puts_then_front (beside other old) (beside other now) (beside other new) first second (one other) (two other)
+  puts_on x (Err end) one two other = puts_then_prefix (beside other old) (beside other now) (beside other new) first second (one other) (two other)
 
 module _ (A B : Type 0) (old new : Option (List ℕ)) where
   pub puts_cut_in : (first second : List Piece) (end told : ObeyEnd) → PutsOut old new first (fails A end) → PutsOut old new (first ++ second) (fails B told)
   unfolding PutsOut
-  puts_cut_in first second end told cut other = front_of_more_puts (beside other old) (beside other new) first second (cut other)
+  puts_cut_in first second end told cut other = prefix_of_more_puts (beside other old) (beside other new) first second (cut other)
 
   -- whatever the answer holds
   pub puts_cut_as : (pieces : List Piece) (end told : ObeyEnd) → PutsOut old new pieces (fails A end) → PutsOut old new pieces (fails B told)
@@ -89,7 +89,7 @@ pub puts_cut_with : (A B : Type 0) {F : Type 0} (old new : Option (List ℕ)) (p
 unfolding PutsOut
 puts_cut_with A B old new pieces end told cut = cut
 
--- what was put whole is a front
-pub puts_front : (A : Type 0) (old new : Option (List ℕ)) (pieces : List Piece) (end : ObeyEnd) → PutsOut old new pieces done → PutsOut old new pieces (fails A end)
-puts_front A old new pieces end puts =
+-- what was put whole is a prefix
+pub puts_prefix : (A : Type 0) (old new : Option (List ℕ)) (pieces : List Piece) (end : ObeyEnd) → PutsOut old new pieces done → PutsOut old new pieces (fails A end)
+puts_prefix A old new pieces end puts =
     subst (λ told. PutsOut old new told (fails A end)) (append-nil pieces) (puts_on old new new pieces [] tt (fails A end) puts (puts_not_begun A new [] end))

@@ -161,7 +161,7 @@ module _ {S T : Type 0} (eq : T → T → Bool) (m : PolicyModel T S) (breaks : 
       way_untold : (all : ℕ) → begun < all → (f : Standing S T) (left : Tape) → IsMade eq m e feed h f left → (old now new : Option (List ℕ)) (end : ObeyEnd)
           → PutsOut old now pieces done → PutsOut now new (step_pieces breaks h stepped) (cut_by end)
           → IsCutInTelling eq m breaks all first start fed f left old new end
-      way_untold all below f left made_so old now new end puts front = record {
+      way_untold all below f left made_so old now new end puts prefix = record {
         before = begun;
         within = below;
         standing = made_so.standing ∙ sym (ap (λ (t : Turns S T). t.standing) one_made);
@@ -170,9 +170,9 @@ module _ {S T : Type 0} (eq : T → T → Bool) (m : PolicyModel T S) (breaks : 
         last = step_pieces breaks h stepped;
         told =
             ap (λ (t : Turns S T). t.pieces) one_made ∙ append-nil told
-            ∙ ap (λ (front_pieces : List Piece). front_pieces ++ step_pieces breaks h stepped) (sym over_pieces);
+            ∙ ap (λ (prefix_pieces : List Piece). prefix_pieces ++ step_pieces breaks h stepped) (sym over_pieces);
         whole = subst (λ (all_told : List Piece). PutsOut old now all_told all_put) (sym over_pieces) puts;
-        front = front;
+        prefix = prefix;
       }
 
       -- the turn was given up
@@ -192,6 +192,6 @@ module _ {S T : Type 0} (eq : T → T → Bool) (m : PolicyModel T S) (breaks : 
       pub way_stands : (all : ℕ) → begun < all → (f : Standing S T) (left : Tape) (old now new : Option (List ℕ)) (end : ObeyEnd) → PutsOut old now pieces done
           → PutsOut now new (step_pieces breaks h stepped) (cut_by end) → TurnCut eq m e feed h f left now new end
           → TurnsCut eq m breaks all first start fed f left old new end
-      way_stands all below f left old now new ends.WriteFault puts front made_so = way_untold all below f left made_so old now new ends.WriteFault puts front
-      way_stands all below f left old now new ends.Memory puts front (inl made_so) = inl (way_untold all below f left made_so old now new ends.Memory puts front)
-      way_stands all below f left old now new ends.Memory puts front (inr gave) = inr (way_given_up all below f left old now new gave puts)
+      way_stands all below f left old now new ends.WriteFault puts prefix made_so = way_untold all below f left made_so old now new ends.WriteFault puts prefix
+      way_stands all below f left old now new ends.Memory puts prefix (inl made_so) = inl (way_untold all below f left made_so old now new ends.Memory puts prefix)
+      way_stands all below f left old now new ends.Memory puts prefix (inr gave) = inr (way_given_up all below f left old now new gave puts)

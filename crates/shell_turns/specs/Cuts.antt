@@ -12,7 +12,7 @@ use Rattle.shell_turns.specs.Turns.{turns}
 use Rattle.shell_turns.specs.declared.ends.ObeyEnd.{ObeyEnd}
 use Rattle.shell_turns.specs.declared.ends.ObeyEnd.TheVariants as ends
 
--- the pieces were put on standard output, or, where the call was cut short, a front of them; what standard error has taken is
+-- the pieces were put on standard output, or, where the call was cut short, a prefix of them; what standard error has taken is
 -- not touched
 unfoldable pub PutsOut : {A E : Type 0} → Option (List ℕ) → Option (List ℕ) → List Piece → Result A E → Type 0
 PutsOut old new pieces result =
@@ -24,7 +24,7 @@ ObeyCause before now (Ok _) = now ≡ before
 ObeyCause before now (Err ends.WriteFault) = Rose before now
 ObeyCause before now (Err ends.Memory) = now ≡ before
 
--- all of the pieces were put, or, where the call was cut short, a front of them
+-- all of the pieces were put, or, where the call was cut short, a prefix of them
 abbrev pub all_put : Result (Unit {0}) ObeyEnd
 all_put = Ok tt
 
@@ -56,7 +56,7 @@ module _ {S T : Type 0} (eq : T → T → Bool) (m : PolicyModel T S) where
 
   module _ (breaks : List ℕ) (budget : ℕ) (order : Order) (e : Standing S T) (feed : Tape) where
     -- Cut short while a turn was told, the last one that was made: the standing, with its account, and the feed are those after
-    -- it. What was put is all that the turns before it tell, and a front of what it tells itself.
+    -- it. What was put is all that the turns before it tell, and a prefix of what it tells itself.
     pub record IsCutInTelling (f : Standing S T) (fed : Tape) (old new : Option (List ℕ)) (end : ObeyEnd) : Type 0 where
       pub before : ℕ
       pub within : before < budget
@@ -67,9 +67,9 @@ module _ {S T : Type 0} (eq : T → T → Bool) (m : PolicyModel T S) where
       pub last : List Piece
       pub told : (turns eq m breaks (before + 1) order e feed).pieces ≡ (turns eq m breaks before order e feed).pieces ++ last
       pub whole : PutsOut old taken (turns eq m breaks before order e feed).pieces all_put
-      pub front : PutsOut taken new last (cut_by end)
+      pub prefix : PutsOut taken new last (cut_by end)
 
-    -- Cut short by the engine, for want of memory in the turn behind the last one that was made: that turn was given up, and what
+    -- Cut short by the engine, since memory ran out in the turn behind the last one that was made: that turn was given up, and what
     -- was put is all that those before it tell.
     pub record IsCutInEngine (f : Standing S T) (fed : Tape) (old new : Option (List ℕ)) : Type 0 where
       pub made : ℕ

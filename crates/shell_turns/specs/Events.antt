@@ -23,12 +23,12 @@ last_break breaks left None = []
 last_break breaks left (Some event) =
     let pc = (hart_at left.core event.hart).pc in break_pieces (is_break breaks pc event.ended) event.hart pc
 
--- an engine that ran before and is stopped since then is out of tag words
+-- an engine that ran before and is stopped since then is out of tag numbers
 abbrev pub out_since : Option Halt → Option Halt → List Piece
 out_since before now = if is_running before && not (is_running now) then out tags_out_line ∷ [] else []
 
 -- What turns with these events tell, from one standing to another: each turn in its order; then that the last of them is a break,
--- or that the engine ran out of tag words, where it is so.
+-- or that the engine ran out of tag numbers, where it is so.
 unfoldable pub told_of_events : {S T : Type 0} → List ℕ → Standing S T → Standing S T → List (Event T) → List Piece
 told_of_events breaks before now events =
     flat_map event_pieces events ++ last_break breaks now.machine (last_or None events) ++ out_since before.account.halt now.account.halt

@@ -17,11 +17,11 @@ out_line byte = line (codes "out " ++ hex2_text byte)
 unfoldable pub break_line : ℕ → ℕ → List ℕ
 break_line h pc = line (codes "break " ++ decimal h ++ codes " pc " ++ hex8_text pc)
 
--- the line of an engine that is out of tag words
+-- the line of an engine that is out of tag numbers
 abbrev pub tags_out_line : List ℕ
 tags_out_line = line (codes "tags out")
 
--- a turn of hart h that ended so: the byte that it put, its hart's stop, or the want of tag words
+-- a turn of hart h that ended so: the byte that it put, its hart's stop, or the end of the tag numbers
 abbrev pub end_pieces : ℕ → TurnEnd → List Piece
 end_pieces h (ends.Ran (Some byte)) = out (out_line byte) ∷ []
 end_pieces h (ends.Ran None) = []
@@ -44,7 +44,7 @@ is_break breaks pc ends.Memory = false
 abbrev pub break_pieces : Bool → ℕ → ℕ → List Piece
 break_pieces breaks h pc = if breaks then out (break_line h pc) ∷ [] else []
 
--- a command ends with a break and where the engine runs out of tag words
+-- a command ends with a break and where the engine runs out of tag numbers
 abbrev pub is_out : TurnEnd → Bool
 is_out ends.TagsOut = true
 is_out (ends.Ran byte) = false
@@ -57,6 +57,6 @@ is_out ends.Memory = false
 abbrev pub is_last : List ℕ → ℕ → TurnEnd → Bool
 is_last breaks pc ended = is_break breaks pc ended || is_out ended
 
--- the harts of the turns that are counted: an idle one is not, nor one that ran out of tag words
+-- the harts of the turns that are counted: an idle one is not, nor one that ran out of tag numbers
 abbrev pub counted_harts : ℕ → TurnEnd → List ℕ
 counted_harts h ended = if is_made ended then h ∷ [] else []

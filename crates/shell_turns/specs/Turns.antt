@@ -51,7 +51,7 @@ pub record Leaves {S T : Type 0} (turns : Turns S T) (e : Standing S T) (fed : T
 
 module _ {S T : Type 0} (eq : T → T → Bool) (m : PolicyModel T S) (breaks : List ℕ) where
   -- At most so many turns, in this order. They end early at a break, where no turn is next, and where the engine runs out of
-  -- tag words.
+  -- tag numbers.
   unfoldable pub turns : ℕ → Order → Standing S T → Tape → Turns S T
   turns zero order e feed = no_turns e feed
   turns (suc n) order e feed =

@@ -13,7 +13,7 @@ use policy_trait::Policy;
 
 /// The machine and the feed that turns leave are those of the run along the list of their counted turns, of which there are at
 /// most so many as were asked for. So what holds of every run of the machine holds of them. What they tell is told of that run's
-/// events, one for each of the turns (`told`). The function does nothing.
+/// events, one for each of the turns (`told`).
 pub fn turns_law<P: Policy>()
     ensures run { (breaks : List ℕ) (budget : ℕ) (order : TurnOrder)
         (e : Standing P P.Tag) (feed : Tape)

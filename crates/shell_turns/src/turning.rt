@@ -53,12 +53,12 @@ fn make_turn<E: Engine, K: Sink>(
 }
 
 /// At most so many turns, in this order, with what each tells put before the next one is made. They end early at a break, where
-/// no turn is next, and where the engine runs out of tag words. The answer is how many turns were counted: an idle one is not,
-/// nor one that ran out of tag words.
+/// no turn is next, and where the engine runs out of tag numbers. The answer is how many turns were counted: an idle one is not,
+/// nor one that ran out of tag numbers.
 ///
 /// After an error nothing more is put, and no further turn is made. Where a put came to nothing, or to less than all of its
 /// bytes, the engine and its account stand after the turn that was then told; what was put is all that the turns before it tell,
-/// and a front of what it tells. Where memory ran out in a turn, the machine stands after the turns before it, all of which were
+/// and a prefix of what it tells. Where memory ran out in a turn, the machine stands after the turns before it, all of which were
 /// told.
 pub fn make_turns<E: Engine, K: Sink>(
     engine: &mut E,

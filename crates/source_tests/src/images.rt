@@ -1,9 +1,8 @@
-//! Sources, each with what its image has, or its first error, and edges in any order.
+//! Sources, each with what its image has, or its first error.
 
 use asm_emit::assemble;
-use asm_lists::sorted_edges;
 use asm_read::{AsmEnd, read_source};
-use image_format::{Edge, Image, write_image};
+use image_format::Image;
 use std::alloc::{AllocError, Global};
 use std::process::Abort;
 use std::test::Fail;
@@ -11,21 +10,40 @@ use std::test::Fail;
 /// A source, and the sizes of the RAM and of the heap region, the entries, and the lists of its image, or its first error.
 type Row = (&'static [u8], &'static str);
 
-/// A program that writes `A` and exits with 0.
-const HELLO: &[u8] = b".ram 64\n.data\nli a0, 65\nli a7, 1\necall\nli a0, 0\nli a7, 0\necall\n";
-
-/// Its image: one hart, 64 bytes of RAM, and six words at 0 that are no code.
-const HELLO_FILE: &[u8] = &[
-    0x50, 0x55, 0x4D, 0x50, 0x01, 0x00, 0x01, 0x00, // magic, version, harts
-    0x40, 0x00, 0x00, 0x00, 0x00, 0x00, 0x00, 0x00, // RAM, heap base
-    0x00, 0x00, 0x00, 0x00, 0x00, 0x00, 0x00, 0x00, // heap bytes, entry
-    0x01, 0x00, 0x00, 0x00, 0x00, 0x00, 0x00, 0x00, // one segment, its address
-    0x06, 0x00, 0x00, 0x00, 0x13, 0x05, 0x10, 0x04, // its words
-    0x93, 0x08, 0x10, 0x00, 0x73, 0x00, 0x00, 0x00, //
-    0x13, 0x05, 0x00, 0x00, 0x93, 0x08, 0x00, 0x00, //
-    0x73, 0x00, 0x00, 0x00, 0x00, 0x00, 0x00, 0x00, // no code ranges
-    0x00, 0x00, 0x00, 0x00, 0x00, 0x00, 0x00, 0x00, // no labels, no edges
-    0x00, 0x00, 0x00, 0x00, // no compartment ranges
+/// Instructions and data, with their words as LLVM's assembler has them.
+const EMITTED: &[Row] = &[
+    (
+        b"addi x10, x0, 65\nsltiu x10, x11, -1\nsub x5, x6, x7\nsrai x5, x6, 31",
+        "65536 0 0 0 seg 0 04100513 FFF5B513 407302B3 41F35293 code 0 4",
+    ),
+    (
+        b"lui x5, 1\nauipc x31, 0xFFFFF\nlw x5, -4(x2)\nlbu x30, 2047(x8)",
+        "65536 0 0 0 seg 0 000012B7 FFFFFF97 FFC12283 7FF44F03 code 0 4",
+    ),
+    (
+        b"sw x6, 4(x8)\nsb x7, -2048(x6)\nj 0\nloop: j loop\nj loop",
+        "65536 0 0 0 seg 0 00642223 80730023 FF9FF06F 0000006F FFDFF06F code 0 5",
+    ),
+    (
+        b".org 28\nbeq x14, x31, 20",
+        "65536 0 0 0 seg 28 FFF70CE3 code 28 1",
+    ),
+    (
+        b"nop\nj loop\n.zero 2\nloop: ret\nfence\necall\nebreak",
+        "65536 0 0 0 seg 0 00000013 00C0006F 00000000 00000000 00008067 0FF0000F 00000073 00100073 code 0 8",
+    ),
+    (
+        b"li x5, 4095\nli x5, 2047\nli x5, -2048\nli x5, 0xFFFFFFFF\nli x5, 4096",
+        "65536 0 0 0 seg 0 000012B7 FFF28293 7FF00293 80000293 FFF00293 000012B7 code 0 6",
+    ),
+    (
+        b"li x5, 0x7FFFFFFF\nli x5, -2147483648\nla x5, 0",
+        "65536 0 0 0 seg 0 800002B7 FFF28293 800002B7 000002B7 00028293 code 0 5",
+    ),
+    (
+        b"la x5, loop\n.word -1\n.word loop\nloop:\n.zero 0",
+        "65536 0 0 0 seg 0 000002B7 01028293 FFFFFFFF 00000010 code 0 4",
+    ),
 ];
 
 /// Words and labels.
@@ -75,8 +93,8 @@ const WORDS: &[Row] = &[
 /// Edges and compartments.
 const EDGES_AND_COMPARTMENTS: &[Row] = &[
     (
-        b".edge 5, 4\n.edge 1, 10\n.edge 5, 4\n.edge 1, 2",
-        "65536 0 0 0 edge 1 2 edge 1 10 edge 5 4",
+        b".edge 5, 4\n.edge 1, 10\n.edge 5, 4\n.edge 1, 2\n.edge 4294967295, 0\n.edge 0, 9",
+        "65536 0 0 0 edge 0 9 edge 1 2 edge 1 10 edge 5 4 edge 4294967295 0",
     ),
     (b".comp 1, 2, 3", "65536 0 0 0"),
     (
@@ -134,6 +152,28 @@ const ERRORS: &[Row] = &[
     (b".label -1\nj nowhere", "line 1 range"),
     (b".label -1\n.org 4\n.org 0", "line 3 order"),
     (b".label -1\n.harts 9", "line 2 range"),
+];
+
+/// Operands of instructions and of data that have no place, or aren't in their range.
+const OPERAND_ERRORS: &[Row] = &[
+    (b"addi x1, x1, 2048", "line 1 range"),
+    (b"addi x1, x1, -2049", "line 1 range"),
+    (b"addi x1, x1, 4294967295", "line 1 range"),
+    (b"lw x1, 2048(x1)", "line 1 range"),
+    (b"sw x1, -2049(x1)", "line 1 range"),
+    (b"jalr x1, 2048(x1)", "line 1 range"),
+    (b"slli x1, x1, 32", "line 1 range"),
+    (b"srli x1, x1, -1", "line 1 range"),
+    (b"lui x1, 1048576", "line 1 range"),
+    (b"auipc x1, -1", "line 1 range"),
+    (b"beq x1, x1, 4096", "line 1 range"),
+    (b"beq x1, x1, 1", "line 1 range"),
+    (b"beq x1, x1, -4098", "line 1 range"),
+    (b"j 1048576", "line 1 range"),
+    (b"j start", "line 1 noname"),
+    (b".word start", "line 1 noname"),
+    (b"la x1, start", "line 1 noname"),
+    (b".zero -1", "line 1 range"),
 ];
 
 /// The image of the source.
@@ -208,8 +248,13 @@ fn check<R: Abort + AllocGlobal>(rt: &R, rows: &[Row]) -> Result<(), Fail> {
 }
 
 #[test]
-fn images_have_their_words_lists_and_sizes(rt: HostRuntime) -> Result<(), Fail> {
-    check(&rt, WORDS)?;
+fn images_have_their_words(rt: HostRuntime) -> Result<(), Fail> {
+    check(&rt, EMITTED)?;
+    check(&rt, WORDS)
+}
+
+#[test]
+fn images_have_their_lists_and_sizes(rt: HostRuntime) -> Result<(), Fail> {
     check(&rt, EDGES_AND_COMPARTMENTS)?;
     check(&rt, SIZES)
 }
@@ -220,30 +265,6 @@ fn values_out_of_range_are_told(rt: HostRuntime) -> Result<(), Fail> {
 }
 
 #[test]
-fn file_of_a_program_is_written(rt: HostRuntime) -> Result<(), Fail> {
-    let file = match image_of(rt.alloc(), HELLO) {
-        Ok(image) => write_image(rt.alloc(), &image)?,
-        Err(_) => Vec::new(rt.alloc()),
-    };
-    assert_eq!(rt; file.as_slice(), HELLO_FILE);
-    Ok(())
-}
-
-#[test]
-fn each_edge_is_there_once(rt: HostRuntime) -> Result<(), AllocError> {
-    let pairs = vec![in rt.alloc();
-        (5, 4),
-        (1, 2),
-        (5, 4),
-        (4294967295, 0),
-        (1, 10),
-        (1, 2),
-        (0, 9),
-    ]?;
-    let mut text = String::new(rt.alloc());
-    for Edge { source, target } in &sorted_edges(rt.alloc(), pairs)? {
-        text.push_str(format!(in rt.alloc(); "{source} {target}, ")?.as_str())?;
-    }
-    assert_eq!(rt; text.as_str(), "0 9, 1 2, 1 10, 5 4, 4294967295 0, ");
-    Ok(())
+fn bad_operands_are_told(rt: HostRuntime) -> Result<(), Fail> {
+    check(&rt, OPERAND_ERRORS)
 }

@@ -8,8 +8,6 @@ pub mod numbers;
 #[cfg(test)]
 mod places;
 #[cfg(test)]
-mod statements;
-#[cfg(test)]
 mod texts;
 #[cfg(test)]
 mod workloads;

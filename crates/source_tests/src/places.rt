@@ -1,4 +1,4 @@
-//! Names with their places, and sources, each with where its lines and names lie, or with its error.
+//! Sources, each with where its lines and names lie, or with its error.
 
 use asm_names::Names;
 use asm_places::{layout_of, names_of};
@@ -167,27 +167,21 @@ fn check<R: Abort + AllocGlobal>(rt: &R, rows: &[Row]) -> Result<(), Fail> {
 
 #[test]
 fn lines_and_names_have_their_places(rt: HostRuntime) -> Result<(), Fail> {
-    check(&rt, LAYOUTS)?;
+    check(&rt, LAYOUTS)
+}
+
+#[test]
+fn loads_have_one_word_or_two(rt: HostRuntime) -> Result<(), Fail> {
     check(&rt, LOADS)
 }
 
 #[test]
 fn what_has_no_place_is_told(rt: HostRuntime) -> Result<(), Fail> {
     check(&rt, BAD_SIZES)?;
-    check(&rt, TWICE)?;
     check(&rt, BAD_PLACES)
 }
 
 #[test]
-fn names_have_their_last_places(rt: HostRuntime) -> Result<(), AllocError> {
-    let mut names = Names::new(rt.alloc());
-    names.give(b"loop", 16)?;
-    names.give(b"loop_2", 0)?;
-    names.give(b"end", 65532)?;
-    names.give(b"loop", 20)?;
-    assert_eq!(rt; names.place(b"loop"), Some(20));
-    assert_eq!(rt; names.place(b"loop_2"), Some(0));
-    assert_eq!(rt; names.place(b"end"), Some(65532));
-    assert_eq!(rt; names.place(b"loo"), None);
-    Ok(())
+fn what_stands_twice_is_told(rt: HostRuntime) -> Result<(), Fail> {
+    check(&rt, TWICE)
 }

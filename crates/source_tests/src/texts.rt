@@ -1,17 +1,13 @@
-//! Words with their texts, which are read and put back into words, and the listing of an image.
+//! Words with their texts, which are read and put back into words.
 
 use crate::answers::is_word;
 use asm_laws::reassembly_law;
 use asm_names::Names;
 use asm_read::{AsmErrorKind, line_of};
-use asm_show::{list_word, show_instr};
+use asm_show::show_instr;
 use asm_words::{Emission, emission_of};
-use host_io::MemSink;
-use image_format::read_image;
-use image_listing::list_image;
 use pump_words::Line;
-use std::alloc::{AllocError, Global};
-use std::test::Fail;
+use std::alloc::Global;
 
 /// An address, a word, and its text there. The words are those of LLVM's assembler; two are no instructions of RV32I.
 const TEXTS: &[(u32, u32, &[u8])] = &[
@@ -38,24 +34,6 @@ const TEXTS: &[(u32, u32, &[u8])] = &[
     (0, 0x0273_02B3, b".word 0x027302B3"),
 ];
 
-/// An image file of one hart with 64 bytes of memory and two segments: `addi x10, x0, 65` and `ecall` at 0, and a word that
-/// is no instruction at 32.
-fn file_of_two_segments(alloc: Global) -> Result<Vec<u8>, AllocError> {
-    let mut bytes = b"PUMP\x01\x00\x01\x00".to_vec(alloc)?;
-    let sizes: [u32; 4] = [64, 0, 0, 0];
-    let segments: [u32; 8] = [2, 0, 2, 0x0410_0513, 0x0000_0073, 32, 1, 0xFFFF_FFFF];
-    for field in sizes.iter().chain(segments.iter()) {
-        bytes.extend_from_slice(&field.to_le_bytes())?;
-    }
-    bytes.extend_from_slice(&[0; 16])?;
-    Ok(bytes)
-}
-
-const LISTING: &[u8] = b"00000000 04100513 addi x10, x0, 65
-00000004 00000073 ecall
-00000020 FFFFFFFF .word 0xFFFFFFFF
-";
-
 /// What the text emits at the address, where no name has a place; nothing where a name stands in front.
 fn emitted(alloc: Global, pc: u32, text: &[u8]) -> Result<Emission, AsmErrorKind> {
     let line = line_of(1, text)?;
@@ -76,46 +54,4 @@ fn words_are_shown_and_their_texts_emit_them(rt: HostRuntime) {
         let read = emitted(rt.alloc(), pc, line.as_slice());
         assert!(rt; is_word(&read, word), "{word} at {pc}");
     }
-}
-
-/// The text is put behind what the line has.
-#[test]
-fn a_text_is_appended(rt: HostRuntime) {
-    let mut line = Line::new();
-    show_instr(0, 0x0000_0073, &mut line);
-    show_instr(0, 0x0010_0073, &mut line);
-    assert_eq!(rt; line.as_slice(), b"ecallebreak".as_slice());
-}
-
-/// The line of the first word of a program that prints a letter.
-#[test]
-fn a_word_is_listed(rt: HostRuntime) {
-    let mut line = Line::new();
-    list_word(0, 0x0410_0513, &mut line);
-    assert_eq!(rt;
-        line.as_slice(),
-        b"00000000 04100513 addi x10, x0, 65\n".as_slice()
-    );
-}
-
-#[test]
-fn each_word_of_each_segment_is_listed(rt: HostRuntime) -> Result<(), Fail> {
-    let bytes = file_of_two_segments(rt.alloc())?;
-    let image = read_image(rt.alloc(), &bytes).ok().ok_or("no image")?;
-    let mut out = MemSink::new(rt.alloc(), Vec::new(rt.alloc()));
-    assert!(rt; list_image(&image, &mut out).is_ok());
-    assert_eq!(rt; out.bytes(), LISTING);
-    Ok(())
-}
-
-/// A put that fails ends the listing.
-#[test]
-fn a_failed_put_ends_it(rt: HostRuntime) -> Result<(), Fail> {
-    let bytes = file_of_two_segments(rt.alloc())?;
-    let image = read_image(rt.alloc(), &bytes).ok().ok_or("no image")?;
-    let fails = vec![in rt.alloc(); 1]?;
-    let mut out = MemSink::new(rt.alloc(), fails);
-    assert!(rt; list_image(&image, &mut out).is_err());
-    assert_eq!(rt; out.next_call(), 2);
-    Ok(())
 }

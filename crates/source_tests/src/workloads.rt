@@ -1,6 +1,7 @@
 //! Sources of small workloads, and workloads that are assembled.
 
 use asm_emit::assemble_source;
+use std::alloc::{AllocError, Global};
 use std::test::Fail;
 use workload::write_workload;
 use workload_laws::assembles_law;
@@ -71,39 +72,39 @@ const WORKLOADS: &[(u32, u32, usize, usize)] = &[
 ];
 
 #[test]
-fn is_written_for_one_block(rt: HostRuntime) -> Result<(), Fail> {
-    let source = write_workload(rt.alloc(), 1)?;
-    assert_eq!(rt; source.as_slice(), ONE_BLOCK);
+fn is_written_block_by_block(rt: HostRuntime) -> Result<(), Fail> {
+    let one = write_workload(rt.alloc(), 1)?;
+    assert!(rt; one.as_slice() == ONE_BLOCK);
+    let two = write_workload(rt.alloc(), 2)?;
+    assert!(rt; two.ends_with(TWO_BLOCKS));
     Ok(())
 }
 
-#[test]
-fn is_written_for_two_blocks(rt: HostRuntime) -> Result<(), Fail> {
-    let source = write_workload(rt.alloc(), 2)?;
-    assert!(rt;
-        source
-            .windows(TWO_BLOCKS.len())
-            .any(|part| part == TWO_BLOCKS)
-    );
-    Ok(())
+/// The words, labels and compartment ranges of the image of so many blocks, whose words are one segment and one code range
+/// at 0; `None` where it is another.
+fn counted(alloc: Global, count: u32) -> Result<Option<(u32, usize, usize)>, AllocError> {
+    let source = write_workload(alloc, count)?;
+    let Ok(image) = assemble_source(alloc, &source) else {
+        return Ok(None);
+    };
+    match image.code() {
+        [range] if range.address == 0 && image.segment_count() == 1 => Ok(Some((
+            range.words,
+            image.labels().len(),
+            image.compartments().len(),
+        ))),
+        _ => Ok(None),
+    }
 }
 
 #[test]
 fn is_assembled_whole(rt: HostRuntime) -> Result<(), Fail> {
     assembles_law();
     for &(count, words, labels, ranges) in WORKLOADS {
-        let source = write_workload(rt.alloc(), count)?;
-        let image = assemble_source(rt.alloc(), &source).ok().ok_or("no image")?;
-        assert_eq!(rt; image.segment_count(), 1);
         assert!(rt;
-            image
-                .code()
-                .iter()
-                .all(|range| range.address == 0 && range.words == words)
+            counted(rt.alloc(), count)? == Some((words, labels, ranges)),
+            "{count} blocks"
         );
-        assert_eq!(rt; image.code().len(), 1);
-        assert_eq!(rt; image.labels().len(), labels);
-        assert_eq!(rt; image.compartments().len(), ranges);
     }
     Ok(())
 }

@@ -50,22 +50,22 @@ module _ {T : Type 0} where
   pub grown_word : (a b : List T) → Extends a b → (word : ℕ) (tag : T) → slice_get a word ≡ Some tag → slice_get b word ≡ Some tag
   grown_word a b grows word tag has = same_words a b grows word (slice_get_within a word tag has) ∙ has
 
-  pub front : (a b : List T) → Extends a b → take (length a) b ≡ a
-  front a b p = ap (take (length a)) p.1 ∙ take-append_seam a p.0
+  pub prefix : (a b : List T) → Extends a b → take (length a) b ≡ a
+  prefix a b p = ap (take (length a)) p.1 ∙ take-append_seam a p.0
 
   -- ---- lists without repeats
 
-  -- the front of one is one
-  pub front_distinct : (a b : List T) → Extends a b → HasNoRepeats b → HasNoRepeats a
-  front_distinct [] b p d i j h e = absurd (omega arith)
-  front_distinct (x ∷ xs) b p d i j h e =
+  -- the prefix of one is one
+  pub prefix_distinct : (a b : List T) → Extends a b → HasNoRepeats b → HasNoRepeats a
+  prefix_distinct [] b p d i j h e = absurd (omega arith)
+  prefix_distinct (x ∷ xs) b p d i j h e =
       let a = x ∷ xs in
       let at = slice_get-get_or a i x h in
       let within = slice_get_within a j _ (sym e ∙ at) in
       d i j (let n = longer a b p in omega (arith, n, h)) (same_words a b p i h ∙ e ∙ sym (same_words a b p j within))
 
   pub taken_distinct : (n : ℕ) (tags : List T) → HasNoRepeats tags → HasNoRepeats (take n tags)
-  taken_distinct n tags = front_distinct (take n tags) tags (drop n tags, sym (take-append-drop n tags))
+  taken_distinct n tags = prefix_distinct (take n tags) tags (drop n tags, sym (take-append-drop n tags))
 
   -- one with one more tag, which is new
   module _ (tags : List T) (tag : T) (distinct : HasNoRepeats tags) (new : (i : ℕ) → slice_get tags i ≡ Some tag → ⊥) where

@@ -7,7 +7,7 @@ ghost use Rattle.tag_intern.specs.Table.{Extends, HasNoRepeats};
 use pump_words::Same;
 
 /// As tags come to a list without repeats it stays one, and no word changes its tag; a tag that is there changes
-/// nothing, and a cut to the length before undoes what came. The function does nothing.
+/// nothing, and a cut to the length before undoes what came.
 pub fn growth_law<T: Same>()
     ensures extends { (tags more : List T) → Extends tags (with_tags T.eq tags more) }
     ensures longer { (tags more : List T) → length tags ≤ length (with_tags T.eq tags more) }

@@ -1,4 +1,4 @@
-//! What a table of tags promises.
+//! What a table of tags guarantees.
 
 ghost use Rattle.std.specs.Prelude.{◌≡◌, ℕ, ◌<◌, ◌≤◌, ◌↔◌, Contains, Err, IfOk, IsNone, IsOk, OnErr, OnOk, Some, length, slice_get};
 ghost use Rattle.engine_trait.specs.Accounts.{with_tag};
@@ -25,7 +25,7 @@ pub trait TagTable: Drop {
 
     ghost state: { Self → TableState Self.Tag };
 
-    /// An empty table for at most `limit` tags. Its error is want of memory.
+    /// An empty table for at most `limit` tags. Its error is running out of memory.
     fn made(alloc: Global, limit: u32) -> Result<Self, AllocError>
         requires { 1 ≤ limit }
         ensures { IfOk result (λ made. state made ≡ empty_table limit) };

@@ -34,7 +34,7 @@ get_or-overwritten_inside memory place words k fits lt =
 -- a word that stays
 get_or-overwritten_outside : (memory : List ℕ) (place : ℕ) (words : List ℕ) (n : ℕ) → place + length words ≤ length memory → (n < place) ⊎ (place + length words ≤ n) → get_or (words_over memory place words) n 0 ≡ get_or memory n 0
 get_or-overwritten_outside memory place words n fits (inl before) =
-    let front_len : length (take place memory) ≡ place = length-take-le place memory (omega arith) in
+    let prefix_len : length (take place memory) ≡ place = length-take-le place memory (omega arith) in
     get_or_append_left (take place memory) (words ++ drop (place + length words) memory) 0 n (omega arith)
     ∙ get_or-take place memory n 0 before
 get_or-overwritten_outside memory place words n fits (inr behind) =

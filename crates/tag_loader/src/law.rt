@@ -11,8 +11,7 @@ ghost use Rattle.tag_loader.specs.Memory.{HoldsWords, LiesOutside, WordAt};
 use policy_trait::Policy;
 
 /// The memory at the start has one word for each four bytes of the RAM. Each segment's words stand from its address on,
-/// so no segment writes over another's, and each word outside all segments is 0. All are below 2^32. The function does
-/// nothing.
+/// so no segment writes over another's, and each word outside all segments is 0. All are below 2^32.
 pub fn memory_law()
     ensures size { (g : Picture) → IsImage g → length (memory_of g) ≡ g.ram / 4 }
     ensures held { (g : Picture) → IsImage g → All (HoldsWords g) g.segments }
@@ -21,7 +20,7 @@ pub fn memory_law()
     ensures words { (g : Picture) → IsImage g → All IsWord (memory_of g) }
 {}
 
-/// Every value is a word at the start of every image, under any policy. The function does nothing.
+/// Every value is a word at the start of every image, under any policy.
 pub fn values_law<P: Policy>()
     ensures { (policy : P) (g : Picture) → IsImage g
         → HasWords (start_machine P.model policy g).core }

@@ -11,7 +11,7 @@ use policy_trait::Policy;
 use std::alloc::{AllocError, Global};
 use tag_memory::Hart;
 
-/// The words of memory at the start: those of the segments at their addresses, and 0 elsewhere. The only error is want of
+/// The words of memory at the start: those of the segments at their addresses, and 0 elsewhere. The only error is running out of
 /// memory.
 #[tactic(auto, unfolding(crate::specs::Start::memory_of))]
 pub fn words_of(alloc: Global, image: &Image) -> Result<Vec<u32>, AllocError>

@@ -10,7 +10,7 @@ use policy_trait::Policy;
 use std::alloc::{AllocError, Global};
 use tag_memory::Ram;
 
-/// The engine at the start of the image under this policy. The only error is want of memory.
+/// The engine at the start of the image under this policy. The only error is running out of memory.
 #[tactic(auto, unfolding(crate::specs::Start::start_machine, crate::specs::Start::start_ram))]
 pub fn start_under<P: Policy>(
     alloc: Global,

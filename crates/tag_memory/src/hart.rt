@@ -10,7 +10,7 @@ use std::marker::Model;
 /// The registers and the pc of one hart, with their tags. x0 is 0 and plain and drops every write. The pc is a
 /// multiple of 4. Contracts see it as a `HartState`.
 ///
-/// x0 has its place too, so that a read needs no test: each write puts 0 and the plain tag back there.
+/// x0 has its place too, so that a read needs no test: each write of a value puts 0 back there, and no tag is written to it.
 #[derive(Drop)]
 pub struct Hart<T: Copy> {
     values: [u32; 32],
@@ -31,7 +31,7 @@ impl<T: Copy> Model for Hart<T> {
 }
 
 impl<T: Copy> Hart<T> {
-    /// A hart at `pc` whose registers are 0 and plain. The only error is want of memory.
+    /// A hart at `pc` whose registers are 0 and plain. The only error is running out of memory.
     pub fn new(alloc: Global, pc: u32, pc_tag: T, plain: T) -> Result<Hart<T>, AllocError>
         requires { pc % 4 ≡ 0 }
         ensures { IfOk result (λ hart. hart ≡ fresh_hart pc pc_tag plain) }
@@ -76,8 +76,9 @@ impl<T: Copy> Hart<T> {
         requires { r < 32 }
         ensures { self.new ≡ with_reg_tag self.old r tag }
     {
-        self.tags[r as usize] = tag;
-        self.tags[0] = self.plain;
+        if r != 0 {
+            self.tags[r as usize] = tag;
+        }
     }
 
     /// The plain tag, which x0 has.

@@ -7,7 +7,7 @@ ghost use Rattle.tag_memory.specs.Ram.{IsPlace, IsRam, IsRamOf, RamState, ram_by
 ghost use Rattle.tag_memory.specs.Writes.{WritesPc, WritesTag, WritesValue, WritesWord, WritesWordTag};
 
 /// A write to a hart changes the place that it names and no other; x0 stays 0 and plain. After each write the hart is
-/// one still, with the plain tag that it had. The function does nothing.
+/// one still, with the plain tag that it had.
 pub fn hart_law<T: Copy>()
     ensures value { (hart : HartState T) (r value : ℕ) → IsHart hart → r < 32
         → WritesValue hart r value (with_reg hart r value) }
@@ -24,7 +24,7 @@ pub fn hart_law<T: Copy>()
 {}
 
 /// A write to memory changes the word or the tag that it names and no other. After each write the memory is one still,
-/// with the plain tag that it had. The function does nothing.
+/// with the plain tag that it had.
 pub fn ram_law<T: Copy>()
     ensures word { (ram : RamState T) (address word : ℕ) → IsPlace (ram_bytes ram) address
         → WritesWord ram address word (with_ram_word ram address word) }
@@ -37,7 +37,7 @@ pub fn ram_law<T: Copy>()
         → IsRamOf plain (with_ram_tag ram address tag) }
 {}
 
-/// A change of each tag goes through what is read and what is written. The function does nothing.
+/// A change of each tag goes through what is read and what is written.
 pub fn map_law<T: Copy, U: Copy>()
     ensures reg_tag { (f : T → U) (hart : HartState T) (r : ℕ)
         → reg_tag (hart_by f hart) r ≡ f (reg_tag hart r) }

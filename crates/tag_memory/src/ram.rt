@@ -26,7 +26,7 @@ impl<T: Copy> Model for Ram<T> {
 }
 
 impl<T: Copy> Ram<T> {
-    /// Memory of `bytes` bytes, all words 0 and plain. The only error is want of memory.
+    /// Memory of `bytes` bytes, all words 0 and plain. The only error is running out of memory.
     pub fn new(alloc: Global, bytes: u32, plain: T) -> Result<Ram<T>, AllocError>
         requires aligned { bytes % 4 ≡ 0 }
         requires some { 4 ≤ bytes }

@@ -1,6 +1,6 @@
 //! The policy of taint, the worked case of a policy of one's own (`docs/policies/WRITE_ONE.md`): a value that came from the
 //! input is tainted, and so is what is computed from it. No jump by register goes to a tainted address, no store to one, and
-//! no tainted word is obeyed.
+//! no tainted word is executed.
 #![tactic(auto)]
 
 mod law;

@@ -22,7 +22,7 @@ use Rattle.taint_policy.specs.Taint.{is_clean, meets_row, refusal_for, row_of, t
 use Rattle.taint_policy.specs.declared.policy.Taint.{Taint}
 use Rattle.taint_policy.specs.declared.tag.TaintTag.{TaintTag}
 use Rattle.taint_policy.specs.declared.tag.TaintTag.TheVariants.{Clean, Tainted}
-use Rattle.taint_runs.specs.TaintTurn.{GoesByClean, NoLine, TaintTurn}
+use Rattle.taint_runs.specs.TaintTurn.{GoesByClean, NoInvariant, TaintTurn}
 
 -- ---- the rule
 
@@ -107,5 +107,5 @@ turn_clean s h e t (goes look outs register value allows none does left) retires
 turn_clean s h e t (serves look outs p words allows is touches told planned is_range retagged left) retires =
     allowed_turn s h e look outs allows (λ touch told stores. none_stores look.effect.access touch touches told)
 
-pub keeps_taint : Keeps taint NoLine TaintTurn
-keeps_taint = record { turn = λ before s h e t sound line turns stay. (turn_clean s h e t turns, tt) }
+pub keeps_taint : Keeps taint NoInvariant TaintTurn
+keeps_taint = record { turn = λ before s h e t sound invariant turns stay. (turn_clean s h e t turns, tt) }

@@ -16,10 +16,10 @@ pub record GoesByClean (event : Event TaintTag) : Type 0 where
   pub jump : is_jalr event.word ≡ true → asked.inputs.t1 ≡ Clean
   pub store : (touch : Touch) → event.access ≡ Some touch → touch.stores ≡ true → asked.inputs.t1 ≡ Clean
 
--- the promise: a turn that retires, whatever the turns before it, goes by what is clean
+-- the guarantee: a turn that retires, whatever the turns before it, goes by what is clean
 abbrev pub TaintTurn : List (Event TaintTag) → Event TaintTag → Type 0
 TaintTurn before event = is_retirement event ≡ true → GoesByClean event
 
--- the line: a turn's rule alone decides, so nothing has to be known of the state
-abbrev pub NoLine : List (Event TaintTag) → Machine Taint TaintTag → Type 0
-NoLine events s = Unit {0}
+-- the invariant: a turn's rule alone decides, so nothing has to be known of the state
+abbrev pub NoInvariant : List (Event TaintTag) → Machine Taint TaintTag → Type 0
+NoInvariant events s = Unit {0}

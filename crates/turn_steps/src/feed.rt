@@ -45,7 +45,7 @@ impl Feed {
         Feed { bytes, place: 0 }
     }
 
-    /// Puts bytes behind those that are left. The only error is want of memory, which leaves the feed as it was.
+    /// Puts bytes behind those that are left. The only error is running out of memory, which leaves the feed as it was.
     pub fn append(&mut self, bytes: &[u8]) -> Result<(), AllocError>
         ensures ok { OnOk result (self.new ≡ with_fed self.old bytes.now) }
         ensures err { OnErr result (self.new ≡ self.old) }

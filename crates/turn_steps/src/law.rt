@@ -26,8 +26,7 @@ ghost use Rattle.turn_steps.specs.declared.look.Look.{Look};
 
 /// What is looked at can be carried out; its rule is asked with the tags of its instruction's operands, that of an absent
 /// one plain; its result's register takes what the place of its instruction's result takes, be that a register or not;
-/// and each step of a turn keeps the hart's x0 at 0 and plain, its pc at a word, and memory as large as it was. The
-/// function does nothing.
+/// and each step of a turn keeps the hart's x0 at 0 and plain, its pc at a word, and memory as large as it was.
 pub fn steps_law<T: Copy>()
     ensures looked { (hart : HartState T) (ram : RamState T) (look : Look) → IsHart hart
         → look_result hart ram ≡ Ok look → IsSound (ram_bytes ram) look.effect }
@@ -48,7 +47,7 @@ pub fn steps_law<T: Copy>()
         → IsHartOf plain (moved_to (with_answer hart answer) next tag) }
 {}
 
-/// The words of a row are written each at its place, and every other word is as it was. The function does nothing.
+/// The words of a row are written each at its place, and every other word is as it was.
 pub fn words_law<T: Copy>()
     ensures row { (ram : RamState T) (base : ℕ) (words : List (ℕ × ℕ × T)) → IsRam ram
         → base % 4 ≡ 0 → StandFrom base words → All (λ word. IsPlace (ram_bytes ram) word.0) words
@@ -60,7 +59,7 @@ pub fn words_law<T: Copy>()
 {}
 
 /// Where registers and memory have words, what an instruction computes and stores is a word, and what is left has words; so
-/// it is after a service's answer and after what it writes, where these are words. The function does nothing.
+/// it is after a service's answer and after what it writes, where these are words.
 pub fn values_law<T: Copy>()
     ensures looked { (hart : HartState T) (ram : RamState T) (look : Look) → HartHasWords hart
         → look_result hart ram ≡ Ok look → GivesWords look.effect }
@@ -73,8 +72,7 @@ pub fn values_law<T: Copy>()
         → All (λ word. IsWord word.1) words → RamHasWords ram → RamHasWords (with_words ram words) }
 {}
 
-/// A change of each tag leaves what is looked at, and goes through what the rule is asked with and through the effect. The
-/// function does nothing.
+/// A change of each tag leaves what is looked at, and goes through what the rule is asked with and through the effect.
 pub fn map_law<T: Copy, U: Copy>()
     ensures looked { (f : T → U) (hart : HartState T) (ram : RamState T)
         → look_result (hart_by f hart) (ram_by f ram) ≡ look_result hart ram }

@@ -26,7 +26,7 @@ done x = Ok x
 abbrev failed : {A E : Type 0} → E → Result A E
 failed end = Err end
 
--- memory that ran out is no want of words
+-- memory that ran out does not mean that tag numbers did
 pub not_full : {A : Type 0} (end : InternEnd) → failed {A = A} end ≡ failed intern_end.Memory → failed {A = A} end ≡ failed intern_end.Full → ⊥
 not_full end memory full = cc
 

@@ -3,38 +3,70 @@
 use crate::given::{key, outs};
 use rule_cache::{InWords, Key, RuleCache, RuleStore};
 use rv_decode::Group;
+use std::alloc::AllocError;
 use std::test::Fail;
+
+/// A call, and what it answers.
+#[derive(Clone, Copy)]
+enum Call {
+    /// A rule of that group with this word for each tag is looked for, and has these words of the pc and of what is written.
+    Find(Group, u32, Option<(u32, u32)>),
+    /// Such a rule is kept.
+    Keep(Group, u32, (u32, u32)),
+    Clear,
+    /// The hits and the misses.
+    Counts(u64, u64),
+}
+
+/// The calls on a store of two rules, in order.
+const CALLS: &[Call] = &[
+    Call::Find(Group::Add, 1, None),
+    Call::Keep(Group::Add, 1, (10, 11)),
+    Call::Keep(Group::Sub, 1, (20, 21)),
+    // Add is found and so the most recent, and the third rule takes the place of Sub
+    Call::Find(Group::Add, 1, Some((10, 11))),
+    Call::Keep(Group::Add, 2, (30, 31)),
+    // a rule with a key that is there takes that rule's place alone
+    Call::Keep(Group::Add, 2, (40, 41)),
+    Call::Find(Group::Sub, 1, None),
+    Call::Find(Group::Add, 1, Some((10, 11))),
+    Call::Find(Group::Add, 2, Some((40, 41))),
+    Call::Find(Group::Add, 2, Some((40, 41))),
+    Call::Find(Group::Add, 3, None),
+    Call::Counts(4, 3),
+    Call::Clear,
+    Call::Find(Group::Add, 2, None),
+    Call::Counts(4, 4),
+    Call::Keep(Group::Call, u32::MAX, (0, 1)),
+    Call::Find(Group::Call, u32::MAX, Some((0, 1))),
+];
 
 #[test]
 fn rules_by_recency(rt: HostRuntime) -> Result<(), Fail> {
     let mut rules = RuleCache::made(rt.alloc(), 1, 2)?;
-    assert!(rt; rules.find(&key(Group::Add, 1)).is_none());
-    rules.keep(key(Group::Add, 1), outs(10, 11))?;
-    rules.keep(key(Group::Sub, 1), outs(20, 21))?;
-    // Add is found and so the most recent, and the third rule takes the place of Sub.
-    assert!(rt; rules.find(&key(Group::Add, 1)) == Some(outs(10, 11)));
-    rules.keep(key(Group::Add, 2), outs(30, 31))?;
-    // a rule with a key that is there takes that rule's place alone
-    rules.keep(key(Group::Add, 2), outs(40, 41))?;
-    // group, word, what is found
-    for (group, word, found) in [
-        (Group::Sub, 1, None),
-        (Group::Add, 1, Some(outs(10, 11))),
-        (Group::Add, 2, Some(outs(40, 41))),
-        (Group::Add, 2, Some(outs(40, 41))),
-        (Group::Add, 3, None),
-    ] {
-        assert!(rt; rules.find(&key(group, word)) == found, "word {word}");
+    for (at, &call) in CALLS.iter().enumerate() {
+        assert!(rt; answers_as_stated(&mut rules, call)?, "call {at}");
     }
-    assert_eq!(rt; rules.hits(), 4);
-    assert_eq!(rt; rules.misses(), 3);
-    rules.clear();
-    assert!(rt; rules.find(&key(Group::Add, 2)).is_none());
-    assert_eq!(rt; rules.hits(), 4);
-    assert_eq!(rt; rules.misses(), 4);
-    rules.keep(key(Group::Call, u32::MAX), outs(0, 1))?;
-    assert!(rt; rules.find(&key(Group::Call, u32::MAX)) == Some(outs(0, 1)));
     Ok(())
+}
+
+/// Whether a call answers what it states.
+fn answers_as_stated<C: RuleStore>(rules: &mut C, call: Call) -> Result<bool, AllocError> {
+    match call {
+        Call::Find(group, word, Some((pc, written))) => {
+            Ok(rules.find(&key(group, word)) == Some(outs(pc, written)))
+        }
+        Call::Find(group, word, None) => Ok(rules.find(&key(group, word)).is_none()),
+        Call::Keep(group, word, (pc, written)) => {
+            rules.keep(key(group, word), outs(pc, written))?;
+            Ok(true)
+        }
+        Call::Clear => {
+            rules.clear();
+            Ok(true)
+        }
+        Call::Counts(hits, misses) => Ok(rules.hits() == hits && rules.misses() == misses),
+    }
 }
 
 #[test]
@@ -43,30 +75,15 @@ fn keys_that_differ_in_one_place(rt: HostRuntime) -> Result<(), Fail> {
     let kept = key(Group::Jal, 5);
     rules.keep(kept, outs(1, 2))?;
     let words = kept.words;
-    for other in [
-        key(Group::Jalr, 5),
-        Key {
-            words: InWords { pc: 6, ..words },
-            ..kept
-        },
-        Key {
-            words: InWords { ci: 6, ..words },
-            ..kept
-        },
-        Key {
-            words: InWords { t1: 6, ..words },
-            ..kept
-        },
-        Key {
-            words: InWords { t2: 6, ..words },
-            ..kept
-        },
-        Key {
-            words: InWords { tm: 6, ..words },
-            ..kept
-        },
+    for (group, words) in [
+        (Group::Jalr, words),
+        (Group::Jal, InWords { pc: 6, ..words }),
+        (Group::Jal, InWords { ci: 6, ..words }),
+        (Group::Jal, InWords { t1: 6, ..words }),
+        (Group::Jal, InWords { t2: 6, ..words }),
+        (Group::Jal, InWords { tm: 6, ..words }),
     ] {
-        assert!(rt; rules.find(&other).is_none());
+        assert!(rt; rules.find(&Key { group, words }).is_none());
     }
     assert!(rt; rules.find(&kept) == Some(outs(1, 2)));
     Ok(())

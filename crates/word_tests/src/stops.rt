@@ -4,8 +4,7 @@ use policy_trait::{Part, Why};
 use pump_words::Line;
 use rv_decode::Group;
 use rv_step::Fault;
-use std::process::Abort;
-use tag_text::{write_number, write_stop_line};
+use tag_text::write_stop_line;
 use turn_steps::Stop;
 
 /// A fault, and the line of hart 1 stopped by it.
@@ -151,61 +150,39 @@ const GROUPS: &[(Group, &[u8])] = &[
     ),
 ];
 
-fn check_line(rt: &impl Abort, h: u32, why: Stop, wanted: &[u8]) {
+/// Whether this is the line of a stop of the hart.
+fn is_line(h: u32, why: Stop, wanted: &[u8]) -> bool {
     let mut line = Line::new();
     write_stop_line(&mut line, h, why);
-    assert_eq!(rt; line.as_slice(), wanted);
+    line.as_slice() == wanted
+}
+
+/// The violation of a policy at that pc.
+fn violation(part: Part, why: Why, pc: u32) -> Stop {
+    Stop::Violation { part, why, pc }
 }
 
 #[test]
-fn exits_are_told(rt: HostRuntime) {
-    check_line(&rt, 0, Stop::Exit(0), b"stop 0 exit 0\n");
-    check_line(&rt, 7, Stop::Exit(4294967295), b"stop 7 exit 4294967295\n");
-}
-
-#[test]
-fn faults_are_told(rt: HostRuntime) {
+fn stops_are_told(rt: HostRuntime) {
+    assert!(rt; is_line(0, Stop::Exit(0), b"stop 0 exit 0\n"));
+    assert!(rt; is_line(7, Stop::Exit(4294967295), b"stop 7 exit 4294967295\n"));
     for &(fault, wanted) in FAULTS {
-        check_line(&rt, 1, Stop::Fault(fault), wanted);
+        assert!(rt; is_line(1, Stop::Fault(fault), wanted));
     }
-}
-
-#[test]
-fn refusals_are_told(rt: HostRuntime) {
     for &(part, why, wanted) in REFUSALS {
-        check_line(
-            &rt,
-            3,
-            Stop::Violation {
-                part,
-                why,
-                pc: 0x1C,
-            },
-            wanted,
-        );
-    }
-    for &(group, wanted) in GROUPS {
-        let (part, why) = (Part::Seal, Why::Rule(group));
-        check_line(
-            &rt,
-            0,
-            Stop::Violation {
-                part,
-                why,
-                pc: 0x89ABCDE0,
-            },
-            wanted,
-        );
+        assert!(rt; is_line(3, violation(part, why, 0x1C), wanted));
     }
 }
 
 #[test]
-fn numbers_follow_their_text(rt: HostRuntime) {
-    let mut line = Line::new();
-    write_number(&mut line, b"row ", 18446744073709551615);
-    write_number(&mut line, b" of ", 0);
-    assert_eq!(rt;
-        line.as_slice(),
-        b"row 18446744073709551615 of 0".as_slice()
-    );
+fn refused_rules_are_told(rt: HostRuntime) {
+    for &(group, wanted) in GROUPS {
+        assert!(rt;
+            is_line(
+                0,
+                violation(Part::Seal, Why::Rule(group), 0x89ABCDE0),
+                wanted
+            )
+        );
+    }
 }

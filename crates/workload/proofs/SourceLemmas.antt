@@ -6,11 +6,11 @@ use Rattle.workload.specs.Kinds.{kind_of, number_after}
 use Rattle.workload.specs.Source.{block_lines, end_lines, head_lines, lines_of_blocks, lines_of_workload, source_of_workload, text_of}
 
 -- lines behind lines
-pub text_of-append : (front lines : List (List ℕ)) → text_of (front ++ lines) ≡ text_of front ++ text_of lines
+pub text_of-append : (prefix lines : List (List ℕ)) → text_of (prefix ++ lines) ≡ text_of prefix ++ text_of lines
 unfolding text_of
 text_of-append [] lines = refl
-text_of-append (line ∷ front) lines =
-    ap (λ (t : List ℕ). line ++ 10 ∷ t) (text_of-append front lines) ∙ sym (append_assoc line (10 ∷ text_of front) (text_of lines))
+text_of-append (line ∷ prefix) lines =
+    ap (λ (t : List ℕ). line ++ 10 ∷ t) (text_of-append prefix lines) ∙ sym (append_assoc line (10 ∷ text_of prefix) (text_of lines))
 
 some_left : (left index number : ℕ) → text_of (lines_of_blocks (suc left) index number)
     ≡ text_of (block_lines (kind_of (number_after number)) index) ++ text_of (lines_of_blocks left (index + 1) (number_after number))

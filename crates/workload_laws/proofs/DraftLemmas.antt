@@ -91,9 +91,9 @@ ends_later : (place later : ℕ) (rows : List CompartmentRange) → place ≤ la
 ends_later place later [] up ends = tt
 ends_later place later (row ∷ rows) up ends = let here : range_end row.range ≤ place = ends.0 in (omega arith, ends_later place later rows up ends.1)
 
-ends_append : (place : ℕ) (front rows : List CompartmentRange) → EndBy place front → EndBy place rows → EndBy place (front ++ rows)
+ends_append : (place : ℕ) (prefix rows : List CompartmentRange) → EndBy place prefix → EndBy place rows → EndBy place (prefix ++ rows)
 ends_append place [] rows ends more = more
-ends_append place (row ∷ front) rows ends more = (ends.0, ends_append place front rows ends.1 more)
+ends_append place (row ∷ prefix) rows ends more = (ends.0, ends_append place prefix rows ends.1 more)
 
 -- ranges that end below an address aren't joined with a word there
 run_apart : (place address : ℕ) (protection : Protection) (rows : List CompartmentRange) → EndBy place rows → suc place ≤ address
@@ -248,15 +248,15 @@ block_ends kind index program ends =
 
 -- ---- workloads
 
-added-append : (place : ℕ) (front rows : List Row) → added place (front ++ rows) ≡ added place front ++ added (end place front) rows
+added-append : (place : ℕ) (prefix rows : List Row) → added place (prefix ++ rows) ≡ added place prefix ++ added (end place prefix) rows
 added-append place [] rows = refl
-added-append place (Comment text ∷ front) rows = added-append place front rows
-added-append place (Said text statement size addition ∷ front) rows =
-    ap (λ (more : List (ℕ × Addition)). (place, addition place) ∷ more) (added-append (past place size) front rows)
+added-append place (Comment text ∷ prefix) rows = added-append place prefix rows
+added-append place (Said text statement size addition ∷ prefix) rows =
+    ap (λ (more : List (ℕ × Addition)). (place, addition place) ∷ more) (added-append (past place size) prefix rows)
 
-additions-append : (draft : Draft) (front more : List (ℕ × Addition)) → with_additions draft (front ++ more) ≡ with_additions (with_additions draft front) more
+additions-append : (draft : Draft) (prefix more : List (ℕ × Addition)) → with_additions draft (prefix ++ more) ≡ with_additions (with_additions draft prefix) more
 additions-append draft [] more = refl
-additions-append draft (first ∷ front) more = additions-append (with_addition draft first.0 first.1) front more
+additions-append draft (first ∷ prefix) more = additions-append (with_addition draft first.0 first.1) prefix more
 
 -- a block and what follows
 block_and_more : (kind : BlockKind) (index : ℕ) (program : Program) (rows : List Row) → EndBy (behind program) program.compartments

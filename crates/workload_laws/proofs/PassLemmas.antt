@@ -16,9 +16,9 @@ use Rattle.workload_laws.proofs.StatementLemmas.{AreGood, Comment, IsGood, IsSai
 
 -- ---- the rows
 
-pub good_append : (front rows : List Row) → AreGood front → AreGood rows → AreGood (front ++ rows)
+pub good_append : (prefix rows : List Row) → AreGood prefix → AreGood rows → AreGood (prefix ++ rows)
 good_append [] rows good more = more
-good_append (row ∷ front) rows good more = (good.0, good_append front rows good.1 more)
+good_append (row ∷ prefix) rows good more = (good.0, good_append prefix rows good.1 more)
 
 row_line : (row : Row) → IsGood row → is_line (text_in row) ≡ true
 row_line (Comment text) good = good.line

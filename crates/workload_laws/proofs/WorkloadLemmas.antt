@@ -172,14 +172,14 @@ rows_of_workload count = head_rows ++ (rows_of_blocks count 0 count ++ end_rows)
 
 -- ---- what holds of them
 
-texts_of-append : (front rows : List Row) → texts_of (front ++ rows) ≡ texts_of front ++ texts_of rows
+texts_of-append : (prefix rows : List Row) → texts_of (prefix ++ rows) ≡ texts_of prefix ++ texts_of rows
 texts_of-append [] rows = refl
-texts_of-append (row ∷ front) rows = ap (λ (ts : List Text). text_in row ∷ ts) (texts_of-append front rows)
+texts_of-append (row ∷ prefix) rows = ap (λ (ts : List Text). text_in row ∷ ts) (texts_of-append prefix rows)
 
-pub end-append : (place : ℕ) (front rows : List Row) → end place (front ++ rows) ≡ end (end place front) rows
+pub end-append : (place : ℕ) (prefix rows : List Row) → end place (prefix ++ rows) ≡ end (end place prefix) rows
 end-append place [] rows = refl
-end-append place (Comment text ∷ front) rows = end-append place front rows
-end-append place (Said text statement size addition ∷ front) rows = end-append (past place size) front rows
+end-append place (Comment text ∷ prefix) rows = end-append place prefix rows
+end-append place (Said text statement size addition ∷ prefix) rows = end-append (past place size) prefix rows
 
 good_blocks : (left index number : ℕ) → AreGood (rows_of_blocks left index number)
 unfolding rows_of_blocks

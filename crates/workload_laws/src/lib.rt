@@ -1,5 +1,5 @@
 //! What holds of workloads and the assembler together: the source of each is assembled.
-//! The function does nothing; its contract is a law for callers that assemble workloads.
+//! Its contract is a law for callers that assemble workloads.
 #![tactic(auto)]
 
 ghost use Rattle.std.specs.Prelude.{◌≡◌, ℕ, ◌≤◌, Ok};

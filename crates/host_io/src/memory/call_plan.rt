@@ -1,4 +1,5 @@
-// Which numbered calls are to fail.
+//! Which numbered calls are to fail.
+
 ghost use Rattle.std.specs.Prelude.{◌≡◌};
 ghost use Rattle.host_io.specs.FaultPlan.{fresh_calls, fails_next, calls_after};
 

@@ -1,4 +1,5 @@
-// Which numbered calls are to fail, and how many did.
+//! Which numbered calls are to fail, and how many did.
+
 ghost use Rattle.std.specs.Prelude.{◌≡◌, IsTrue};
 ghost use Rattle.host_io.specs.Causes.{Rose};
 ghost use Rattle.host_io.specs.FaultPlan.{fresh_plan, fails_next, plan_after};

@@ -1,4 +1,5 @@
-// The files that an implementation in memory holds.
+//! The files that an implementation in memory holds.
+
 ghost use Rattle.std.specs.Prelude.{◌≡◌, ◌≢◌, ◌↔◌, ℕ, ◌<◌, ◌≤◌, List, length, find, string_bytes, Some, Err, IfOk, OnOk, OnErr};
 ghost use Rattle.std.specs.List.{position};
 ghost use Rattle.std.specs.Str.{bytes_eq};

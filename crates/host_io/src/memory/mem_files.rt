@@ -1,4 +1,5 @@
-// Files in memory whose chosen calls fail.
+//! Files in memory whose chosen calls fail.
+
 ghost use Rattle.std.specs.Prelude.{◌≡◌, ◌≢◌, ◌↔◌, ◌⊎◌, ℕ, ◌<◌, ◌≤◌, true, List, length, Some, Err, All, IsTrue, IsNone, IsSomeAnd, IfOk, OnOk, OnErr, vec_len};
 ghost use Rattle.std.specs.Bool.{IsFalse};
 ghost use Rattle.host_io.specs.Bytes.{held_are_bytes, told_held};

@@ -1,4 +1,5 @@
-// A sink in memory whose chosen puts fail.
+//! A sink in memory whose chosen puts fail.
+
 ghost use Rattle.std.specs.Prelude.{◌≡◌, ◌↔◌, ◌<◌, length, [], ◌++◌, Some, Err, IsOk, OnOk, OnErr, IsTrue};
 ghost use Rattle.host_io.specs.Causes.{PutCause};
 ghost use Rattle.host_io.specs.FaultPlan.{fresh_plan, fails_next, plan_after};

@@ -1,4 +1,5 @@
-// A source in memory whose chosen reads fail.
+//! A source in memory whose chosen reads fail.
+
 ghost use Rattle.std.specs.Prelude.{◌≡◌, ◌≢◌, ◌↔◌, ◌<◌, ◌++◌, min, length, take, drop, IsTrue, Some, Ok, IsErr, IfOk, OnErr};
 ghost use Rattle.host_io.specs.Causes.{ReadCause};
 ghost use Rattle.host_io.specs.FaultPlan.{fresh_plan, fails_next, plan_after};

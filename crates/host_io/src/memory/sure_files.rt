@@ -1,4 +1,5 @@
-// Files in memory that never fail.
+//! Files in memory that never fail.
+
 ghost use Rattle.std.specs.Prelude.{◌≡◌, ◌≢◌, ◌↔◌, ℕ, ◌<◌, ◌≤◌, true, List, length, Some, Err, All, IfOk, OnOk, OnErr, IsOkUnless, vec_len};
 ghost use Rattle.shared_terms.specs.Counts.{next_count};
 ghost use Rattle.host_io.specs.Bytes.{told_are_bytes, told_bytes};

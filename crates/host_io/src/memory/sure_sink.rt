@@ -1,4 +1,5 @@
-// A sink in memory that never fails.
+//! A sink in memory that never fails.
+
 ghost use Rattle.std.specs.Prelude.{◌≡◌, [], ◌++◌, length, Some, IsOk, OnOk, OnErr, IsOkUnless};
 
 use crate::{PutEnd, Sink};

@@ -1,4 +1,5 @@
-// A source in memory that never fails.
+//! A source in memory that never fails.
+
 ghost use Rattle.std.specs.Prelude.{◌≡◌, ◌≢◌, ◌<◌, ◌++◌, min, length, take, drop, IsTrue, Some, Ok, IfOk};
 ghost use Rattle.host_io.specs.Supply.{Open, left_in, is_closed, closed-left};
 
@@ -82,7 +83,7 @@ impl Source for SureSource {
         if self.closed || buffer.is_empty() {
             return Ok(0);
         }
-        let count = copy_front(&self.bytes[self.next..], buffer);
+        let count = copy_prefix(&self.bytes[self.next..], buffer);
         self.next += count;
         self.closed = count == 0;
         Ok(count)
@@ -90,7 +91,7 @@ impl Source for SureSource {
 }
 
 // Copies as many first bytes as fit, and says how many.
-fn copy_front(from: &[u8], to: &mut [u8]) -> usize
+fn copy_prefix(from: &[u8], to: &mut [u8]) -> usize
     ensures count { result ≡ min (length to.old) (length from.now) }
     ensures copied { take result to.new ≡ take result from.now }
     ensures others { drop result to.new ≡ drop result to.old }

@@ -1,4 +1,5 @@
-// Files over a file system of std.
+//! Files over a file system of std.
+
 ghost use Rattle.std.specs.Prelude.{◌≡◌, ◌≢◌, ◌<◌, ◌≤◌, false, length, None, Err, IfOk, IfSome, vec_len};
 ghost use Rattle.std.specs.IoError.{error_kind};
 ghost use Rattle.host_io.specs.Bytes.{none_are_bytes};
@@ -135,8 +136,8 @@ fn read_within<R: Read + Drop>(alloc: Global, reader: R, limit: usize) -> Result
         IfSome (R.remaining reader) (λ all. limit < length all) }
 {
     let mut bytes = Vec::new(alloc);
-    let mut front = reader.take((limit as u64).saturating_add(1));
-    if let Err(error) = front.read_to_end(&mut bytes) {
+    let mut prefix = reader.take((limit as u64).saturating_add(1));
+    if let Err(error) = prefix.read_to_end(&mut bytes) {
         return Err(load_end(&error));
     }
     if bytes.len() > limit {
@@ -145,7 +146,7 @@ fn read_within<R: Read + Drop>(alloc: Global, reader: R, limit: usize) -> Result
     Ok(bytes)
 }
 
-// What an error of the system means for a load: want of memory is told as such, and any other error
+// What an error of the system means for a load: running out of memory is told as such, and any other error
 // is a fault.
 fn load_end(error: &io::Error) -> LoadFile
     ensures memory { error_kind error.now ≡ ErrorKind.OutOfMemory → result ≡ LoadFile.Memory }
@@ -158,7 +159,7 @@ fn load_end(error: &io::Error) -> LoadFile
 }
 
 // What an error of the system means for a save that could not open its file, and so changed none:
-// want of memory is told as such, and any other error is a fault.
+// running out of memory is told as such, and any other error is a fault.
 fn save_end(error: &io::Error) -> SaveFile
     ensures memory { error_kind error.now ≡ ErrorKind.OutOfMemory → result ≡ SaveFile.Memory }
     ensures failed { error_kind error.now ≢ ErrorKind.OutOfMemory → result ≡ SaveFile.Failed }

@@ -1,7 +1,8 @@
-// A sink over a writer of std.
+//! A sink over a writer of std.
+
 ghost use Rattle.std.specs.Prelude.{◌≡◌, length, None, Err, IsOk, OnOk};
 ghost use Rattle.std.specs.Io.KnownBytes.{Appends};
-ghost use Rattle.host_io.specs.Fronts.{TakesFront};
+ghost use Rattle.host_io.specs.Prefixes.{TakesPrefix};
 ghost use Rattle.host_io.specs.Causes.{PutCause};
 
 use crate::{PutEnd, Sink};
@@ -47,9 +48,9 @@ impl<W: Write + Drop> Sink for StdSink<W> {
 
     ghost faults = { λ sink. sink.faults };
 
-    #[tactic(auto, using(crate::proofs::FrontLemmas::takes_none))]
+    #[tactic(auto, using(crate::proofs::PrefixLemmas::takes_none))]
     fn put(&mut self, piece: &[u8]) -> Result<(), PutEnd>
-        ensures failed { result ≡ Err PutEnd.Failed → TakesFront None None piece.now }
+        ensures failed { result ≡ Err PutEnd.Failed → TakesPrefix None None piece.now }
         ensures empty { length piece.now ≡ 0 → IsOk result }
         ensures cause { PutCause self.old.faults self.new.faults result }
 

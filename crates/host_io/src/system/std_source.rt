@@ -1,4 +1,5 @@
-// A source over a reader of std.
+//! A source over a reader of std.
+
 ghost use Rattle.std.specs.Prelude.{◌≡◌, ◌≢◌, ◌<◌, ◌≤◌, length, take, false, IsTrue, None, Ok, IfOk, OnErr};
 ghost use Rattle.std.specs.Io.KnownBytes.{Consumes, Keeps};
 ghost use Rattle.host_io.specs.Causes.{ReadCause};

@@ -1,4 +1,5 @@
-// Files that are loaded and saved by name.
+//! Files that are loaded and saved by name.
+
 ghost use Rattle.std.specs.Prelude.{◌≡◌, ◌≢◌, ℕ, ◌<◌, ◌≤◌, Bool, List, length, Option, Err, IfOk, OnOk, IfSome, vec_len};
 ghost use Rattle.std.specs.Bool.{then_some};
 ghost use Rattle.host_io.specs.Bytes.{TellBytes};
@@ -10,7 +11,7 @@ use std::alloc::Global;
 /// Why a file was not loaded.
 #[derive(Clone, Copy, Debug, PartialEq, Eq)]
 pub enum LoadFile {
-    /// The outside failed, as where there is no file of that name.
+    /// The environment failed, as where there is no file of that name.
     Failed,
     /// The file holds more bytes than the limit.
     TooLong,
@@ -21,7 +22,7 @@ pub enum LoadFile {
 /// Why a file was not saved.
 #[derive(Clone, Copy, Debug, PartialEq, Eq)]
 pub enum SaveFile {
-    /// The outside failed. What the file of that name holds afterwards is not said.
+    /// The environment failed. What the file of that name holds afterwards is not said.
     Failed,
     /// Memory ran out, and no file was changed.
     Memory,

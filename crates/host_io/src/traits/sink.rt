@@ -1,12 +1,13 @@
-// A place that bytes are put on.
+//! A place that bytes are put on.
+
 ghost use Rattle.std.specs.Prelude.{◌≡◌, ℕ, List, length, Option, Err, IsOk, OnOk};
-ghost use Rattle.host_io.specs.Fronts.{TakesAll, TakesFront};
+ghost use Rattle.host_io.specs.Prefixes.{TakesAll, TakesPrefix};
 ghost use Rattle.host_io.specs.Causes.{PutCause};
 
 /// Why a put came to nothing, or to less than all of its bytes.
 #[derive(Clone, Copy, Debug, PartialEq, Eq)]
 pub enum PutEnd {
-    /// The outside failed. Some first bytes of the piece may have been taken.
+    /// The environment failed. Some first bytes of the piece may have been taken.
     Failed,
     /// Memory ran out, and no byte was taken.
     Memory,
@@ -24,7 +25,7 @@ pub trait Sink {
     fn put(&mut self, piece: &[u8]) -> Result<(), PutEnd>
         ensures ok { OnOk result (TakesAll (taken self.old) (taken self.new) piece.now) }
         ensures failed { result ≡ Err PutEnd.Failed →
-            TakesFront (taken self.old) (taken self.new) piece.now }
+            TakesPrefix (taken self.old) (taken self.new) piece.now }
         ensures memory { result ≡ Err PutEnd.Memory → taken self.new ≡ taken self.old }
         ensures empty { length piece.now ≡ 0 → IsOk result }
         ensures cause { PutCause (faults self.old) (faults self.new) result };

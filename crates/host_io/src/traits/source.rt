@@ -1,4 +1,5 @@
-// An input that is read piece by piece.
+//! An input that is read piece by piece.
+
 ghost use Rattle.std.specs.Prelude.{◌≡◌, ◌≢◌, ℕ, ◌<◌, ◌≤◌, List, length, take, Option, Bool, IsTrue, Ok, IfOk, OnErr};
 ghost use Rattle.std.specs.Io.KnownBytes.{IsAtEnd, prepend_known};
 ghost use Rattle.host_io.specs.Causes.{ReadCause};

@@ -1,6 +1,6 @@
 use Rattle.std.proofs.Common.{◌≡◌, ℕ, ◌+◌, List, length, drop, sym, ap, subst, ◌∙◌, arith}
 use Rattle.std.specs.FinMap as map
-use Rattle.std.proofs.lemmas.List.{length-drop, length-replicate}
+use Rattle.std.proofs.lemmas.List.{length-drop, length-replicate, nil_from_length}
 use Rattle.std.proofs.lemmas.Result.{err_from_is_err_and}
 use Rattle.asm_emit.specs.Assembled.{additions_of, draft_with}
 use Rattle.asm_emit.specs.Draft.{Draft, empty_draft}
@@ -77,3 +77,13 @@ returns-clause-value c =
     let names = map.get c.args.names.now in
     let none : length (drop i lines) ≡ 0 = omega (arith, length-drop i lines, c.loop-i-test.false) in
     is_done layout.harts layout.ram names (draft_of c.loop-i.builder) (drop i lines) (drop i places) (draft_with (empty_draft layout.harts) (additions_of layout.harts layout.ram names lines places)) none c.loop-i.invariant.so_far
+
+pub returns-clause-harts : goal.returns-clause-harts
+returns-clause-harts c = c.loop-i.invariant.entered
+
+pub returns-clause-kept : goal.returns-clause-kept
+returns-clause-kept c =
+    let layout = c.args.layout.now in
+    let left = drop c.loop-i.i layout.places.items in
+    let none : length left ≡ 0 = omega (arith, length-drop c.loop-i.i layout.places.items, c.requires.count, c.loop-i-test.false) in
+    subst (λ (ps : List ℕ). IsDraft layout.ram (place_or layout.ram ps) (draft_of c.loop-i.builder)) (nil_from_length left none) c.loop-i.invariant.kept

@@ -7,7 +7,7 @@ use Rattle.asm_read.proofs.source.next_line.Goals as goal
 pub returns-in-Some-clause-lines : goal.returns-in-Some-clause-lines
 returns-in-Some-clause-lines c =
     let found : after 10 c.args.text.now ≡ Some c.in-Some.rest.now = sym c.cut.ensures.rest ∙ ap option_copied c.in-Some.is in
-    rw (c.without_return.ensures, c.cut.ensures.front) (lines-more c.args.text.now c.in-Some.rest.now found)
+    rw (c.without_return.ensures, c.cut.ensures.prefix) (lines-more c.args.text.now c.in-Some.rest.now found)
 
 pub returns-in-Some-clause-shorter : goal.returns-in-Some-clause-shorter
 returns-in-Some-clause-shorter c =
@@ -16,4 +16,4 @@ returns-in-Some-clause-shorter c =
 pub returns-in-None-clause-lines : goal.returns-in-None-clause-lines
 returns-in-None-clause-lines c =
     let none : after 10 c.args.text.now ≡ None = sym c.cut.ensures.rest ∙ ap option_copied c.in-None.is in
-    rw c.cut.ensures.front (lines-last c.args.text.now none c.requires)
+    rw c.cut.ensures.prefix (lines-last c.args.text.now none c.requires)

@@ -1,4 +1,4 @@
--- What came so far is within the limit, and was the front of what was left.
+-- What came so far is within the limit, and was the prefix of what was left.
 use Rattle.std.proofs.Common.{◌≡◌, ◌+◌, ◌-◌, ◌≤◌, vec_len}
 use Rattle.std.specs.Io.KnownBytes.{prepend_known}
 use Rattle.host_io.proofs.whole_input.read_to_end.Given as goal

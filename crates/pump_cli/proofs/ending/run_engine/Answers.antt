@@ -1,6 +1,6 @@
 use Rattle.std.proofs.Common.{List, Option, ap, subst, ◌∙◌}
 use Rattle.std.proofs.lemmas.Result.{err_from_is_err_and}
-use Rattle.host_io.specs.Pieces.{PutsAll, PutsFront}
+use Rattle.host_io.specs.Pieces.{PutsAll, PutsPrefix}
 use Rattle.turn_steps.specs.declared.stop.Stop.{Stop}
 use Rattle.engine_trait.specs.Standing.{Standing}
 use Rattle.rounds.specs.Course.{hart_stops, rounds}
@@ -22,7 +22,7 @@ returns-in_err-tell_last-clause-does g c =
     (c.halt-halt.ensures ∙ ap (λ (e : Standing g.row.E-P.Denot g.row.E-P-Tag.Denot). e.account.halt) c.in_ok-make_rounds.ensures.standing)
     (c.stops_of-stops.ensures ∙ ap (λ (e : Standing g.row.E-P.Denot g.row.E-P-Tag.Denot). hart_stops e.machine.core) c.in_ok-make_rounds.ensures.standing)
     c.in_ok-make_rounds.ensures.puts c.from_residual-in_err-tell_last.result _ p.1
-    (subst (λ (stops : List (Option Stop)). PutsFront (record { out = g.K.Sink.taken c.make_rounds.new.out; err = g.L.Sink.taken c.make_rounds.new.err }) (record { out = g.K.Sink.taken c.make_rounds.new.out; err = g.L.Sink.taken c.tell_last.new.err }) (last_pieces c.halt-halt.result stops)) c.deref.ensures.0 (c.in_err-tell_last.ensures.told (g.K.Sink.taken c.make_rounds.new.out)))
+    (subst (λ (stops : List (Option Stop)). PutsPrefix (record { out = g.K.Sink.taken c.make_rounds.new.out; err = g.L.Sink.taken c.make_rounds.new.err }) (record { out = g.K.Sink.taken c.make_rounds.new.out; err = g.L.Sink.taken c.tell_last.new.err }) (last_pieces c.halt-halt.result stops)) c.deref.ensures.0 (c.in_err-tell_last.ensures.told (g.K.Sink.taken c.make_rounds.new.out)))
 
 pub returns-clause-does : goal.returns-clause-does
 returns-clause-does g c =

@@ -1,13 +1,13 @@
 use Rattle.std.proofs.Common.{refl}
 use Rattle.pump_line.specs.Task.{shell}
 use Rattle.pump_line.specs.Told.{shell_value}
-use Rattle.pump_cli.proofs.WayLemmas.{file_ends, obeyed}
+use Rattle.pump_cli.proofs.WayLemmas.{file_ends, executed}
 use Rattle.pump_cli.proofs.program.shell_task.Goals as goal
 
 pub returns-in-Ok : goal.returns-in-Ok
 returns-in-Ok g c =
     let e = c.obey_lines.ensures in
-    obeyed (shell_value c.args.task) _ _ c.in-Ok.image c.obey_lines.result c.in-Ok.ensures.taken e.does c.in-Ok.ensures.faults c.in-Ok.ensures.writes e.faults e.kind e.long e.tags_out e.no_start e.unread e.closed e.moved
+    executed (shell_value c.args.task) _ _ c.in-Ok.image c.obey_lines.result c.in-Ok.ensures.taken e.does c.in-Ok.ensures.faults c.in-Ok.ensures.writes e.faults e.kind e.long e.tags_out e.no_start e.unread e.closed e.moved
     c.in-Ok.ensures.held c.in-Ok.ensures.calls
 
 pub returns-in-Err : goal.returns-in-Err

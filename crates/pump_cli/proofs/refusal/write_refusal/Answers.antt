@@ -5,13 +5,13 @@ use Rattle.pump_cli.proofs.refusal.write_refusal.Goals as goal
 pub returns-in-BadImage-clause-text : goal.returns-in-BadImage-clause-text
 returns-in-BadImage-clause-text c =
     rw c.in-BadImage.is
-    (c.write_image_error.ensures.text ∙ ap (λ front. front ++ image_error_text c.in-BadImage.error) c.write_text-in-BadImage.ensures.text
+    (c.write_image_error.ensures.text ∙ ap (λ prefix. prefix ++ image_error_text c.in-BadImage.error) c.write_text-in-BadImage.ensures.text
     ∙ append_assoc c.args.to.now.items (codes "pump: bad image: ") (image_error_text c.in-BadImage.error))
 
 pub returns-in-BadSource-clause-text : goal.returns-in-BadSource-clause-text
 returns-in-BadSource-clause-text c =
     rw c.in-BadSource.is
-    (c.write_source_error.ensures.text ∙ ap (λ front. front ++ source_error_text c.in-BadSource.error) c.write_text-in-BadSource.ensures.text
+    (c.write_source_error.ensures.text ∙ ap (λ prefix. prefix ++ source_error_text c.in-BadSource.error) c.write_text-in-BadSource.ensures.text
     ∙ append_assoc c.args.to.now.items (codes "pump: bad source: ") (source_error_text c.in-BadSource.error))
 
 pub returns-in-TooLong-clause-text : goal.returns-in-TooLong-clause-text

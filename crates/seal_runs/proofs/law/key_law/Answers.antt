@@ -1,5 +1,5 @@
-use Rattle.seal_runs.proofs.TurnLemmas.{keeps_line}
+use Rattle.seal_runs.proofs.TurnLemmas.{keeps_invariant}
 use Rattle.seal_runs.proofs.law.key_law.Goals as goal
 
 pub returns : goal.returns
-returns c = keeps_line
+returns c = keeps_invariant

@@ -1,5 +1,5 @@
-use Rattle.seal_runs.proofs.StartLemmas.{first_line}
+use Rattle.seal_runs.proofs.StartLemmas.{first_invariant}
 use Rattle.seal_runs.proofs.law.start_law.Goals as goal
 
 pub returns : goal.returns
-returns c = first_line
+returns c = first_invariant

@@ -9,10 +9,10 @@ pub returns-clause-stays : goal.returns-clause-stays
 returns-clause-stays g c = script_start g.P.Tag.PartialEq.eq g.P.Policy.model
 
 pub returns-clause-tells : goal.returns-clause-tells
-returns-clause-tells g c s items front line along goes = next_told g.P.Tag.PartialEq.eq g.P.Policy.model s items front line along goes
+returns-clause-tells g c s items prefix line along goes = next_told g.P.Tag.PartialEq.eq g.P.Policy.model s items prefix line along goes
 
 pub returns-clause-closed : goal.returns-clause-closed
-returns-clause-closed g c s items front line quits = closed_by g.P.Tag.PartialEq.eq g.P.Policy.model s items front line quits
+returns-clause-closed g c s items prefix line quits = closed_by g.P.Tag.PartialEq.eq g.P.Policy.model s items prefix line quits
 
 pub returns-clause-input : goal.returns-clause-input
 returns-clause-input g c = shell_is_told g.P.Tag.PartialEq.eq g.P.Policy.model

@@ -103,5 +103,5 @@ returns-clause-puts g c =
     let old = g.K.Sink.taken c.args.out.now in
     let mid = g.K.Sink.taken c.loop-byte.out in
     let all : take k bytes ≡ bytes = take_all k bytes (omega (arith, c.loop-byte-test.false)) in
-    subst (λ front. PutsOut old mid (script eq m s (answers_along c.args.lines.now front)).pieces (gives false)) all
+    subst (λ prefix. PutsOut old mid (script eq m s (answers_along c.args.lines.now prefix)).pieces (gives false)) all
     (puts_as old mid (script eq m s (answers_along c.args.lines.now (take k bytes))).pieces tt false i.puts)

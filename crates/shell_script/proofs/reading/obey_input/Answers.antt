@@ -5,7 +5,7 @@ use Rattle.host_io.proofs.ReadingLemmas.{prepend_known-append}
 use Rattle.shell_lang.specs.Stream.{answers_along, end_answer, onto_answers}
 use Rattle.shell_turns.specs.Cuts.{PutsOut}
 use Rattle.shell_turns.specs.declared.ends.ObeyEnd.TheVariants as obey_end
-use Rattle.shell_turns.proofs.PutLemmas.{done, fails, gives, puts_as, puts_cut_with, puts_front, puts_nothing, puts_with, whole}
+use Rattle.shell_turns.proofs.PutLemmas.{done, fails, gives, puts_as, puts_cut_with, puts_prefix, puts_nothing, puts_with, whole}
 use Rattle.shell_script.specs.Scripts.{Ends, Script, script}
 use Rattle.shell_script.specs.Shell.{Shell, ShellCause, ShellEnds, at_the_end, shell_of}
 use Rattle.shell_script.specs.declared.reading.ShellCut.{ShellCut}
@@ -13,7 +13,7 @@ use Rattle.shell_script.specs.declared.reading.ShellCut.TheVariants.{Obey, ReadF
 use Rattle.shell_script.specs.declared.reading.ShellEnd.TheVariants.{Quit, TooLong}
 use Rattle.shell_script.proofs.LineLemmas.{answers_of_none, line_of_none}
 use Rattle.shell_script.proofs.ScriptLemmas.{script_none}
-use Rattle.shell_script.proofs.ShellLemmas.{done_ends, done_puts, front_back, none_taken, ok_map, piece_ends, piece_line, piece_puts, shell_cut, shell_long, shell_quits, shell_quits_pieces, told_at_end, told_in, told_of}
+use Rattle.shell_script.proofs.ShellLemmas.{done_ends, done_puts, prefix_back, none_taken, ok_map, piece_ends, piece_line, piece_puts, shell_cut, shell_long, shell_quits, shell_quits_pieces, told_at_end, told_in, told_of}
 use Rattle.shell_script.proofs.reading.obey_input.Goals as goal
 
 pub loop-session-init : goal.loop-session-init
@@ -106,7 +106,7 @@ returns-in-Err-clause-puts g c =
     told_of left i.taken mid (λ bytes. PutsOut old put (shell_of eq m limit s bytes).pieces (Err ReadFailed)) i.moved λ more is.
     puts_cut_with Bool _ old put (shell_of eq m limit s (i.taken ++ more)).pieces obey_end.WriteFault ReadFailed
     (shell_cut eq m limit s i.taken more within old put Bool obey_end.WriteFault
-    (puts_front Bool old put (script eq m s (answers_along [] i.taken)).pieces obey_end.WriteFault i.puts))
+    (puts_prefix Bool old put (script eq m s (answers_along [] i.taken)).pieces obey_end.WriteFault i.puts))
 
 pub returns-in-Ok-true-clause-done : goal.returns-in-Ok-true-clause-done
 returns-in-Ok-true-clause-done g c =
@@ -124,18 +124,18 @@ returns-in-Ok-true-clause-done g c =
     let buffer = c.read.new.buffer in
     let k = c.min.result in
     let count = c.in-Ok.count in
-    let front = take k buffer in
+    let prefix = take k buffer in
     let back = drop k (take count buffer) in
     let new = g.K.Sink.taken c.obey_bytes.new.out in
     let few : k ≤ count = grind (arith, c.min.ensures) in
     let room : k ≤ c.loop-session.room = grind (arith, c.min.ensures) in
-    let within : length (i.taken ++ front) ≤ limit = omega (arith, length-append i.taken front, length-take k buffer, room, i.room) in
+    let within : length (i.taken ++ prefix) ≤ limit = omega (arith, length-append i.taken prefix, length-take k buffer, room, i.room) in
     let moved : mid ≡ prepend_known (take count buffer) rest = c.in-Ok.ensures.moved in
     let t = c.obey_bytes.new.session in
-    let ends : Ends (script eq m now (answers_along c.loop-session.lines front)) t true = search rules in
-    told_in left i.taken (take count buffer) front back mid rest (λ bytes. ShellEnds (shell_of eq m limit s bytes) t Quit) i.moved moved
-    (front_back count k buffer few) λ more is.
-    shell_quits eq m limit s (i.taken ++ front) (back ++ more) within t (piece_ends eq m limit s i.taken front c.loop-session.lines i.lines now i.ends t true ends)
+    let ends : Ends (script eq m now (answers_along c.loop-session.lines prefix)) t true = search rules in
+    told_in left i.taken (take count buffer) prefix back mid rest (λ bytes. ShellEnds (shell_of eq m limit s bytes) t Quit) i.moved moved
+    (prefix_back count k buffer few) λ more is.
+    shell_quits eq m limit s (i.taken ++ prefix) (back ++ more) within t (piece_ends eq m limit s i.taken prefix c.loop-session.lines i.lines now i.ends t true ends)
 
 pub returns-in-Ok-true-clause-puts : goal.returns-in-Ok-true-clause-puts
 returns-in-Ok-true-clause-puts g c =
@@ -153,22 +153,22 @@ returns-in-Ok-true-clause-puts g c =
     let buffer = c.read.new.buffer in
     let k = c.min.result in
     let count = c.in-Ok.count in
-    let front = take k buffer in
+    let prefix = take k buffer in
     let back = drop k (take count buffer) in
     let new = g.K.Sink.taken c.obey_bytes.new.out in
     let few : k ≤ count = grind (arith, c.min.ensures) in
     let room : k ≤ c.loop-session.room = grind (arith, c.min.ensures) in
-    let within : length (i.taken ++ front) ≤ limit = omega (arith, length-append i.taken front, length-take k buffer, room, i.room) in
+    let within : length (i.taken ++ prefix) ≤ limit = omega (arith, length-append i.taken prefix, length-take k buffer, room, i.room) in
     let moved : mid ≡ prepend_known (take count buffer) rest = c.in-Ok.ensures.moved in
     let t = c.obey_bytes.new.session in
-    let ends : Ends (script eq m now (answers_along c.loop-session.lines front)) t true = search rules in
-    let puts : PutsOut put new (script eq m now (answers_along c.loop-session.lines front)).pieces (gives true) = search rules in
-    told_in left i.taken (take count buffer) front back mid rest (λ bytes. PutsOut old new (shell_of eq m limit s bytes).pieces (Ok Quit)) i.moved moved
-    (front_back count k buffer few) λ more is.
+    let ends : Ends (script eq m now (answers_along c.loop-session.lines prefix)) t true = search rules in
+    let puts : PutsOut put new (script eq m now (answers_along c.loop-session.lines prefix)).pieces (gives true) = search rules in
+    told_in left i.taken (take count buffer) prefix back mid rest (λ bytes. PutsOut old new (shell_of eq m limit s bytes).pieces (Ok Quit)) i.moved moved
+    (prefix_back count k buffer few) λ more is.
     subst (λ pieces. PutsOut old new pieces (whole ShellCut Quit))
-    (sym (shell_quits_pieces eq m limit s (i.taken ++ front) (back ++ more) within t (piece_ends eq m limit s i.taken front c.loop-session.lines i.lines now i.ends t true ends)))
-    (puts_with ShellCut old new (script eq m s (answers_along [] (i.taken ++ front))).pieces true Quit
-    (piece_puts eq m limit s i.taken front c.loop-session.lines i.lines now i.ends old put new (gives true) i.puts puts))
+    (sym (shell_quits_pieces eq m limit s (i.taken ++ prefix) (back ++ more) within t (piece_ends eq m limit s i.taken prefix c.loop-session.lines i.lines now i.ends t true ends)))
+    (puts_with ShellCut old new (script eq m s (answers_along [] (i.taken ++ prefix))).pieces true Quit
+    (piece_puts eq m limit s i.taken prefix c.loop-session.lines i.lines now i.ends old put new (gives true) i.puts puts))
 
 pub returns-in-Err-obey_bytes-clause-puts : goal.returns-in-Err-obey_bytes-clause-puts
 returns-in-Err-obey_bytes-clause-puts g c =
@@ -186,20 +186,20 @@ returns-in-Err-obey_bytes-clause-puts g c =
     let buffer = c.read.new.buffer in
     let k = c.min.result in
     let count = c.in-Ok.count in
-    let front = take k buffer in
+    let prefix = take k buffer in
     let back = drop k (take count buffer) in
     let new = g.K.Sink.taken c.obey_bytes.new.out in
     let few : k ≤ count = grind (arith, c.min.ensures) in
     let room : k ≤ c.loop-session.room = grind (arith, c.min.ensures) in
-    let within : length (i.taken ++ front) ≤ limit = omega (arith, length-append i.taken front, length-take k buffer, room, i.room) in
+    let within : length (i.taken ++ prefix) ≤ limit = omega (arith, length-append i.taken prefix, length-take k buffer, room, i.room) in
     let moved : mid ≡ prepend_known (take count buffer) rest = c.in-Ok.ensures.moved in
     let end = c.in-Err-obey_bytes.end in
-    let puts : PutsOut put new (script eq m now (answers_along c.loop-session.lines front)).pieces (fails Bool end) = search rules in
-    told_in left i.taken (take count buffer) front back mid rest (λ bytes. PutsOut old new (shell_of eq m limit s bytes).pieces (Err (Obey end))) i.moved moved
-    (front_back count k buffer few) λ more is.
-    puts_cut_with Bool _ old new (shell_of eq m limit s (i.taken ++ front ++ (back ++ more))).pieces end (Obey end)
-    (shell_cut eq m limit s (i.taken ++ front) (back ++ more) within old new Bool end
-    (piece_puts eq m limit s i.taken front c.loop-session.lines i.lines now i.ends old put new (fails Bool end) i.puts puts))
+    let puts : PutsOut put new (script eq m now (answers_along c.loop-session.lines prefix)).pieces (fails Bool end) = search rules in
+    told_in left i.taken (take count buffer) prefix back mid rest (λ bytes. PutsOut old new (shell_of eq m limit s bytes).pieces (Err (Obey end))) i.moved moved
+    (prefix_back count k buffer few) λ more is.
+    puts_cut_with Bool _ old new (shell_of eq m limit s (i.taken ++ prefix ++ (back ++ more))).pieces end (Obey end)
+    (shell_cut eq m limit s (i.taken ++ prefix) (back ++ more) within old new Bool end
+    (piece_puts eq m limit s i.taken prefix c.loop-session.lines i.lines now i.ends old put new (fails Bool end) i.puts puts))
 
 pub returns-then-count-room-clause-done : goal.returns-then-count-room-clause-done
 returns-then-count-room-clause-done g c =
@@ -217,24 +217,24 @@ returns-then-count-room-clause-done g c =
     let buffer = c.read.new.buffer in
     let k = c.min.result in
     let count = c.in-Ok.count in
-    let front = take k buffer in
+    let prefix = take k buffer in
     let back = drop k (take count buffer) in
     let new = g.K.Sink.taken c.obey_bytes.new.out in
     let few : k ≤ count = grind (arith, c.min.ensures) in
     let room : k ≤ c.loop-session.room = grind (arith, c.min.ensures) in
-    let within : length (i.taken ++ front) ≤ limit = omega (arith, length-append i.taken front, length-take k buffer, room, i.room) in
+    let within : length (i.taken ++ prefix) ≤ limit = omega (arith, length-append i.taken prefix, length-take k buffer, room, i.room) in
     let moved : mid ≡ prepend_known (take count buffer) rest = c.in-Ok.ensures.moved in
     let t = c.obey_bytes.new.session in
-    let more_ends : Ends (script eq m now (answers_along c.loop-session.lines front)) t false = search rules in
-    let ends = piece_ends eq m limit s i.taken front c.loop-session.lines i.lines now i.ends t false more_ends in
+    let more_ends : Ends (script eq m now (answers_along c.loop-session.lines prefix)) t false = search rules in
+    let ends = piece_ends eq m limit s i.taken prefix c.loop-session.lines i.lines now i.ends t false more_ends in
     let over : k ≡ c.loop-session.room = grind (arith, c.min.ensures) in
     let fits : count ≤ length buffer = grind (arith, c.read.ensures.within) in
-    let full : length (i.taken ++ front) ≡ limit = omega (arith, length-append i.taken front, length-take k buffer, over, few, fits, i.room) in
+    let full : length (i.taken ++ prefix) ≡ limit = omega (arith, length-append i.taken prefix, length-take k buffer, over, few, fits, i.room) in
     let longer : (more : List ℕ) → 1 ≤ length (back ++ more)
     = λ more. grind (arith, length-append back more, length-drop k (take count buffer), length-take count buffer, over, fits) in
-    told_in left i.taken (take count buffer) front back mid rest (λ bytes. ShellEnds (shell_of eq m limit s bytes) t TooLong) i.moved moved
-    (front_back count k buffer few) λ more is.
-    let all = shell_long eq m limit s (i.taken ++ front) (back ++ more) full (longer more) t ends in
+    told_in left i.taken (take count buffer) prefix back mid rest (λ bytes. ShellEnds (shell_of eq m limit s bytes) t TooLong) i.moved moved
+    (prefix_back count k buffer few) λ more is.
+    let all = shell_long eq m limit s (i.taken ++ prefix) (back ++ more) full (longer more) t ends in
     record {
       after = ends.after ∙ sym (ap (λ (shell : Shell _ _). shell.after) all);
       end = sym (ap (λ (shell : Shell _ _). shell.end) all);
@@ -256,28 +256,28 @@ returns-then-count-room-clause-puts g c =
     let buffer = c.read.new.buffer in
     let k = c.min.result in
     let count = c.in-Ok.count in
-    let front = take k buffer in
+    let prefix = take k buffer in
     let back = drop k (take count buffer) in
     let new = g.K.Sink.taken c.obey_bytes.new.out in
     let few : k ≤ count = grind (arith, c.min.ensures) in
     let room : k ≤ c.loop-session.room = grind (arith, c.min.ensures) in
-    let within : length (i.taken ++ front) ≤ limit = omega (arith, length-append i.taken front, length-take k buffer, room, i.room) in
+    let within : length (i.taken ++ prefix) ≤ limit = omega (arith, length-append i.taken prefix, length-take k buffer, room, i.room) in
     let moved : mid ≡ prepend_known (take count buffer) rest = c.in-Ok.ensures.moved in
     let t = c.obey_bytes.new.session in
-    let more_ends : Ends (script eq m now (answers_along c.loop-session.lines front)) t false = search rules in
-    let ends = piece_ends eq m limit s i.taken front c.loop-session.lines i.lines now i.ends t false more_ends in
-    let puts : PutsOut put new (script eq m now (answers_along c.loop-session.lines front)).pieces (gives false) = search rules in
+    let more_ends : Ends (script eq m now (answers_along c.loop-session.lines prefix)) t false = search rules in
+    let ends = piece_ends eq m limit s i.taken prefix c.loop-session.lines i.lines now i.ends t false more_ends in
+    let puts : PutsOut put new (script eq m now (answers_along c.loop-session.lines prefix)).pieces (gives false) = search rules in
     let over : k ≡ c.loop-session.room = grind (arith, c.min.ensures) in
     let fits : count ≤ length buffer = grind (arith, c.read.ensures.within) in
-    let full : length (i.taken ++ front) ≡ limit = omega (arith, length-append i.taken front, length-take k buffer, over, few, fits, i.room) in
+    let full : length (i.taken ++ prefix) ≡ limit = omega (arith, length-append i.taken prefix, length-take k buffer, over, few, fits, i.room) in
     let longer : (more : List ℕ) → 1 ≤ length (back ++ more)
     = λ more. grind (arith, length-append back more, length-drop k (take count buffer), length-take count buffer, over, fits) in
-    told_in left i.taken (take count buffer) front back mid rest (λ bytes. PutsOut old new (shell_of eq m limit s bytes).pieces (Ok TooLong)) i.moved moved
-    (front_back count k buffer few) λ more is.
+    told_in left i.taken (take count buffer) prefix back mid rest (λ bytes. PutsOut old new (shell_of eq m limit s bytes).pieces (Ok TooLong)) i.moved moved
+    (prefix_back count k buffer few) λ more is.
     subst (λ pieces. PutsOut old new pieces (whole ShellCut TooLong))
-    (sym (ap (λ (shell : Shell _ _). shell.pieces) (shell_long eq m limit s (i.taken ++ front) (back ++ more) full (longer more) t ends)))
-    (puts_with ShellCut old new (script eq m s (answers_along [] (i.taken ++ front))).pieces false TooLong
-    (piece_puts eq m limit s i.taken front c.loop-session.lines i.lines now i.ends old put new (gives false) i.puts puts))
+    (sym (ap (λ (shell : Shell _ _). shell.pieces) (shell_long eq m limit s (i.taken ++ prefix) (back ++ more) full (longer more) t ends)))
+    (puts_with ShellCut old new (script eq m s (answers_along [] (i.taken ++ prefix))).pieces false TooLong
+    (piece_puts eq m limit s i.taken prefix c.loop-session.lines i.lines now i.ends old put new (gives false) i.puts puts))
 
 pub loop-session-preserved : goal.loop-session-preserved
 loop-session-preserved g c =
@@ -295,30 +295,30 @@ loop-session-preserved g c =
     let buffer = c.read.new.buffer in
     let k = c.min.result in
     let count = c.in-Ok.count in
-    let front = take k buffer in
+    let prefix = take k buffer in
     let back = drop k (take count buffer) in
     let new = g.K.Sink.taken c.obey_bytes.new.out in
     let few : k ≤ count = grind (arith, c.min.ensures) in
     let room : k ≤ c.loop-session.room = grind (arith, c.min.ensures) in
-    let within : length (i.taken ++ front) ≤ limit = omega (arith, length-append i.taken front, length-take k buffer, room, i.room) in
+    let within : length (i.taken ++ prefix) ≤ limit = omega (arith, length-append i.taken prefix, length-take k buffer, room, i.room) in
     let moved : mid ≡ prepend_known (take count buffer) rest = c.in-Ok.ensures.moved in
     let t = c.obey_bytes.new.session in
-    let more_ends : Ends (script eq m now (answers_along c.loop-session.lines front)) t false = search rules in
-    let ends = piece_ends eq m limit s i.taken front c.loop-session.lines i.lines now i.ends t false more_ends in
-    let puts : PutsOut put new (script eq m now (answers_along c.loop-session.lines front)).pieces (gives false) = search rules in
+    let more_ends : Ends (script eq m now (answers_along c.loop-session.lines prefix)) t false = search rules in
+    let ends = piece_ends eq m limit s i.taken prefix c.loop-session.lines i.lines now i.ends t false more_ends in
+    let puts : PutsOut put new (script eq m now (answers_along c.loop-session.lines prefix)).pieces (gives false) = search rules in
     let all : count ≡ k = grind (arith, c.min.ensures) in
     record {
-      taken = i.taken ++ front;
+      taken = i.taken ++ prefix;
       moved =
           i.moved ∙ ap (prepend_known i.taken) (moved ∙ ap (λ n. prepend_known (take n buffer) rest) all)
-          ∙ sym (prepend_known-append i.taken front rest);
+          ∙ sym (prepend_known-append i.taken prefix rest);
       within = within;
-      room = grind (arith, length-append i.taken front, length-take k buffer, all, c.read.ensures.within, i.room);
-      lines = piece_line eq m limit s i.taken front c.loop-session.lines i.lines now i.ends c.obey_bytes.new.lines (search rules);
+      room = grind (arith, length-append i.taken prefix, length-take k buffer, all, c.read.ensures.within, i.room);
+      lines = piece_line eq m limit s i.taken prefix c.loop-session.lines i.lines now i.ends c.obey_bytes.new.lines (search rules);
       ends = ends;
       puts =
-          piece_puts eq m limit s i.taken front c.loop-session.lines i.lines now i.ends old put new done i.puts
-          (puts_as put new (script eq m now (answers_along c.loop-session.lines front)).pieces false tt puts);
+          piece_puts eq m limit s i.taken prefix c.loop-session.lines i.lines now i.ends old put new done i.puts
+          (puts_as put new (script eq m now (answers_along c.loop-session.lines prefix)).pieces false tt puts);
       goes_on = search rules;
       in_faults = search rules;
       out_faults = search rules;

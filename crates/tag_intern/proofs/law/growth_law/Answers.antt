@@ -1,4 +1,4 @@
-use Rattle.tag_intern.proofs.TableLemmas.{distinct_with_tags, extends_with_tags, front, longer, same_words, with_word}
+use Rattle.tag_intern.proofs.TableLemmas.{distinct_with_tags, extends_with_tags, prefix, longer, same_words, with_word}
 use Rattle.tag_intern.proofs.law.growth_law.Goals as goal
 
 pub returns-clause-extends : goal.returns-clause-extends
@@ -17,4 +17,4 @@ pub returns-clause-words : goal.returns-clause-words
 returns-clause-words g c tags more = same_words tags _ (extends_with_tags g.T.PartialEq.eq g.met.T.Eq.laws tags more)
 
 pub returns-clause-undone : goal.returns-clause-undone
-returns-clause-undone g c tags more = front tags _ (extends_with_tags g.T.PartialEq.eq g.met.T.Eq.laws tags more)
+returns-clause-undone g c tags more = prefix tags _ (extends_with_tags g.T.PartialEq.eq g.met.T.Eq.laws tags more)

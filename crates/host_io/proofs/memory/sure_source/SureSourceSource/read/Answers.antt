@@ -7,6 +7,6 @@ use Rattle.host_io.proofs.memory.sure_source.SureSourceSource.read.Goals as goal
 pub returns-clause-moved : goal.returns-clause-moved
 returns-clause-moved c =
     let was_open = sym (ap left_in (rw c.if-self.false at c.self.view_is)) in
-    let count = rw (c.deref.ensures.value, slice_to_end) at c.copy_front-count.ensures.count in
-    let copied = rw (c.deref.ensures.value, slice_to_end) at c.copy_front-count.ensures.copied in
+    let count = rw (c.deref.ensures.value, slice_to_end) at c.copy_prefix-count.ensures.count in
+    let copied = rw (c.deref.ensures.value, slice_to_end) at c.copy_prefix-count.ensures.copied in
     was_open ∙ read_moves _ _ _ _ _ (search rules) count copied

@@ -1,0 +1,58 @@
+//! The program `own_pump IMAGE`: the machine of an image under a policy of one's own, which is asked at every turn.
+//!
+//! `Own` names the policy, and `OWN` is its value at the start: a policy alone, or a product of several. The input is what the
+//! image's programs get. Standard output has the bytes that they put, standard error the line of each stop. The status is 0
+//! where each hart exited, 1 where the run ended in another way, and 2, with a line that says why, where there was no run or it
+//! couldn't be told to its end.
+#![tactic(auto)]
+
+mod ends;
+mod run;
+
+use ends::OwnEnd;
+use host_io::{Sink, StdFiles, StdSink, StdSource};
+use run::run_file;
+use std::env;
+use std::process::ExitCode;
+use taint_policy::Taint;
+
+/// The policy.
+type Own = Taint;
+
+/// The policy as it stands at the start.
+const OWN: Own = Taint;
+
+/// Runs the image of the file that the first word names.
+fn run_words(rt: &HostRuntime) -> Result<bool, OwnEnd> {
+    let Ok(mut words) = env::args(rt) else {
+        return Err(OwnEnd::Words);
+    };
+    let Some(name) = words.nth(1) else {
+        return Err(OwnEnd::Words);
+    };
+    let mut files = StdFiles::new(rt);
+    let mut input = StdSource::new(rt.stdin());
+    let mut out = StdSink::new(rt.stdout());
+    let mut err = StdSink::new(rt.stderr());
+    run_file(
+        rt.alloc(),
+        OWN,
+        &name,
+        &mut files,
+        &mut input,
+        &mut out,
+        &mut err,
+    )
+}
+
+fn main(rt: HostRuntime) -> ExitCode {
+    match run_words(&rt) {
+        Ok(true) => ExitCode::SUCCESS,
+        Ok(false) => ExitCode::from(1),
+        Err(end) => {
+            let mut err = StdSink::new(rt.stderr());
+            let _ = err.put(end.line());
+            ExitCode::from(2)
+        }
+    }
+}
