@@ -14,9 +14,9 @@ ghost use Rattle.asm_emit.specs.Values.{addition_in};
 use crate::builder::Builder;
 use crate::values::{Addition, addition_in};
 use asm_lists::sorted_edges;
-use asm_names::Names;
 use asm_places::{Layout, layout_of, names_of};
 use asm_read::{AsmEnd, AsmError, Line, read_source};
+use asm_words::Names;
 use image_format::{Image, ImageParts};
 use std::alloc::{AllocError, Global};
 

@@ -9,11 +9,10 @@ ghost use Rattle.asm_emit.specs.Kept.{IsAddition};
 ghost use Rattle.asm_emit.specs.Values.{addition_in, addition_of, compartment_at, edge_at, entry_at, heap_at, id_at, label_at, number_within, words_at};
 
 use crate::marks::Protection;
-use asm_names::Names;
 use asm_places::Layout;
 use asm_read::{AsmErrorKind, Statement, Target};
 use asm_words::laws::count_law;
-use asm_words::{Emission, address_of, emission_of};
+use asm_words::{Emission, Names, address_of, emission_of};
 
 /// What a line adds to an image. Addresses and sizes are in bytes.
 #[derive(Clone, Copy)]

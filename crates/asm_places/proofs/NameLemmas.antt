@@ -5,7 +5,7 @@ use Rattle.std.specs.Cmp.Lexicographic.{slice_cmp}
 use Rattle.std.specs.Ordering.{nat_cmp}
 use Rattle.std.specs.FinMap.{empty, get, get-empty}
 use Rattle.std.proofs.lemmas.List.{at_drop_all, drop_more}
-use Rattle.asm_names.specs.Places.{Places}
+use Rattle.asm_words.specs.NamePlaces.{NamePlaces}
 use Rattle.asm_read.specs.declared.statements.Line.{Line}
 use Rattle.asm_places.specs.Names.{is_emitting, names_with_label, next_word, place_of_name}
 use Rattle.asm_places.specs.Seen.{is_label}
@@ -28,7 +28,7 @@ next_more lines places end left i line place behind one below same is place_is s
     rw (at.0, at.1) (ap (λ b. cond (is_emitting line.statement) (place) b) so_far)
 
 -- the names from the line on
-pub names_more : (lines : List Line) (places : List ℕ) (end left i : ℕ) (line : Line) (place next : ℕ) (names : Places) → left ≡ i + 1 → i < length lines → length places ≡ length lines → line ≡ get_or lines i line → place ≡ get_or places i place
+pub names_more : (lines : List Line) (places : List ℕ) (end left i : ℕ) (line : Line) (place next : ℕ) (names : NamePlaces) → left ≡ i + 1 → i < length lines → length places ≡ length lines → line ≡ get_or lines i line → place ≡ get_or places i place
     → next ≡ next_word (drop i lines) (drop i places) end
     → ((name : List ℕ) → get names name ≡ place_of_name (drop left lines) (drop left places) end name)
     → (name : List ℕ) → get (names_with_label names line.label next) name ≡ place_of_name (drop i lines) (drop i places) end name

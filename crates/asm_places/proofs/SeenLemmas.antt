@@ -8,7 +8,7 @@ use Rattle.std.specs.List.{list_any}
 use Rattle.std.specs.Ordering.{int_cmp}
 use Rattle.std.proofs.lemmas.Bool.{or_right}
 use Rattle.std.proofs.lemmas.Map.Text.{is_eq-slice_cmp}
-use Rattle.asm_names.specs.Places.{Places}
+use Rattle.asm_words.specs.NamePlaces.{NamePlaces}
 use Rattle.asm_read.specs.declared.statements.Line.{Line}
 use Rattle.asm_places.specs.declared.seen.Seen.{Seen}
 use Rattle.asm_places.specs.Names.{names_with_label}
@@ -17,7 +17,7 @@ use Rattle.asm_places.specs.Sizes.{harts_in, ram_in}
 use Rattle.asm_places.proofs.BooleanLemmas.{any_more, or_false}
 
 -- a label stands for its place, and the other names as before
-pub get-labelled : (names : Places) (label : Option (List ℕ)) (place : ℕ) (name : List ℕ)
+pub get-labelled : (names : NamePlaces) (label : Option (List ℕ)) (place : ℕ) (name : List ℕ)
     → get (names_with_label names label place) name ≡ (if is_label name label then Some place else get names name)
 get-labelled names None place name = refl
 get-labelled names (Some label) place name =
@@ -27,7 +27,7 @@ some_cond : (t : Bool) (place : ℕ) (was : Option ℕ) → is_some (cond t (Som
 some_cond true place was = sym (or_right (is_some was) true refl)
 some_cond false place was = sym (or_false (is_some was))
 
-has-labelled : (names : Places) (label : Option (List ℕ)) (place : ℕ) (name : List ℕ)
+has-labelled : (names : NamePlaces) (label : Option (List ℕ)) (place : ℕ) (name : List ℕ)
     → is_some (get (names_with_label names label place) name) ≡ (is_some (get names name) || is_label name label)
 has-labelled names label place name = ap is_some (get-labelled names label place name) ∙ some_cond (is_label name label) place (get names name)
 

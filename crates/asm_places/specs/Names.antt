@@ -1,7 +1,7 @@
 -- The places that names stand for.
 use Rattle.std.specs.Prelude.{ℕ, Bool, false, nat_lt, List, [], ◌∷◌, Option, Some, None, if◌then◌else◌}
 use Rattle.std.specs.FinMap as map
-use Rattle.asm_names.specs.Places.{Places}
+use Rattle.asm_words.specs.NamePlaces.{NamePlaces}
 use Rattle.asm_read.specs.declared.statements.Line.{Line}
 use Rattle.asm_read.specs.declared.statements.Statement.{Statement}
 use Rattle.asm_places.specs.Counts.{count_in}
@@ -29,6 +29,6 @@ place_of_name (line ∷ lines) [] end name = None
 place_of_name (line ∷ lines) (place ∷ places) end name = if is_label name line.label then Some (next_word (line ∷ lines) (place ∷ places) end) else place_of_name lines places end name
 
 -- the names, with the label's place instead of what it had
-abbrev pub names_with_label : Places → Option (List ℕ) → ℕ → Places
+abbrev pub names_with_label : NamePlaces → Option (List ℕ) → ℕ → NamePlaces
 names_with_label names None place = names
 names_with_label names (Some name) place = map.insert names name place

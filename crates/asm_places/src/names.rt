@@ -7,8 +7,8 @@ ghost use Rattle.asm_places.specs.Names.{is_emitting, place_of_name};
 use crate::counts::line_count;
 use crate::layout::Layout;
 use crate::seen::give_label;
-use asm_names::Names;
 use asm_read::{Line, Statement};
+use asm_words::Names;
 use std::alloc::{AllocError, Global};
 
 /// The place of the next word from a line on, by the line's place and the place of the next word behind the line.

@@ -8,8 +8,8 @@ ghost use Rattle.asm_places.specs.Names.{names_with_label};
 ghost use Rattle.asm_places.specs.Seen.{IsSeen, enters, is_again, is_named, sets_heap, some_before};
 ghost use Rattle.asm_places.specs.Sizes.{harts_in, ram_in};
 
-use asm_names::Names;
 use asm_read::{Line, Name, Statement};
+use asm_words::Names;
 use std::alloc::{AllocError, Global};
 use std::collections::BTreeSet;
 

@@ -2,4 +2,5 @@ pub mod Emission
 pub mod EmissionLaws
 pub mod Encoding
 pub mod Instructions
+pub mod NamePlaces
 pub mod Ranges

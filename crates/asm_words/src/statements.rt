@@ -10,9 +10,9 @@ use crate::instructions::{
     branch_of, load_of, store_of, with_amount, with_immediate, with_registers, with_upper,
 };
 use crate::loads::{both_parts, load_number};
+use crate::names::Names;
 use crate::ranges::{amount_at, branch_offset, immediate_at, jump_offset, upper_at};
 use crate::targets::address_of;
-use asm_names::Names;
 use asm_read::{AsmErrorKind, Statement, Target};
 use asm_table::{
     BranchOperation, ImmediateOperation, LoadOperation, ShiftOperation, StoreOperation,

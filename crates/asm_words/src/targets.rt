@@ -4,8 +4,8 @@ ghost use Rattle.std.specs.Prelude.{◌≡◌};
 ghost use Rattle.std.specs.FinMap as map;
 ghost use Rattle.asm_words.specs.Emission.{address_of};
 
+use crate::names::Names;
 use crate::ranges::wrapped;
-use asm_names::Names;
 use asm_read::{AsmErrorKind, Target};
 
 /// The place of a name, or the number, modulo 2^32. A name that has no place is `NoName`.

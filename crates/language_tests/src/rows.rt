@@ -1,80 +1,104 @@
 //! Tests of rows: texts that are refused, each with its line, and a row with all that can be told of one.
 
-use row_lang::{Content, File, Row, RowsEnd, Wrong, escaped, read_rows};
+use row_lang::{Content, File, Row, RowsEnd, escaped, read_rows};
+use std::alloc::{AllocError, Global};
 use std::test::Fail;
 
-/// The refusal of a text, `None` where it has rows.
-fn refusal_of(read: Result<Vec<Row>, RowsEnd>) -> Option<(u64, Wrong)> {
-    match read {
-        Err(RowsEnd::Bad { line, wrong }) => Some((line, wrong)),
-        _ => None,
+/// The line of a text that is refused, and why; nothing where it has rows.
+fn refusal_of(alloc: Global, text: &str) -> Result<String, AllocError> {
+    match read_rows(alloc, text) {
+        Err(RowsEnd::Bad { line, wrong }) => format!(in alloc; "{line}: {wrong}"),
+        Err(RowsEnd::Memory) => Err(AllocError),
+        Ok(_) => Ok(String::new(alloc)),
     }
 }
 
 /// Texts that are no rows, each with the line that is refused, and why.
-const REFUSED: &[(&str, u64, Wrong)] = &[
+const REFUSED: &[(&str, &str)] = &[
     // Cut: within a row, before the count, within the count, and before everything.
-    ("row a\nwords pump\nstatus 2\n", 3, Wrong::Cut),
-    ("row a\nwords pump\nstatus 2\nend\n", 4, Wrong::Cut),
-    ("row a\nwords pump\nstatus 2\nend\nrows\n", 5, Wrong::Number),
-    ("", 1, Wrong::Cut),
-    ("# A comment.\n", 1, Wrong::Cut),
+    ("row a\nwords pump\nstatus 2\n", "3: the text is cut"),
+    ("row a\nwords pump\nstatus 2\nend\n", "4: the text is cut"),
+    (
+        "row a\nwords pump\nstatus 2\nend\nrows\n",
+        "5: a bad number",
+    ),
+    ("", "1: the text is cut"),
+    ("# A comment.\n", "1: the text is cut"),
     // The count.
-    ("rows 0\n", 1, Wrong::Count),
+    ("rows 0\n", "1: the count of rows is another, or none"),
     (
         "row a\nwords pump\nstatus 2\nend\nrows 2\n",
-        5,
-        Wrong::Count,
+        "5: the count of rows is another, or none",
     ),
     (
         "row a\nwords pump\nstatus 2\nend\nrows 1\nrow b\n",
-        6,
-        Wrong::Behind,
+        "6: something is behind the count of rows",
     ),
     // Keys.
-    ("row a\nword pump\n", 2, Wrong::Key),
-    ("row a\nstatus 2\nstatus 2\n", 3, Wrong::Twice),
-    ("row a\ninput b\nsession\n    > c\n", 3, Wrong::Twice),
-    ("row a\nfile b text c\nfile b text c\n", 3, Wrong::Twice),
-    ("row a\nstatus 2\nend\n", 3, Wrong::Missing),
-    ("row a\nwords pump\nend\n", 3, Wrong::Missing),
-    ("words pump\n", 1, Wrong::Outside),
-    ("row a\nrow b\n", 2, Wrong::Inside),
-    ("row a\nwords pump\nrows 0\n", 3, Wrong::Inside),
+    ("row a\nword pump\n", "2: unknown key"),
+    ("row a\nstatus 2\nstatus 2\n", "3: given twice"),
+    ("row a\ninput b\nsession\n    > c\n", "3: given twice"),
+    ("row a\nfile b text c\nfile b text c\n", "3: given twice"),
+    (
+        "row a\nstatus 2\nend\n",
+        "3: the row has no words or no status",
+    ),
+    (
+        "row a\nwords pump\nend\n",
+        "3: the row has no words or no status",
+    ),
+    ("words pump\n", "1: no row has begun"),
+    ("row a\nrow b\n", "2: the row before has no end"),
+    (
+        "row a\nwords pump\nrows 0\n",
+        "3: the row before has no end",
+    ),
     // Names.
-    ("row\n", 1, Wrong::Name),
+    ("row\n", "1: a name is missing or isn't one word"),
     (
         "row a\nwords pump\nstatus 2\nend\n\nrow a\n",
-        6,
-        Wrong::Twice,
+        "6: given twice",
     ),
-    ("program a b\n    nop\n", 1, Wrong::Name),
-    ("program a\n    nop\nprogram a\n", 3, Wrong::Twice),
-    ("row a\nfile b\n", 2, Wrong::Name),
-    ("row a\nfile b program c\n", 2, Wrong::Program),
-    ("row a\nfile b bytes c\n", 2, Wrong::Kind),
+    (
+        "program a b\n    nop\n",
+        "1: a name is missing or isn't one word",
+    ),
+    ("program a\n    nop\nprogram a\n", "3: given twice"),
+    ("row a\nfile b\n", "2: a name is missing or isn't one word"),
+    ("row a\nfile b program c\n", "2: no program has this name"),
+    ("row a\nfile b bytes c\n", "2: unknown kind of content"),
     // Values.
-    ("row a\nstatus 256\n", 2, Wrong::Number),
-    ("row a\nleft x\n", 2, Wrong::Number),
-    ("row a\ncaches\n", 2, Wrong::Number),
-    ("row a\nfile b hex 5\n", 2, Wrong::Hex),
-    ("row a\nfile b hex\n    00 # five\n    0x\n", 4, Wrong::Hex),
-    ("row a\nout b\\q\n", 2, Wrong::Escape),
-    ("row a\nout\n    b\n    \\{9*4}\n", 4, Wrong::Escape),
+    ("row a\nstatus 256\n", "2: a bad number"),
+    ("row a\nleft x\n", "2: a bad number"),
+    ("row a\ncaches\n", "2: a bad number"),
+    ("row a\nfile b hex 5\n", "2: bad hexadecimal"),
+    (
+        "row a\nfile b hex\n    00 # five\n    0x\n",
+        "4: bad hexadecimal",
+    ),
+    ("row a\nout b\\q\n", "2: a bad escape"),
+    ("row a\nout\n    b\n    \\{9*4}\n", "4: a bad escape"),
     // Lines.
-    ("row a\nout b\n    c\n", 2, Wrong::Block),
-    ("    a\n", 1, Wrong::Stray),
-    ("row a\n  words pump\n", 2, Wrong::Margin),
-    ("row a \n", 1, Wrong::Blank),
-    ("row a\nout \tb\n", 2, Wrong::Byte),
+    (
+        "row a\nout b\n    c\n",
+        "2: this key has either text on its line or a block",
+    ),
+    ("    a\n", "1: no key is before this block"),
+    (
+        "row a\n  words pump\n",
+        "2: a line begins with four blanks or with none",
+    ),
+    ("row a \n", "1: a blank too many"),
+    ("row a\nout \tb\n", "2: a byte that ASCII doesn't print"),
 ];
 
 #[test]
-fn no_line_is_passed_over(rt: HostRuntime) {
-    for &(text, line, wrong) in REFUSED {
-        let refusal = refusal_of(read_rows(rt.alloc(), text));
-        assert!(rt; refusal == Some((line, wrong)), "{text:?}: {refusal:?}");
+fn no_line_is_passed_over(rt: HostRuntime) -> Result<(), Fail> {
+    for &(text, refusal) in REFUSED {
+        let told = refusal_of(rt.alloc(), text)?;
+        assert_eq!(rt; told.as_str(), refusal, "{text:?}");
     }
+    Ok(())
 }
 
 /// A row with every key.

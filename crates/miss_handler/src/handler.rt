@@ -1,7 +1,6 @@
 //! `ask`: the answer of a kept rule, or that of the policy's, which is kept then.
 
 ghost use Rattle.std.specs.Prelude.{◌≡◌, ◌↔◌, ◌+◌, ◌<◌, ◌≤◌, [], ◌∷◌, Err, IfOk, IsOk, IsOkAnd, OnErr, OnOk, Ok, Some, if◌then◌else◌, true, is_some, length, slice_get};
-ghost use Rattle.policy_trait.specs.Model.{masked_inputs};
 ghost use Rattle.policy_trait.specs.declared.rules.Refused.{Refused};
 ghost use Rattle.engine_trait.specs.Accounts.{Account, is_kept, looked_up, rule_kept, with_tags};
 ghost use Rattle.shared_terms.specs.Counts.{next_count};
@@ -13,7 +12,7 @@ ghost use Rattle.miss_handler.specs.Told.{Tells};
 
 use crate::ends::AskEnd;
 use crate::rules::Rules;
-use policy_trait::{Mask, Outs, Refused};
+use policy_trait::{Outs, Refused};
 use rule_cache::{InWords, Key, OutWords, RuleStore};
 use rv_decode::Group;
 use tag_intern::{Decoder, InternEnd, TagTable, has_word};
@@ -94,26 +93,12 @@ pub fn ask<T: TagTable, C: RuleStore, R: Rules<Tag = T::Tag>>(
     let _len = tags.len(); // for the proof: no tag has two words
     let key = Key {
         group,
-        words: masked(rules.ignores(group), words),
+        words: rules.mask(group).masked(words),
     };
     if let Some(outs) = store.find(&key) {
         return Ok(outs);
     }
     missed(tags, store, rules, key)
-}
-
-/// The words with each that the mask ignores made that of the plain tag.
-#[inline(always)]
-fn masked(mask: Mask, words: InWords) -> InWords
-    ensures { result ≡ masked_inputs mask 0 words }
-{
-    InWords {
-        pc: if mask.pc { 0 } else { words.pc },
-        ci: if mask.ci { 0 } else { words.ci },
-        t1: if mask.t1 { 0 } else { words.t1 },
-        t2: if mask.t2 { 0 } else { words.t2 },
-        tm: if mask.tm { 0 } else { words.tm },
-    }
 }
 
 /// What the policy's rule answers to a key that is not kept. Where it allows, its outputs get words and the rule is kept;

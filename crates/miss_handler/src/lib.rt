@@ -5,8 +5,10 @@ mod ends;
 mod handler;
 mod masks;
 mod rules;
+mod word_mask;
 
 pub use ends::AskEnd;
 pub use handler::ask;
 pub use masks::Masks;
 pub use rules::{Asking, Rules};
+pub use word_mask::WordMask;

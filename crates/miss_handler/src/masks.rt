@@ -3,14 +3,15 @@
 ghost use Rattle.std.specs.Prelude.{◌≡◌};
 ghost use Rattle.rv_decode.specs.declared.groups.Group.{Group as AnyGroup};
 
-use policy_trait::{Mask, Policy};
+use crate::word_mask::WordMask;
+use policy_trait::Policy;
 use rv_decode::Group;
 use std::marker::Model;
 
 /// Which inputs the rule of each group ignores. It is made once for a policy, whose services change none of it.
 #[derive(Drop)]
 pub struct Masks {
-    masks: [Mask; 21],
+    masks: [WordMask; 21],
 }
 
 impl Model for Masks {
@@ -33,34 +34,34 @@ impl Masks {
     {
         Masks {
             masks: [
-                policy.ignores(Group::Const),
-                policy.ignores(Group::Here),
-                policy.ignores(Group::Jal),
-                policy.ignores(Group::Jalr),
-                policy.ignores(Group::Branch),
-                policy.ignores(Group::LoadWord),
-                policy.ignores(Group::LoadPart),
-                policy.ignores(Group::StoreWord),
-                policy.ignores(Group::StorePart),
-                policy.ignores(Group::Move),
-                policy.ignores(Group::AddImm),
-                policy.ignores(Group::AluImm),
-                policy.ignores(Group::Add),
-                policy.ignores(Group::Sub),
-                policy.ignores(Group::Alu),
-                policy.ignores(Group::Fence),
-                policy.ignores(Group::Exit),
-                policy.ignores(Group::Put),
-                policy.ignores(Group::Get),
-                policy.ignores(Group::Break),
-                policy.ignores(Group::Call),
+                WordMask::of(policy.ignores(Group::Const)),
+                WordMask::of(policy.ignores(Group::Here)),
+                WordMask::of(policy.ignores(Group::Jal)),
+                WordMask::of(policy.ignores(Group::Jalr)),
+                WordMask::of(policy.ignores(Group::Branch)),
+                WordMask::of(policy.ignores(Group::LoadWord)),
+                WordMask::of(policy.ignores(Group::LoadPart)),
+                WordMask::of(policy.ignores(Group::StoreWord)),
+                WordMask::of(policy.ignores(Group::StorePart)),
+                WordMask::of(policy.ignores(Group::Move)),
+                WordMask::of(policy.ignores(Group::AddImm)),
+                WordMask::of(policy.ignores(Group::AluImm)),
+                WordMask::of(policy.ignores(Group::Add)),
+                WordMask::of(policy.ignores(Group::Sub)),
+                WordMask::of(policy.ignores(Group::Alu)),
+                WordMask::of(policy.ignores(Group::Fence)),
+                WordMask::of(policy.ignores(Group::Exit)),
+                WordMask::of(policy.ignores(Group::Put)),
+                WordMask::of(policy.ignores(Group::Get)),
+                WordMask::of(policy.ignores(Group::Break)),
+                WordMask::of(policy.ignores(Group::Call)),
             ],
         }
     }
 
     /// Which inputs the rule of the group ignores.
     #[inline(always)]
-    pub fn mask(&self, group: Group) -> Mask
+    pub fn mask(&self, group: Group) -> WordMask
         ensures { result ≡ self.now group }
     {
         self.masks[group as usize]

@@ -6,7 +6,8 @@ ghost use Rattle.shared_terms.specs.Counts.{next_count};
 ghost use Rattle.miss_handler.specs.Books.{rulebook_of};
 
 use crate::masks::Masks;
-use policy_trait::{Ins, Mask, Outs, Policy, Refused};
+use crate::word_mask::WordMask;
+use policy_trait::{Ins, Outs, Policy, Refused};
 use pump_words::Same;
 use rv_decode::Group;
 use std::marker::Model;
@@ -27,7 +28,7 @@ pub trait Rules {
         ensures { result ≡ (book self.now).plain };
 
     /// Which inputs the rule of a group ignores: they change no answer.
-    fn ignores(&self, group: Group) -> Mask
+    fn mask(&self, group: Group) -> WordMask
         ensures mask { result ≡ (book self.now).ignores group }
         ensures law { IgnoresMasked (book self.now) };
 
@@ -87,7 +88,7 @@ impl<'a, P: Policy> Rules for Asking<'a, P> {
     }
 
     #[inline(always)]
-    fn ignores(&self, group: Group) -> Mask {
+    fn mask(&self, group: Group) -> WordMask {
         self.masks.mask(group)
     }
 

@@ -15,7 +15,7 @@ use Rattle.engine_trait.specs.Machine.{CoreState, HasWords, IsCore, IsMachine, M
 use Rattle.engine_trait.specs.Maps.{core_by}
 use Rattle.engine_trait.specs.Turn.{turn_of}
 use Rattle.policy_parts.specs.Part.{IsPart}
-use Rattle.policy_parts.specs.View.{View}
+use Rattle.policy_parts.specs.Lens.{Lens}
 use Rattle.part_turns.specs.Keeps.{StayWords}
 use Rattle.part_turns.specs.Maps.{seen_by}
 
@@ -37,7 +37,7 @@ core_sound f core is =
     let count : length core.harts ≡ length (map (hart_by f) core.harts) = sym (length-map core.harts (hart_by f)) in
     record { some = subst (λ n. 1 ≤ n) count is.some; few = subst (λ n. n ≤ 8) count is.few; stops = is.stops }
 
-pub seen_sound : {T S U V : Type 0} (w : PolicyModel T S) (m : PolicyModel U V) (l : View T S U V) → IsPart w m l
+pub seen_sound : {T S U V : Type 0} (w : PolicyModel T S) (m : PolicyModel U V) (l : Lens T S U V) → IsPart w m l
     → (s : Machine S T) → l.is_on s.policy ≡ true → IsMachine w s → IsMachine m (seen_by l s)
 seen_sound w m l part s on is =
     let plain : l.tag (w.plain s.policy) ≡ m.plain (l.value s.policy) = part.plain s.policy on in
@@ -70,7 +70,7 @@ module _ {T U : Type 0} (f : T → U) (core : CoreState T) where
   }
 
 -- a turn under the whole policy leaves words where the part sees words
-pub words_stay : {T S U V : Type 0} (w : PolicyModel T S) (l : View T S U V) (holds : S → Type 0) → KeepsLaws w holds
+pub words_stay : {T S U V : Type 0} (w : PolicyModel T S) (l : Lens T S U V) (holds : S → Type 0) → KeepsLaws w holds
     → (s : Machine S T) → IsMachine w s → holds s.policy → (feed : Tape) (h : ℕ)
     → StayWords (seen_by l s) (seen_by l (turn_of w s feed h).machine)
 words_stay w l holds laws s is valid feed h has =

@@ -10,7 +10,7 @@ use Rattle.engine_trait.specs.Runs.{Item, Trace, fed, run_along, turn}
 use Rattle.engine_trait.specs.Turn.{turn_of}
 use Rattle.engine_trait.proofs.MachineLemmas.{turn_keeps}
 use Rattle.policy_parts.specs.Part.{IsPart}
-use Rattle.policy_parts.specs.View.{View}
+use Rattle.policy_parts.specs.Lens.{Lens}
 use Rattle.part_turns.specs.Keeps.{Keeps, RunKeeps}
 use Rattle.part_turns.specs.Maps.{event_with, seen_by}
 use Rattle.part_turns.specs.Moments.{Moment}
@@ -50,7 +50,7 @@ module _ {U : Type 0} (guarantee : List (Event U) → Event U → Type 0) where
 
 -- ---- a run
 
-module _ {T S U V : Type 0} (w : PolicyModel T S) (m : PolicyModel U V) (l : View T S U V) (holds : S → Type 0) (laws : KeepsLaws w holds)
+module _ {T S U V : Type 0} (w : PolicyModel T S) (m : PolicyModel U V) (l : Lens T S U V) (holds : S → Type 0) (laws : KeepsLaws w holds)
     (part : IsPart w m l) (invariant : List (Event U) → Machine V U → Type 0) (guarantee : List (Event U) → Event U → Type 0)
     (keeps : Keeps m invariant guarantee) where
   abbrev seen : List (Event T) → List (Event U)

@@ -14,7 +14,7 @@ use Rattle.monitor_calls.proofs.RangeLemmas.{each_retagged}
 use Rattle.shared_terms.proofs.StepLemmas.{ok_is}
 use Rattle.engine_trait.specs.Maps.{words_by}
 use Rattle.policy_parts.specs.Part.{IsPart, Planned, beside_others, others, own}
-use Rattle.policy_parts.specs.View.{View}
+use Rattle.policy_parts.specs.Lens.{Lens}
 
 -- a plan's service is the number that was asked
 pub number_is : {U V : Type 0} (m : PolicyModel U V) (v : V) (number : ℕ) (a : Args U) (pc : U) (p : Plan U) → Planned m v number a pc p
@@ -22,7 +22,7 @@ pub number_is : {U V : Type 0} (m : PolicyModel U V) (v : V) (number : ℕ) (a :
 number_is m v number a pc p (own known same planned) = same
 number_is m v number a pc p (others unknown same pc_is answers) = same
 
-module _ {T S U V : Type 0} (w : PolicyModel T S) (m : PolicyModel U V) (l : View T S U V) (part : IsPart w m l) (s : S) (on : l.is_on s ≡ true)
+module _ {T S U V : Type 0} (w : PolicyModel T S) (m : PolicyModel U V) (l : Lens T S U V) (part : IsPart w m l) (s : S) (on : l.is_on s ≡ true)
     (word_at : ℕ → ℕ) (tag_at : ℕ → T) (tag_seen : ℕ → U) (seen : (address : ℕ) → tag_seen address ≡ l.tag (tag_at address))
     (p : Plan T) (known : w.knows s p.service ≡ true) where
   abbrev from : ℕ → ℕ → Result (List (ℕ × ℕ × T)) PlanEnd

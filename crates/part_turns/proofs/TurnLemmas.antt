@@ -38,7 +38,7 @@ use Rattle.engine_trait.proofs.MapLemmas.{args_on_by, core_effected_by, core_ser
 use Rattle.engine_trait.proofs.MirrorLemmas.{ready_by}
 use Rattle.engine_trait.proofs.TurnLemmas.{event_idle, job_ruled, turn_checked, turn_idle, turn_refused, turn_ruled}
 use Rattle.policy_parts.specs.Part.{IsPart, Planned, beside_others}
-use Rattle.policy_parts.specs.View.{View}
+use Rattle.policy_parts.specs.Lens.{Lens}
 use Rattle.part_turns.specs.Maps.{call_by, event_with, seen_by}
 use Rattle.part_turns.specs.Moments.{Service, service_by, service_of}
 use Rattle.part_turns.specs.Turns.{Allows, Turns, after_service, exits, goes, idles, is_computing, serves, stops}
@@ -63,13 +63,13 @@ no_work (Some call) = refl
 
 -- ---- the turn
 
-module _ {T S U V : Type 0} (w : PolicyModel T S) (m : PolicyModel U V) (l : View T S U V) (holds : S → Type 0) (s : Machine S T) (h : ℕ) where
+module _ {T S U V : Type 0} (w : PolicyModel T S) (m : PolicyModel U V) (l : Lens T S U V) (holds : S → Type 0) (s : Machine S T) (h : ℕ) where
   -- what the part sees of an event and of the machine that is left: one of its turns, where the machine is sound
   pub record Shown (e : Event T) (left : Machine S T) : Type 0 where
     pub turns : IsMachine w s → holds s.policy → Turns m (seen_by l s) h (event_with l.tag e) (seen_by l left)
     pub stays_on : l.is_on left.policy ≡ true
 
-module _ {T S U V : Type 0} (w : PolicyModel T S) (m : PolicyModel U V) (l : View T S U V) (holds : S → Type 0) (laws : KeepsLaws w holds)
+module _ {T S U V : Type 0} (w : PolicyModel T S) (m : PolicyModel U V) (l : Lens T S U V) (holds : S → Type 0) (laws : KeepsLaws w holds)
     (part : IsPart w m l) (s : Machine S T) (on : l.is_on s.policy ≡ true) (feed : Tape) (h : ℕ) where
   abbrev own : Machine V U
   own = seen_by l s

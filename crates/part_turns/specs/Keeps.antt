@@ -5,7 +5,7 @@ use Rattle.policy_trait.specs.Model.{PolicyModel}
 use Rattle.engine_trait.specs.Events.{Event}
 use Rattle.engine_trait.specs.Machine.{HasWords, IsMachine, Machine}
 use Rattle.engine_trait.specs.Runs.{Trace}
-use Rattle.policy_parts.specs.View.{View}
+use Rattle.policy_parts.specs.Lens.{Lens}
 use Rattle.part_turns.specs.Maps.{event_with, seen_by}
 use Rattle.part_turns.specs.Moments.{Moment}
 use Rattle.part_turns.specs.Turns.{Turns}
@@ -22,7 +22,7 @@ pub record Keeps {U V : Type 0} (m : PolicyModel U V) (invariant : List (Event U
       → StayWords s t → guarantee before e × invariant (before ++ e ∷ []) t
 
 -- what a run keeps, as the part sees it
-pub record RunKeeps {T S U V : Type 0} (l : View T S U V) (invariant : List (Event U) → Machine V U → Type 0)
+pub record RunKeeps {T S U V : Type 0} (l : Lens T S U V) (invariant : List (Event U) → Machine V U → Type 0)
     (guarantee : List (Event U) → Event U → Type 0) (trace : Trace S T) : Type 0 where
   pub guarantees : (x : Moment (map (event_with l.tag) trace.events)) → guarantee x.before x.event
   pub kept : invariant (map (event_with l.tag) trace.events) (seen_by l trace.machine)

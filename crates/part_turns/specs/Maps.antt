@@ -4,7 +4,7 @@ use Rattle.policy_trait.specs.Maps.{answer_by, args_by, ins_by}
 use Rattle.engine_trait.specs.Events.{Asked, Call, Event, Work}
 use Rattle.engine_trait.specs.Machine.{Machine}
 use Rattle.engine_trait.specs.Maps.{machine_by}
-use Rattle.policy_parts.specs.View.{View}
+use Rattle.policy_parts.specs.Lens.{Lens}
 
 abbrev pub asked_by : {T U : Type 0} → (T → U) → Asked T → Asked U
 asked_by f asked = record { group = asked.group; inputs = ins_by f asked.inputs }
@@ -29,5 +29,5 @@ event_with f event = record {
 }
 
 -- a machine as the part sees it
-abbrev pub seen_by : {T S U V : Type 0} → View T S U V → Machine S T → Machine V U
+abbrev pub seen_by : {T S U V : Type 0} → Lens T S U V → Machine S T → Machine V U
 seen_by l s = machine_by l.tag (l.value s.policy) s

@@ -13,7 +13,7 @@ use Rattle.policy_trait.specs.declared.services.Plan.{Plan}
 use Rattle.policy_product.specs.Both.{tag_beside}
 use Rattle.policy_product.specs.Maybe.{commit_in, knows_in, maybe, plan_in, plain_in, retag_in, room_in, rule_in, some_tag, start_pc_in, start_word_in, tag_or, wipe_in}
 use Rattle.policy_parts.specs.Part.{IsPart, Planned, value_after, own, word_tag}
-use Rattle.policy_parts.specs.View.{on_view}
+use Rattle.policy_parts.specs.Lens.{on_lens}
 use Rattle.policy_parts.proofs.MapLemmas.{mapped_twice}
 use Rattle.std.proofs.lemmas.Iterator.Adapters.{option_map_id}
 
@@ -29,7 +29,7 @@ module _ {U V : Type 0} (m : PolicyModel U V) (holds : V → Type 0) (laws : Kee
   abbrev read : Option U → U
   read tag = tag_or plain tag
 
-  -- the policy reads a tag as the view does
+  -- the policy reads a tag as the lens does
   reads_so : (v : V) → (λ (tag : Option U). tag_or (m.plain v) tag) ≡ read
   reads_so v = λ j tag. tag_or (same v j) tag
 
@@ -123,7 +123,7 @@ module _ {U V : Type 0} (m : PolicyModel U V) (holds : V → Type 0) (laws : Kee
   start_word_of None b on = absurd (cc on)
   start_word_of (Some v) b on = refl
 
-  pub part_of_itself : IsPart (maybe m) m (on_view plain absent)
+  pub part_of_itself : IsPart (maybe m) m (on_lens plain absent)
   part_of_itself = record {
     plain = λ s on. plain_of s.part on;
     room = λ s on. room_of s.part on;

@@ -15,7 +15,7 @@ use Rattle.policy_trait.specs.declared.services.PlanEnd.{PlanEnd}
 use Rattle.policy_product.specs.Both.{IsApart, answer_before, answer_beside, beside_left, beside_right, both, both_outs, left, lending_of, plan_of_left, plan_of_right, rest_tag, retag_of_left, retag_of_right, right, tag_beside}
 use Rattle.policy_product.specs.BothLaws.{both_laws}
 use Rattle.policy_parts.specs.Part.{IsPart, Planned, value_after, others, own, word_tag}
-use Rattle.policy_parts.specs.View.{View, left_view, right_view}
+use Rattle.policy_parts.specs.Lens.{Lens, left_lens, right_lens}
 use Rattle.policy_parts.proofs.MapLemmas.{for_some_mapped, mapped_twice, value_mapped}
 use Rattle.policy_parts.proofs.WithinLemmas.{part_of_part}
 
@@ -90,10 +90,10 @@ of_others m v read k a pc p number values unknown beside =
 
 -- ---- the left policy and the right one within the pair
 
-abbrev in_left : {T U S R : Type 0} → View (T × U) (S × R) T S
+abbrev in_left : {T U S R : Type 0} → Lens (T × U) (S × R) T S
 in_left = record { tag = left; value = left; is_on = λ values. true }
 
-abbrev in_right : {T U S R : Type 0} → View (T × U) (S × R) U R
+abbrev in_right : {T U S R : Type 0} → Lens (T × U) (S × R) U R
 in_right = record { tag = right; value = right; is_on = λ values. true }
 
 module _ {T U S R : Type 0} (m : PolicyModel T S) (n : PolicyModel U R) (holds : S → Type 0) (also : R → Type 0)
@@ -156,7 +156,7 @@ module _ {T U S R : Type 0} (m : PolicyModel T S) (n : PolicyModel U R) (holds :
     start_word = λ s b on. refl;
   }
 
-  pub part_of_left : {X Y : Type 0} (q : PolicyModel X Y) (l : View T S X Y) → IsPart m q l → IsPart (both m n) q (left_view l)
+  pub part_of_left : {X Y : Type 0} (q : PolicyModel X Y) (l : Lens T S X Y) → IsPart m q l → IsPart (both m n) q (left_lens l)
   part_of_left q l part = part_of_part (both m n) m q in_left l left_is_part part
 
   -- ---- the right one, where no service is known to both
@@ -212,5 +212,5 @@ module _ {T U S R : Type 0} (m : PolicyModel T S) (n : PolicyModel U R) (holds :
         either true b is = refl
         either false b is = is
 
-    pub part_of_right : {X Y : Type 0} (q : PolicyModel X Y) (l : View U R X Y) → IsPart n q l → IsPart (both m n) q (right_view l)
+    pub part_of_right : {X Y : Type 0} (q : PolicyModel X Y) (l : Lens U R X Y) → IsPart n q l → IsPart (both m n) q (right_lens l)
     part_of_right q l part = part_of_part (both m n) n q in_right l right_is_part part

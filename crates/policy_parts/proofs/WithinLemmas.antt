@@ -10,19 +10,19 @@ use Rattle.policy_trait.specs.declared.services.Rest.{Rest}
 use Rattle.policy_trait.specs.declared.services.Rest.TheVariants.{AsA0, Plain}
 use Rattle.policy_product.specs.Both.{rest_tag, tag_beside}
 use Rattle.policy_parts.specs.Part.{IsOthers, IsPart, Planned, value_after, others, own, word_tag}
-use Rattle.policy_parts.specs.View.{View}
+use Rattle.policy_parts.specs.Lens.{Lens}
 use Rattle.policy_parts.proofs.MapLemmas.{for_some_mapped, plan_twice}
 
--- a view through another one
-abbrev pub view_within : {T S U V X Y : Type 0} → View T S U V → View U V X Y → View T S X Y
-view_within outer inner = record {
+-- a lens through another one
+abbrev pub lens_within : {T S U V X Y : Type 0} → Lens T S U V → Lens U V X Y → Lens T S X Y
+lens_within outer inner = record {
   tag = λ tag. inner.tag (outer.tag tag);
   value = λ value. inner.value (outer.value value);
   is_on = λ value. outer.is_on value && inner.is_on (outer.value value);
 }
 
 -- what the policy beside others does is done by its part beside others
-module _ {U V X Y : Type 0} (m : PolicyModel U V) (q : PolicyModel X Y) (l : View U V X Y) (part : IsPart m q l) where
+module _ {U V X Y : Type 0} (m : PolicyModel U V) (q : PolicyModel X Y) (l : Lens U V X Y) (part : IsPart m q l) where
   not_known : (v : V) (k : ℕ) → l.is_on v ≡ true → m.knows v k ≡ false → q.knows (l.value v) k ≡ false
   not_known v k on unknown = not_so (q.knows (l.value v) k) (part.knows v k on)
     where
@@ -78,7 +78,7 @@ module _ {U V X Y : Type 0} (m : PolicyModel U V) (q : PolicyModel X Y) (l : Vie
   stays_within true v p owned on = part.stays v p on owned
   stays_within false v p owned on = on
 
-module _ {T S U V X Y : Type 0} (w : PolicyModel T S) (m : PolicyModel U V) (q : PolicyModel X Y) (l : View T S U V) (k : View U V X Y)
+module _ {T S U V X Y : Type 0} (w : PolicyModel T S) (m : PolicyModel U V) (q : PolicyModel X Y) (l : Lens T S U V) (k : Lens U V X Y)
     (whole : IsPart w m l) (part : IsPart m q k) where
   abbrev is_on : S → Bool
   is_on s = l.is_on s && k.is_on (l.value s)
@@ -100,7 +100,7 @@ module _ {T S U V X Y : Type 0} (w : PolicyModel T S) (m : PolicyModel U V) (q :
   k_on : (s : S) → is_on s ≡ true → k.is_on (l.value s) ≡ true
   k_on s on = inner_on (l.is_on s) (k.is_on (l.value s)) on
 
-  pub part_of_part : IsPart w q (view_within l k)
+  pub part_of_part : IsPart w q (lens_within l k)
   part_of_part = record {
     plain = λ s on. ap k.tag (whole.plain s (l_on s on)) ∙ part.plain (l.value s) (k_on s on);
     room = λ s on. within_room (part.room (l.value s) (k_on s on)) (whole.room s (l_on s on));

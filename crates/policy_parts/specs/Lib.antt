@@ -1,2 +1,2 @@
+pub mod Lens
 pub mod Part
-pub mod View

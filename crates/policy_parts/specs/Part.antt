@@ -13,7 +13,7 @@ use Rattle.policy_trait.specs.declared.services.Answer.{Answer}
 use Rattle.policy_trait.specs.declared.services.Args.{Args}
 use Rattle.policy_trait.specs.declared.services.Plan.{Plan}
 use Rattle.policy_product.specs.Both.{rest_tag, tag_beside}
-use Rattle.policy_parts.specs.View.{View}
+use Rattle.policy_parts.specs.Lens.{Lens}
 
 -- ---- a policy beside others
 
@@ -42,7 +42,7 @@ pub data Planned {U V : Type 0} (m : PolicyModel U V) (v : V) (number : ℕ) (a 
       → ((answer : Answer U) → p.answer ≡ Some answer → IsOthers (m.plain v) a answer) → Planned m v number a pc p
 
 -- policy m is a part of policy w, where it is on
-pub record IsPart {T S U V : Type 0} (w : PolicyModel T S) (m : PolicyModel U V) (l : View T S U V) : Type 0 where
+pub record IsPart {T S U V : Type 0} (w : PolicyModel T S) (m : PolicyModel U V) (l : Lens T S U V) : Type 0 where
   pub plain : (s : S) → l.is_on s ≡ true → l.tag (w.plain s) ≡ m.plain (l.value s)
   pub room : (s : S) → l.is_on s ≡ true → m.room (l.value s) ≤ w.room s
   pub knows : (s : S) (k : ℕ) → l.is_on s ≡ true → m.knows (l.value s) k ≡ true → w.knows s k ≡ true

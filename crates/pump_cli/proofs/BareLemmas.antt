@@ -1,7 +1,6 @@
 -- Where no policy is chosen, a run under the policy that is nothing is the one that is due.
-use Rattle.std.proofs.Common.{◌≡◌, ℕ, ◌≤◌, ◌==◌, nat_lt, Bool, true, false, List, length, ◌++◌, refl, ap, sym, ◌∙◌, arith}
-use Rattle.std.proofs.lemmas.Bool.{eqb-true, le-ltb}
-use Rattle.std.proofs.lemmas.Bool.Decides.{nat_tests}
+use Rattle.std.proofs.Common.{◌≡◌, ℕ, ◌≤◌, ◌==◌, nat_lt, Bool, true, false, List, length, ◌++◌, refl, ap, sym, ◌∙◌, if◌then◌else◌}
+use Rattle.std.proofs.lemmas.Bool.{le-ltb}
 use Rattle.image_format.specs.Picture.{Picture}
 use Rattle.turn_steps.specs.Feeds.{tape_of}
 use Rattle.engine_trait.specs.Accounts.{is_over}
@@ -12,14 +11,15 @@ use Rattle.policy_product.specs.Nothing.{nothing, no_tag}
 use Rattle.rounds.specs.Course.{Course, rounds}
 use Rattle.rounds.specs.Same.{ShowsSame}
 use Rattle.rounds.proofs.MirrorLemmas.{rounds_same}
-use Rattle.pump_loader.specs.PlainLoads.{bare_start_of, start_of}
+use Rattle.pump_loader.specs.ChosenLoads.{chosen_start_of}
 use Rattle.pump_loader.specs.Loads.{cached_start_of}
+use Rattle.pump_loader.specs.PlainLoads.{bare_start_of, start_of}
 use Rattle.pump_loader.proofs.BareLemmas.{bare_start_mirrors}
 use Rattle.pump_line.specs.Task.{RunTask}
-use Rattle.pump_cli.specs.Endings.{last_pieces, outcome_of_course, status_of}
+use Rattle.pump_cli.specs.Endings.{Outcome, last_pieces, outcome_of_course, status_of}
 use Rattle.pump_cli.specs.Program.{basis_of, outcome_of_run, standing_at_start}
 use Rattle.pump_cli.proofs.NoneRunLemmas.{none_runs, none_start}
-use Rattle.pump_cli.proofs.StartLemmas.{cached_outcome, started_within, uncached_outcome}
+use Rattle.pump_cli.proofs.StartLemmas.{started_outcome, started_within}
 
 -- whether two tags are the same, where there is but one
 abbrev pub one_eq : Unit {0} → Unit {0} → Bool
@@ -41,22 +41,21 @@ module _ (task : RunTask) (picture : Picture) (fed : List ℕ) (none : is_none t
   within =
       ap (λ (seen : List AllTag). nat_lt task.tags (length seen)) (none_start (basis_of task.choice) picture none) ∙ le-ltb task.tags 1 some_tags
 
-  -- where rules may be kept, the run shows what it shows without
-  kept_outcome : 1 ≤ task.cache
-      → outcome_of_course (rounds all_eq all task.turns 0 (start_of (basis_of task.choice) picture) (tape_of fed)) ≡ outcome_of_run task picture fed
-  kept_outcome some =
+  abbrev outcome_from : Standing AllState AllTag → Outcome
+  outcome_from start = outcome_of_course (rounds all_eq all task.turns 0 start (tape_of fed))
+
+  -- whether rules are kept or not, the run shows what it shows without
+  plain_by : (keeps_none : Bool)
+      → outcome_from (start_of (basis_of task.choice) picture) ≡ outcome_from (standing_at_start (if keeps_none then start_of (basis_of task.choice) picture else cached))
+  plain_by true = refl
+  plain_by false =
       same_outcome (rounds all_eq all task.turns 0 cached (tape_of fed)) (rounds all_eq all task.turns 0 (start_of (basis_of task.choice) picture) (tape_of fed))
       (none_runs (basis_of task.choice) task.cache task.tags picture task.turns 0 (tape_of fed) none some_tags)
-      ∙ ap (λ (start : Standing AllState AllTag). outcome_of_course (rounds all_eq all task.turns 0 start (tape_of fed))) (sym (started_within cached within))
-      ∙ cached_outcome task picture fed some
-
-  plain_by : (keeps_none : Bool) → (task.cache == 0) ≡ keeps_none
-      → outcome_of_course (rounds all_eq all task.turns 0 (start_of (basis_of task.choice) picture) (tape_of fed)) ≡ outcome_of_run task picture fed
-  plain_by true is = uncached_outcome task picture fed (eqb-true task.cache 0 is)
-  plain_by false is = kept_outcome (grind (arith, nat_tests, is))
+      ∙ ap outcome_from (sym (started_within cached within))
 
   pub bare_outcome : outcome_of_course (rounds one_eq nothing task.turns 0 (standing_at_start (bare_start_of picture)) (tape_of fed)) ≡ outcome_of_run task picture fed
   bare_outcome =
       same_outcome (rounds all_eq all task.turns 0 (start_of (basis_of task.choice) picture) (tape_of fed)) (rounds one_eq nothing task.turns 0 (bare_start_of picture) (tape_of fed))
       (rounds_same all_eq one_eq no_tag all nothing task.turns 0 (start_of (basis_of task.choice) picture) (bare_start_of picture) (tape_of fed) (bare_start_mirrors (basis_of task.choice) picture none))
-      ∙ plain_by (task.cache == 0) refl
+      ∙ plain_by (task.cache == 0)
+      ∙ started_outcome task picture (basis_of task.choice) refl (chosen_start_of (basis_of task.choice) task.cache task.tags picture) refl fed

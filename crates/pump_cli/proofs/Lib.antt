@@ -1,18 +1,25 @@
 pub mod AnswerLemmas
+pub mod AsmWayLemmas
 pub mod BareLemmas
 pub mod CallLemmas
 pub mod CauseLemmas
+pub mod DisWayLemmas
 pub mod EndLemmas
 pub mod GatheringLemmas
 pub mod ListLemmas
 pub mod LoadLemmas
+pub mod LoadWayLemmas
 pub mod NoneRunLemmas
 mod OneTagLemmas
 mod OneTagRunLemmas
+pub mod RunWayLemmas
 pub mod SafeRunLemmas
 pub mod SessionLemmas
 mod SessionRunLemmas
+pub mod ShellWayLemmas
+pub mod SideLemmas
 pub mod StartLemmas
 pub mod TaskLemmas
 pub mod WayLemmas
+pub mod WordWayLemmas
 pub mod WorkloadLemmas

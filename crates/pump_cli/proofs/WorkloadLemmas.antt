@@ -1,5 +1,5 @@
 -- How a workload went: its counts and its status, where it makes no turn and where it makes some.
-use Rattle.std.proofs.Common.{◌≡◌, ℕ, ◌+◌, ◌*◌, ◌≤◌, Bool, true, List, [], Option, Result, Ok, Err, IfOk, ◌∷◌, refl, ap, ap₂, subst, sym, ◌∙◌}
+use Rattle.std.proofs.Common.{◌≡◌, ℕ, ◌+◌, ◌*◌, Bool, true, List, [], Option, Result, Ok, Err, IfOk, ◌∷◌, refl, ap, ap₂, subst, sym, ◌∙◌}
 use Rattle.host_io.specs.Causes.{PutCause}
 use Rattle.host_io.specs.Prefixes.{TakesAll, TakesPrefix}
 use Rattle.host_io.specs.Pieces.{Puts, out}
@@ -9,14 +9,14 @@ use Rattle.host_io.specs.declared.traits.sink.PutEnd.TheVariants as put_end
 use Rattle.host_io.proofs.PieceLemmas.{put_on_out}
 use Rattle.image_format.specs.Picture.{Picture}
 use Rattle.policy_choice.specs.All.{AllState, AllTag, all, all_eq}
+use Rattle.policy_choice.specs.declared.basis.Basis.{Basis}
 use Rattle.policy_trait.specs.Model.{PolicyModel}
 use Rattle.turn_steps.specs.Feeds.{tape_of}
 use Rattle.engine_trait.specs.Accounts.{counts_of, is_over}
 use Rattle.engine_trait.specs.Standing.{Standing}
 use Rattle.engine_trait.specs.declared.ends.Counts.{Counts}
 use Rattle.rounds.specs.Course.{Course, hart_stops, rounds}
-use Rattle.pump_loader.specs.PlainLoads.{start_of}
-use Rattle.pump_loader.specs.Loads.{cached_start_of}
+use Rattle.pump_loader.specs.ChosenLoads.{chosen_start_of}
 use Rattle.pump_line.specs.Task.{LoadTask}
 use Rattle.pump_cli.specs.Codes.{IsOfRun, code_of}
 use Rattle.pump_cli.specs.Cuts.{cut_of_put}
@@ -28,7 +28,7 @@ use Rattle.pump_cli.specs.declared.cut.Cut.{Cut}
 use Rattle.pump_cli.specs.declared.status.Status.{Status}
 use Rattle.pump_cli.specs.declared.status.Status.TheVariants.{TagsOut}
 use Rattle.pump_cli.proofs.SessionLemmas.{counts as fault_counts, sinks}
-use Rattle.pump_cli.proofs.StartLemmas.{cached_course, over_course, uncached_course}
+use Rattle.pump_cli.proofs.StartLemmas.{over_course, started_course}
 
 -- ---- the line
 
@@ -92,12 +92,9 @@ module _ (task : LoadTask) (picture : Picture) where
   abbrev work_from : Standing AllState AllTag → Outcome
   work_from start = outcome_of_work task.count (rounds all_eq all (10 * task.count + 4) 0 (standing_at_start start) (tape_of []))
 
-  pub uncached_work : task.cache ≡ 0 → work_from (start_of (basis_of every_policy) picture) ≡ outcome_of_load task picture
+  -- from a start that is chosen for it
+  pub started_work : (basis : Basis) → basis ≡ basis_of every_policy → (start : Standing AllState AllTag) → start ≡ chosen_start_of basis task.cache task.tags picture
+      → work_from start ≡ outcome_of_load task picture
   unfolding outcome_of_load
-  uncached_work uncached =
-      ap (λ (course : Course AllState AllTag). outcome_of_work task.count course) (uncached_course (run_of_load task) picture [] uncached)
-
-  pub cached_work : 1 ≤ task.cache → work_from (cached_start_of (basis_of every_policy) task.cache task.tags picture) ≡ outcome_of_load task picture
-  unfolding outcome_of_load
-  cached_work cached =
-      ap (λ (course : Course AllState AllTag). outcome_of_work task.count course) (cached_course (run_of_load task) picture [] cached)
+  started_work basis on start chosen =
+      ap (λ (course : Course AllState AllTag). outcome_of_work task.count course) (started_course (run_of_load task) picture basis on start chosen [])

@@ -1,5 +1,5 @@
 -- What `pump` guarantees: a record of named facts over the environment before and after the call.
-use Rattle.std.specs.Prelude.{◌≡◌, ◌≢◌, Option, None, IfSome}
+use Rattle.std.specs.Prelude.{◌≡◌, ◌≢◌, Option, Some, None, IfSome}
 use Rattle.host_io.specs.Environment.{Environment}
 use Rattle.host_io.specs.Pieces.{PutsPrefix}
 use Rattle.pump_line.specs.Task.{Task}
@@ -7,6 +7,7 @@ use Rattle.pump_cli.specs.Calls.{CallsMade, FaultBy, HeldAfter}
 use Rattle.pump_cli.specs.Codes.{IsFinal, IsOfRefusal, IsSilent}
 use Rattle.pump_cli.specs.Endings.{Outcome}
 use Rattle.pump_cli.specs.Facts.{AllStayed, Finishes, TaskFacts}
+use Rattle.pump_cli.specs.Program.{outcome_of_task}
 use Rattle.pump_cli.specs.declared.status.Status.{Status}
 use Rattle.pump_cli.specs.declared.status.Status.TheVariants.{BadWords, Memory}
 
@@ -34,3 +35,7 @@ pub record Headline {I : Type 0} (due : Option Outcome) (task : Option Task) (st
   pub unsaved : status ≡ Memory → after.held ≡ before.held
   -- Why the task is refused, and what is done to the input.
   pub asked : TaskFacts task status before after
+
+-- of a task that the words ask for: what is due is what the task comes to, as files and input stand before the call
+abbrev pub HeadlineOf : {I : Type 0} → Task → Status → Environment I → Environment I → Type 0
+HeadlineOf task status before after = Headline (outcome_of_task task before.held before.left) (Some task) status before after

@@ -3,19 +3,19 @@
 //! counts.
 #![tactic(auto)]
 
+mod asm;
 mod basis;
 mod cut;
+mod dis;
 mod ending;
-mod listing;
+mod load;
 mod program;
 mod reading;
 mod refusal;
-mod runs;
-mod saving;
-mod sessions;
+mod run;
+mod shell;
 mod status;
 mod texts;
-mod workloads;
 
 pub use program::pump;
 pub use status::Status;

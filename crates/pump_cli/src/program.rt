@@ -1,88 +1,32 @@
 //! The program, from the words, the files, the input and the two sinks to its status.
 
-ghost use Rattle.std.specs.Prelude.{◌≡◌, ℕ, ◌≤◌, List, Option, Some, Ok};
+ghost use Rattle.std.specs.Prelude.{◌≡◌, ℕ, List, Option, Some, Ok};
 ghost use Rattle.host_io.specs.Bytes.{AreBytes, TellBytes};
 ghost use Rattle.image_format.specs.Picture.{Picture};
 ghost use Rattle.workload_laws.specs.Images.{image_of_workload};
 ghost use Rattle.pump_line.specs.Request.{DisassembleTask};
-ghost use Rattle.pump_line.specs.Task.{AllowsTags, LoadTask, disassemble, load, run, shell, task_of};
-ghost use Rattle.pump_line.specs.Told.{run_value, shell_value, texts_of, task_value};
+ghost use Rattle.pump_line.specs.Task.{AllowsTags, LoadTask, disassemble, load, task_of};
+ghost use Rattle.pump_line.specs.Told.{texts_of, task_value};
 ghost use Rattle.pump_cli.specs.Facts.{status_in};
 ghost use Rattle.pump_cli.specs.ListedBack.{ListsBack};
 ghost use Rattle.pump_cli.specs.Environments.{environment};
-ghost use Rattle.pump_cli.specs.Program.{outcome_of_content, outcome_of_load, outcome_of_task, program};
+ghost use Rattle.pump_cli.specs.Program.{outcome_of_load, program};
 ghost use Rattle.pump_cli.specs.Reading.{image_read};
 ghost use Rattle.pump_cli.specs.Runs.{EachRun, IsOut, IsSafeRun, IsSpent, TheRun};
 ghost use Rattle.pump_cli.specs.Sessions.{TellsRuns, TheSession};
-ghost use Rattle.pump_cli.specs.Theorem.{Headline};
+ghost use Rattle.pump_cli.specs.Theorem.{Headline, HeadlineOf};
 
+use crate::asm::assemble_task;
 use crate::cut::Cut;
-use crate::listing::list_words;
-use crate::reading::{load_image, load_source, read_input};
-use crate::refusal::{Refusal, end_early, refuse};
-use crate::runs::run_image;
-use crate::saving::save_image;
-use crate::sessions::obey_lines;
+use crate::dis::disassemble_task;
+use crate::load::load_task;
+use crate::refusal::{Refusal, refuse};
+use crate::run::run_task;
+use crate::shell::shell_task;
 use crate::status::Status;
-use crate::workloads::{make_workload, run_workload};
 use host_io::{Files, Sink, Source};
-use pump_line::{RunTask, ShellTask, Task, WordsEnd, read_task};
+use pump_line::{Task, WordsEnd, read_task};
 use std::alloc::Global;
-
-/// Loads the image, reads the whole input, and runs the image on it.
-fn run_task<F: Files, S: Source, K: Sink, L: Sink>(
-    alloc: Global,
-    task: RunTask<'_>,
-    files: &mut F,
-    input: &mut S,
-    out: &mut K,
-    err: &mut L,
-) -> Result<Status, Cut>
-    requires { 1 ≤ task.tags }
-    ensures { Headline
-        (outcome_of_content (run (run_value task.entry)) (F.held files.old task.entry.image.now)
-        (S.left input.old))
-        (Some (run (run_value task.entry))) (status_in result)
-        (environment F.tells F.held F.read_faults F.write_faults F.calls S.left S.closed S.faults
-        K.taken K.faults L.taken L.faults files.old input.old out.old err.old)
-        (environment F.tells F.held F.read_faults F.write_faults F.calls S.left S.closed S.faults
-        K.taken K.faults L.taken L.faults files.new input.new out.new err.new) }
-{
-    let image = match load_image(alloc, files, task.image) {
-        Ok(image) => image,
-        Err(end) => return end_early(err, end),
-    };
-    let fed = match read_input(alloc, input) {
-        Ok(fed) => fed,
-        Err(end) => return end_early(err, end),
-    };
-    run_image(alloc, task, &image, fed, out, err)
-}
-
-/// Loads the image, and executes the input's lines over it.
-fn shell_task<F: Files, S: Source, K: Sink, L: Sink>(
-    alloc: Global,
-    task: ShellTask<'_>,
-    files: &mut F,
-    input: &mut S,
-    out: &mut K,
-    err: &mut L,
-) -> Result<Status, Cut>
-    requires { 1 ≤ task.tags }
-    ensures { Headline
-        (outcome_of_content (shell (shell_value task.entry)) (F.held files.old task.entry.image.now)
-        (S.left input.old))
-        (Some (shell (shell_value task.entry))) (status_in result)
-        (environment F.tells F.held F.read_faults F.write_faults F.calls S.left S.closed S.faults
-        K.taken K.faults L.taken L.faults files.old input.old out.old err.old)
-        (environment F.tells F.held F.read_faults F.write_faults F.calls S.left S.closed S.faults
-        K.taken K.faults L.taken L.faults files.new input.new out.new err.new) }
-{
-    match load_image(alloc, files, task.image) {
-        Ok(image) => obey_lines(alloc, task, &image, input, out, err),
-        Err(end) => end_early(err, end),
-    }
-}
 
 /// Carries out a task: a case for each subcommand.
 fn do_task<F: Files, S: Source, K: Sink, L: Sink>(
@@ -94,9 +38,7 @@ fn do_task<F: Files, S: Source, K: Sink, L: Sink>(
     err: &mut L,
 ) -> Result<Status, Cut>
     requires { AllowsTags (task_value task) }
-    ensures { Headline
-        (outcome_of_task (task_value task.entry) (F.held files.old) (S.left input.old))
-        (Some (task_value task.entry)) (status_in result)
+    ensures { HeadlineOf (task_value task.entry) (status_in result)
         (environment F.tells F.held F.read_faults F.write_faults F.calls S.left S.closed S.faults
         K.taken K.faults L.taken L.faults files.old input.old out.old err.old)
         (environment F.tells F.held F.read_faults F.write_faults F.calls S.left S.closed S.faults
@@ -105,18 +47,9 @@ fn do_task<F: Files, S: Source, K: Sink, L: Sink>(
     match task {
         Task::Run(task) => run_task(alloc, task, files, input, out, err),
         Task::Shell(task) => shell_task(alloc, task, files, input, out, err),
-        Task::Assemble(task) => match load_source(alloc, files, task.source) {
-            Ok(image) => save_image(alloc, files, task.image, &image),
-            Err(end) => end_early(err, end),
-        },
-        Task::Disassemble(task) => match load_image(alloc, files, task.image) {
-            Ok(image) => list_words(&image, out),
-            Err(end) => end_early(err, end),
-        },
-        Task::Load(task) => match make_workload(alloc, task.count) {
-            Ok(image) => run_workload(alloc, task, &image, out),
-            Err(end) => end_early(err, end),
-        },
+        Task::Assemble(task) => assemble_task(alloc, task, files, input, out, err),
+        Task::Disassemble(task) => disassemble_task(alloc, task, files, input, out, err),
+        Task::Load(task) => load_task(alloc, task, files, input, out, err),
     }
 }
 

@@ -1,5 +1,5 @@
 -- A service of the policy where tags are words: what it is asked with, and what it leaves.
-use Rattle.std.proofs.Common.{◌≡◌, ℕ, ◌%◌, ◌<◌, ◌≤◌, Bool, true, false, not, nat_lt, List, [], ◌∷◌, All, length, map, Option, option_map, Result, Ok, Err, IfOk, IsOkAnd, take, refl, sym, ap, ◌∙◌, subst, if◌then◌else◌, arith}
+use Rattle.std.proofs.Common.{◌≡◌, ℕ, ◌%◌, ◌<◌, ◌≤◌, Bool, true, false, not, nat_lt, List, [], ◌∷◌, All, length, map, Option, option_map, Result, Ok, Err, IfOk, IsOkAnd, OnErr, OnOk, is_err, take, refl, sym, ap, ◌∙◌, subst, if◌then◌else◌, arith}
 use Rattle.std.specs.Prelude.{◌↔◌, IsTrue}
 use Rattle.std.proofs.lemmas.Bool.{false≢true, le-ltb, lt-ltb}
 use Rattle.std.proofs.lemmas.Result.{IfOk-weaker}
@@ -20,7 +20,8 @@ use Rattle.engine_trait.specs.Accounts.{first_written, is_over, seeing, with_tag
 use Rattle.shared_terms.specs.Counts.{next_count}
 use Rattle.engine_trait.specs.Machine.{hart_at}
 use Rattle.engine_trait.specs.Maps.{core_by, words_by}
-use Rattle.engine_trait.specs.Turn.{core_served, service_on}
+use Rattle.turn_steps.specs.declared.stop.Stop.{Stop}
+use Rattle.engine_trait.specs.Turn.{core_served, service_on, service_stop}
 use Rattle.engine_trait.specs.declared.ends.Halt.TheVariants as halt
 use Rattle.engine_trait.specs.declared.ends.TurnEnd.{TurnEnd}
 use Rattle.engine_trait.specs.declared.ends.TurnEnd.TheVariants as ends
@@ -34,7 +35,7 @@ use Rattle.miss_handler.specs.Books.{rulebook_of}
 use Rattle.word_service.specs.Written.{IsAnswerBelow, IsWordBelow}
 use Rattle.miss_handler.proofs.RuleLemmas.{rules_grown, sets_below, sets_grown}
 use Rattle.pump_engine.specs.Pump.{IsPump, PumpState, account_by_words, decode, machine_by_words, pump_of}
-use Rattle.pump_engine.specs.Steps.{CarriesOut, EndsService, Serves, after_halt, first_in, job_over, service_in, written_in}
+use Rattle.pump_engine.specs.Steps.{CarriesOut, EndsService, Serves, after_halt, after_stop, first_in, job_over, service_in, written_in}
 use Rattle.engine_trait.proofs.AccountLemmas.{keeps_some}
 use Rattle.pump_engine.proofs.StepLemmas.{first_over, first_within}
 use Rattle.pump_engine.proofs.StayLemmas.{after_service, decode_grown, machine_grown, machine_served, pump_grown, pump_served}
@@ -140,6 +141,46 @@ module _ {S T : Type 0} (eq : T → T → Bool) (m : PolicyModel T S) (holds : S
 
     pub serves : Serves eq m p h look outs job left
     serves = record { machine = machine_left; account = account_left; within = le-ltb table.limit (length table.tags) written.within }
+
+-- ---- how a call of a service ends
+
+-- an answer of a call, whose error is told by a test
+pub ok_at : {A E : Type 0} (r : Result A E) (P : Type 0) (test : Bool) → test ≡ is_err r → test ≡ false → OnOk r P → P
+ok_at (Ok x) P test is told holds = holds
+ok_at (Err end) P test is told holds = absurd (false≢true (sym told ∙ is))
+
+pub err_at : {A E : Type 0} (r : Result A E) (P : Type 0) (test : Bool) → test ≡ is_err r → test ≡ true → OnErr r P → P
+err_at (Ok x) P test is told holds = absurd (false≢true (sym is ∙ told))
+err_at (Err end) P test is told holds = holds
+
+-- answers that are the same hold the same
+same_ok : {A E : Type 0} (a b : A) → ◌≡◌ {A = Result A E} (Ok a) (Ok b) → a ≡ b
+same_ok a b same = cc
+
+same_err : {A E : Type 0} (a b : E) → ◌≡◌ {A = Result A E} (Err a) (Err b) → a ≡ b
+same_err a b same = cc
+
+ok_or_err : {A E : Type 0} (a : A) (b : E) → ◌≡◌ {A = Result A E} (Ok a) (Err b) → ⊥
+ok_or_err a b same = cc
+
+module _ {S T : Type 0} (eq : T → T → Bool) (m : PolicyModel T S) (p : PumpState S T) (h : ℕ) (look : Look) (outs : Outs ℕ) (q : PumpState S T) (ended : TurnEnd) where
+  -- one that nothing refuses
+  pub ends_carried : (job : Job T) → service_in eq m p h look outs ≡ Ok job → CarriesOut eq m p h look outs job q ended → EndsService eq m p h look outs q ended
+  ends_carried job is carried = record {
+    served = λ other same. subst (λ (j : Job T). CarriesOut eq m p h look outs j q ended) (same_ok {E = PlanEnd} job other (sym is ∙ same)) carried;
+    stopped = λ end same. absurd (ok_or_err {A = Job T} job end (sym is ∙ same));
+  }
+
+  -- one that stops the hart
+  pub ends_stopped : (end : PlanEnd) (why : Stop) → service_in eq m p h look outs ≡ Err end → why ≡ service_stop (hart_at p.core h).pc look.service end
+      → q ≡ after_stop p h why → ended ≡ ends.Stopped why → EndsService eq m p h look outs q ended
+  ends_stopped end why is why_is left_is ended_is =
+      let stops = λ (other : PlanEnd) (same : service_in eq m p h look outs ≡ Err other).
+      why_is ∙ ap (service_stop (hart_at p.core h).pc look.service) (same_err {A = Job T} end other (sym is ∙ same)) in
+      record {
+        served = λ job same. absurd (ok_or_err {A = Job T} job end (sym same ∙ is));
+        stopped = λ other same. (left_is ∙ ap (after_stop p h) (stops other same), ended_is ∙ ap ends.Stopped (stops other same));
+      }
 
 -- ---- whether the first tag that a service writes can have a word
 

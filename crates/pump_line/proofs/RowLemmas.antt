@@ -1,8 +1,9 @@
--- Command lines, each with what it asks for or with the fault that `clap` names, computed by the definitions alone.
-use Rattle.std.proofs.Common.{◌≡◌, true, List, [], ◌∷◌, ℕ, codes, refl}
-use Rattle.std.specs.Prelude.{⊤, Some, None}
+-- Command lines, each with what it asks for or with the faults that `clap` names, computed by the definitions alone.
+use Rattle.std.proofs.Common.{◌≡◌, List, [], ◌∷◌, ℕ, codes, map, true, refl}
+use Rattle.std.specs.Prelude.{⊤, ◌==◌, Some, None}
+use Rattle.std.specs.List.{slice_split}
 use Rattle.clap.proofs.OnLiterals.{clap_on_literals}
-use Rattle.clap.specs.Words.{Text}
+use Rattle.clap.specs.Words.{Kinds, Text}
 use Rattle.clap.specs.declared.error.kind.ErrorKind.TheVariants.{ArgumentConflict, InvalidSubcommand, InvalidValue, MissingRequiredArgument, MissingSubcommand, UnknownArgument}
 use Rattle.policy_choice.specs.Choice.{no_policy}
 use Rattle.policy_choice.specs.declared.choice.Choice.{Choice}
@@ -15,9 +16,21 @@ unfoldable on_rows : ⊤
 unfolding clap_on_literals faults_of match_of pump_app run_shape shell_shape asm_shape dis_shape load_shape request_by request_of run_in shell_in assemble_in disassemble_in load_in run_task_in shell_task_in load_task_in task_of
 on_rows = tt
 
--- a line after the program's name
-abbrev line : List Text → List Text
-line words = codes "pump" ∷ words
+-- the words of a line, with one space between each two; where two spaces stand together, or one at the end, a word is empty
+abbrev words_of : Text → List Text
+words_of = slice_split (λ byte. byte == 32)
+
+-- each line asks for what stands beside it
+abbrev Ask : List (Text × Task) → Type 0
+Ask rows = map (λ row. task_of (words_of row.0)) rows ≡ map (λ row. Some row.1) rows
+
+-- in each line `clap` names these faults
+abbrev Name : Kinds → List Text → Type 0
+Name faults lines = map (λ line. faults_of (words_of line)) lines ≡ map (λ line. faults) lines
+
+-- in no line does `clap` name a fault, and still none asks for anything
+abbrev AskNothing : List Text → Type 0
+AskNothing lines = Name [] lines × (map (λ line. task_of (words_of line)) lines ≡ map (λ line. None) lines)
 
 -- a run that keeps the most rules, and the most tags with words, that a line gives which says nothing of them
 abbrev run_of : Text → Choice → ℕ → Task
@@ -48,258 +61,87 @@ sealing_alone = record no_policy { seal = true }
 
 -- ---- lines that ask for a run
 
--- the image alone
-plain : task_of (line (codes "run" ∷ codes "a.img" ∷ [])) ≡ Some (run_of (codes "a.img") no_policy 1000000)
+runs : Ask (
+    (codes "pump run a.img", run_of (codes "a.img") no_policy 1000000) ∷  -- the image alone
+    (codes "pump run a.img --policy none", run_of (codes "a.img") no_policy 1000000) ∷  -- `none` named
+    (codes "pump run a.img --policy seal", run_of (codes "a.img") sealing_alone 1000000) ∷  -- sealing named
+    (codes "pump run a.img --policy comp", run_of (codes "a.img") (record no_policy { comp = true }) 1000000) ∷  -- another policy named
+    (codes "pump run a.img --policy heap,flow,seal,comp", run_of (codes "a.img") (record { seal = true; comp = true; flow = true; heap = true }) 1000000) ∷  -- all named, in another order
+    (codes "pump run a.img --policy=seal", run_of (codes "a.img") sealing_alone 1000000) ∷  -- the value behind an equals sign
+    (codes "pump run --policy seal a.img", run_of (codes "a.img") sealing_alone 1000000) ∷  -- the option before the image
+    (codes "pump run --turns 5 a.img --policy seal", run_of (codes "a.img") sealing_alone 5) ∷  -- one option before and one after the image
+    (codes "pump run a.img --policy seal --turns 5", run_of (codes "a.img") sealing_alone 5) ∷  -- both options after the image
+    (codes "pump run a.img --turns=5", run_of (codes "a.img") no_policy 5) ∷  -- turns behind an equals sign
+    (codes "pump run a.img --turns 1", run_of (codes "a.img") no_policy 1) ∷  -- the fewest turns
+    (codes "pump run a.img --turns 1000000000", run_of (codes "a.img") no_policy 1000000000) ∷  -- the most turns
+    (codes "pump run a.img --cache 0", run_keeping (codes "a.img") 0 65536) ∷  -- no rule is kept
+    (codes "pump run a.img --cache 65536", run_keeping (codes "a.img") 65536 65536) ∷  -- the most kept rules
+    (codes "pump run a.img --cache=5", run_keeping (codes "a.img") 5 65536) ∷  -- kept rules behind an equals sign
+    (codes "pump run a.img --tags 1", run_keeping (codes "a.img") 1024 1) ∷  -- the fewest tags with words
+    (codes "pump run a.img --tags 1048576", run_keeping (codes "a.img") 1024 1048576) ∷  -- the most tags with words
+    (codes "pump run a.img --cache 5 --tags 6", run_keeping (codes "a.img") 5 6) ∷  -- kept rules before tags
+    (codes "pump run --tags 6 a.img --cache 5", run_keeping (codes "a.img") 5 6) ∷  -- tags before kept rules
+    (codes "pump run a.img --turns 0000000007", run_of (codes "a.img") no_policy 7) ∷  -- ten digits with zeros before
+    (codes "pump run run", run_of (codes "run") no_policy 1000000) ∷  -- an image of a subcommand's name
+    (codes "pump run -", run_of (codes "-") no_policy 1000000) ∷  -- a lone dash is an ordinary word
+    (codes "pump run -- --policy", run_of (codes "--policy") no_policy 1000000) ∷  -- no option after two dashes
+    (codes "pump run ", run_of [] no_policy 1000000) ∷  -- the empty name
+    [])
 unfolding on_rows
-plain = refl
-
--- `none` named
-none_named : task_of (line (codes "run" ∷ codes "a.img" ∷ codes "--policy" ∷ codes "none" ∷ [])) ≡ Some (run_of (codes "a.img") no_policy 1000000)
-unfolding on_rows
-none_named = refl
-
--- sealing named
-sealed : task_of (line (codes "run" ∷ codes "a.img" ∷ codes "--policy" ∷ codes "seal" ∷ [])) ≡ Some (run_of (codes "a.img") sealing_alone 1000000)
-unfolding on_rows
-sealed = refl
-
--- another policy named
-compartments_named : task_of (line (codes "run" ∷ codes "a.img" ∷ codes "--policy" ∷ codes "comp" ∷ [])) ≡ Some (run_of (codes "a.img") (record no_policy { comp = true }) 1000000)
-unfolding on_rows
-compartments_named = refl
-
--- all named, in another order
-all_named : task_of (line (codes "run" ∷ codes "a.img" ∷ codes "--policy" ∷ codes "heap,flow,seal,comp" ∷ [])) ≡ Some (run_of (codes "a.img") (record { seal = true; comp = true; flow = true; heap = true }) 1000000)
-unfolding on_rows
-all_named = refl
-
--- the value behind an equals sign
-policy_with_sign : task_of (line (codes "run" ∷ codes "a.img" ∷ codes "--policy=seal" ∷ [])) ≡ Some (run_of (codes "a.img") sealing_alone 1000000)
-unfolding on_rows
-policy_with_sign = refl
-
--- the option before the image
-policy_before : task_of (line (codes "run" ∷ codes "--policy" ∷ codes "seal" ∷ codes "a.img" ∷ [])) ≡ Some (run_of (codes "a.img") sealing_alone 1000000)
-unfolding on_rows
-policy_before = refl
-
--- one option before and one after the image
-both_around : task_of (line (codes "run" ∷ codes "--turns" ∷ codes "5" ∷ codes "a.img" ∷ codes "--policy" ∷ codes "seal" ∷ [])) ≡ Some (run_of (codes "a.img") sealing_alone 5)
-unfolding on_rows
-both_around = refl
-
--- both options after the image
-both_behind : task_of (line (codes "run" ∷ codes "a.img" ∷ codes "--policy" ∷ codes "seal" ∷ codes "--turns" ∷ codes "5" ∷ [])) ≡ Some (run_of (codes "a.img") sealing_alone 5)
-unfolding on_rows
-both_behind = refl
-
--- turns behind an equals sign
-turns_with_sign : task_of (line (codes "run" ∷ codes "a.img" ∷ codes "--turns=5" ∷ [])) ≡ Some (run_of (codes "a.img") no_policy 5)
-unfolding on_rows
-turns_with_sign = refl
-
--- the fewest turns
-least_turns : task_of (line (codes "run" ∷ codes "a.img" ∷ codes "--turns" ∷ codes "1" ∷ [])) ≡ Some (run_of (codes "a.img") no_policy 1)
-unfolding on_rows
-least_turns = refl
-
--- the most turns
-most_turns : task_of (line (codes "run" ∷ codes "a.img" ∷ codes "--turns" ∷ codes "1000000000" ∷ [])) ≡ Some (run_of (codes "a.img") no_policy 1000000000)
-unfolding on_rows
-most_turns = refl
-
--- no rule is kept
-no_cache : task_of (line (codes "run" ∷ codes "a.img" ∷ codes "--cache" ∷ codes "0" ∷ [])) ≡ Some (run_keeping (codes "a.img") 0 65536)
-unfolding on_rows
-no_cache = refl
-
--- the most kept rules
-most_cache : task_of (line (codes "run" ∷ codes "a.img" ∷ codes "--cache" ∷ codes "65536" ∷ [])) ≡ Some (run_keeping (codes "a.img") 65536 65536)
-unfolding on_rows
-most_cache = refl
-
--- kept rules behind an equals sign
-cache_with_sign : task_of (line (codes "run" ∷ codes "a.img" ∷ codes "--cache=5" ∷ [])) ≡ Some (run_keeping (codes "a.img") 5 65536)
-unfolding on_rows
-cache_with_sign = refl
-
--- the fewest tags with words
-least_tags : task_of (line (codes "run" ∷ codes "a.img" ∷ codes "--tags" ∷ codes "1" ∷ [])) ≡ Some (run_keeping (codes "a.img") 1024 1)
-unfolding on_rows
-least_tags = refl
-
--- the most tags with words
-most_tags : task_of (line (codes "run" ∷ codes "a.img" ∷ codes "--tags" ∷ codes "1048576" ∷ [])) ≡ Some (run_keeping (codes "a.img") 1024 1048576)
-unfolding on_rows
-most_tags = refl
-
--- kept rules before tags
-cache_before_tags : task_of (line (codes "run" ∷ codes "a.img" ∷ codes "--cache" ∷ codes "5" ∷ codes "--tags" ∷ codes "6" ∷ [])) ≡ Some (run_keeping (codes "a.img") 5 6)
-unfolding on_rows
-cache_before_tags = refl
-
--- tags before kept rules
-tags_before_cache : task_of (line (codes "run" ∷ codes "--tags" ∷ codes "6" ∷ codes "a.img" ∷ codes "--cache" ∷ codes "5" ∷ [])) ≡ Some (run_keeping (codes "a.img") 5 6)
-unfolding on_rows
-tags_before_cache = refl
-
--- ten digits with zeros before
-leading_zeros : task_of (line (codes "run" ∷ codes "a.img" ∷ codes "--turns" ∷ codes "0000000007" ∷ [])) ≡ Some (run_of (codes "a.img") no_policy 7)
-unfolding on_rows
-leading_zeros = refl
-
--- an image of a subcommand's name
-image_run : task_of (line (codes "run" ∷ codes "run" ∷ [])) ≡ Some (run_of (codes "run") no_policy 1000000)
-unfolding on_rows
-image_run = refl
-
--- a lone dash is an ordinary word
-dash_image : task_of (line (codes "run" ∷ codes "-" ∷ [])) ≡ Some (run_of (codes "-") no_policy 1000000)
-unfolding on_rows
-dash_image = refl
-
--- no option after two dashes
-behind_dashes : task_of (line (codes "run" ∷ codes "--" ∷ codes "--policy" ∷ [])) ≡ Some (run_of (codes "--policy") no_policy 1000000)
-unfolding on_rows
-behind_dashes = refl
-
--- the empty name
-empty_image : task_of (line (codes "run" ∷ [] ∷ [])) ≡ Some (run_of [] no_policy 1000000)
-unfolding on_rows
-empty_image = refl
+runs = refl
 
 -- ---- lines that ask for a shell
 
--- the image alone
-shell_plain : task_of (line (codes "shell" ∷ codes "a.img" ∷ [])) ≡ Some (shell_of (codes "a.img") no_policy 1024 65536)
+shells : Ask (
+    (codes "pump shell a.img", shell_of (codes "a.img") no_policy 1024 65536) ∷  -- the image alone
+    (codes "pump shell a.img --policy seal", shell_of (codes "a.img") sealing_alone 1024 65536) ∷  -- a policy named
+    (codes "pump shell a.img --cache 0", shell_of (codes "a.img") no_policy 0 65536) ∷  -- kept rules named
+    (codes "pump shell a.img --cache=5", shell_of (codes "a.img") no_policy 5 65536) ∷  -- kept rules behind an equals sign
+    (codes "pump shell a.img --tags 6", shell_of (codes "a.img") no_policy 1024 6) ∷  -- tags named
+    (codes "pump shell --tags 6 a.img --cache 5 --policy seal", shell_of (codes "a.img") sealing_alone 5 6) ∷  -- options before and after the image
+    (codes "pump shell shell", shell_of (codes "shell") no_policy 1024 65536) ∷  -- an image of the subcommand's name
+    [])
 unfolding on_rows
-shell_plain = refl
-
--- a policy named
-shell_sealed : task_of (line (codes "shell" ∷ codes "a.img" ∷ codes "--policy" ∷ codes "seal" ∷ [])) ≡ Some (shell_of (codes "a.img") sealing_alone 1024 65536)
-unfolding on_rows
-shell_sealed = refl
-
--- kept rules named
-shell_cache : task_of (line (codes "shell" ∷ codes "a.img" ∷ codes "--cache" ∷ codes "0" ∷ [])) ≡ Some (shell_of (codes "a.img") no_policy 0 65536)
-unfolding on_rows
-shell_cache = refl
-
--- kept rules behind an equals sign
-shell_cache_with_sign : task_of (line (codes "shell" ∷ codes "a.img" ∷ codes "--cache=5" ∷ [])) ≡ Some (shell_of (codes "a.img") no_policy 5 65536)
-unfolding on_rows
-shell_cache_with_sign = refl
-
--- tags named
-shell_tags : task_of (line (codes "shell" ∷ codes "a.img" ∷ codes "--tags" ∷ codes "6" ∷ [])) ≡ Some (shell_of (codes "a.img") no_policy 1024 6)
-unfolding on_rows
-shell_tags = refl
-
--- options before and after the image
-shell_around : task_of (line (codes "shell" ∷ codes "--tags" ∷ codes "6" ∷ codes "a.img" ∷ codes "--cache" ∷ codes "5" ∷ codes "--policy" ∷ codes "seal" ∷ [])) ≡ Some (shell_of (codes "a.img") sealing_alone 5 6)
-unfolding on_rows
-shell_around = refl
-
--- an image of the subcommand's name
-image_shell : task_of (line (codes "shell" ∷ codes "shell" ∷ [])) ≡ Some (shell_of (codes "shell") no_policy 1024 65536)
-unfolding on_rows
-image_shell = refl
+shells = refl
 
 -- ---- lines that ask for an assembly
 
--- the source and the image
-asm_plain : task_of (line (codes "asm" ∷ codes "a.s" ∷ codes "a.img" ∷ [])) ≡ Some (asm_of (codes "a.s") (codes "a.img"))
+assemblies : Ask (
+    (codes "pump asm a.s a.img", asm_of (codes "a.s") (codes "a.img")) ∷  -- the source and the image
+    (codes "pump asm a.img a.s", asm_of (codes "a.img") (codes "a.s")) ∷  -- the order of the words alone says which is which
+    (codes "pump asm a a", asm_of (codes "a") (codes "a")) ∷  -- one name for both
+    (codes "pump asm asm dis", asm_of (codes "asm") (codes "dis")) ∷  -- names of subcommands
+    (codes "pump asm -- --cache -5", asm_of (codes "--cache") (codes "-5")) ∷  -- no option after two dashes
+    (codes "pump asm a.s -- -a.img", asm_of (codes "a.s") (codes "-a.img")) ∷  -- two dashes between the names
+    (codes "pump asm - a.img", asm_of (codes "-") (codes "a.img")) ∷  -- a lone dash is an ordinary word
+    (codes "pump asm  ", asm_of [] []) ∷  -- empty names
+    [])
 unfolding on_rows
-asm_plain = refl
-
--- the order of the words alone says which is which
-asm_turned : task_of (line (codes "asm" ∷ codes "a.img" ∷ codes "a.s" ∷ [])) ≡ Some (asm_of (codes "a.img") (codes "a.s"))
-unfolding on_rows
-asm_turned = refl
-
--- one name for both
-asm_onto_itself : task_of (line (codes "asm" ∷ codes "a" ∷ codes "a" ∷ [])) ≡ Some (asm_of (codes "a") (codes "a"))
-unfolding on_rows
-asm_onto_itself = refl
-
--- names of subcommands
-asm_named : task_of (line (codes "asm" ∷ codes "asm" ∷ codes "dis" ∷ [])) ≡ Some (asm_of (codes "asm") (codes "dis"))
-unfolding on_rows
-asm_named = refl
-
--- no option after two dashes
-asm_behind_dashes : task_of (line (codes "asm" ∷ codes "--" ∷ codes "--cache" ∷ codes "-5" ∷ [])) ≡ Some (asm_of (codes "--cache") (codes "-5"))
-unfolding on_rows
-asm_behind_dashes = refl
-
--- two dashes between the names
-asm_dashes_between : task_of (line (codes "asm" ∷ codes "a.s" ∷ codes "--" ∷ codes "-a.img" ∷ [])) ≡ Some (asm_of (codes "a.s") (codes "-a.img"))
-unfolding on_rows
-asm_dashes_between = refl
-
--- a lone dash is an ordinary word
-asm_dash : task_of (line (codes "asm" ∷ codes "-" ∷ codes "a.img" ∷ [])) ≡ Some (asm_of (codes "-") (codes "a.img"))
-unfolding on_rows
-asm_dash = refl
-
--- empty names
-asm_empty_names : task_of (line (codes "asm" ∷ [] ∷ [] ∷ [])) ≡ Some (asm_of [] [])
-unfolding on_rows
-asm_empty_names = refl
+assemblies = refl
 
 -- ---- lines that ask for a listing
 
--- the image
-dis_plain : task_of (line (codes "dis" ∷ codes "a.img" ∷ [])) ≡ Some (dis_of (codes "a.img"))
+listings : Ask (
+    (codes "pump dis a.img", dis_of (codes "a.img")) ∷  -- the image
+    (codes "pump dis dis", dis_of (codes "dis")) ∷  -- an image of the subcommand's name
+    (codes "pump dis -- --cache", dis_of (codes "--cache")) ∷  -- no option after two dashes
+    (codes "pump dis -", dis_of (codes "-")) ∷  -- a lone dash is an ordinary word
+    (codes "pump dis ", dis_of []) ∷  -- the empty name
+    [])
 unfolding on_rows
-dis_plain = refl
-
--- an image of the subcommand's name
-image_dis : task_of (line (codes "dis" ∷ codes "dis" ∷ [])) ≡ Some (dis_of (codes "dis"))
-unfolding on_rows
-image_dis = refl
-
--- no option after two dashes
-dis_behind_dashes : task_of (line (codes "dis" ∷ codes "--" ∷ codes "--cache" ∷ [])) ≡ Some (dis_of (codes "--cache"))
-unfolding on_rows
-dis_behind_dashes = refl
-
--- a lone dash is an ordinary word
-dis_dash : task_of (line (codes "dis" ∷ codes "-" ∷ [])) ≡ Some (dis_of (codes "-"))
-unfolding on_rows
-dis_dash = refl
-
--- the empty name
-dis_empty_name : task_of (line (codes "dis" ∷ [] ∷ [])) ≡ Some (dis_of [])
-unfolding on_rows
-dis_empty_name = refl
+listings = refl
 
 -- ---- lines that ask for a workload
 
--- the count alone
-load_plain : task_of (line (codes "load" ∷ codes "25" ∷ [])) ≡ Some (load_of 25 1024 65536)
+workloads : Ask (
+    (codes "pump load 25", load_of 25 1024 65536) ∷  -- the count alone
+    (codes "pump load 1", load_of 1 1024 65536) ∷  -- the fewest blocks
+    (codes "pump load 0000001000", load_of 1000 1024 65536) ∷  -- the most blocks, of ten digits
+    (codes "pump load 2 --cache 0", load_of 2 0 65536) ∷  -- no rule is kept
+    (codes "pump load --tags 6 2 --cache=5", load_of 2 5 6) ∷  -- tags before the count, kept rules behind it
+    [])
 unfolding on_rows
-load_plain = refl
-
--- the fewest blocks
-least_blocks : task_of (line (codes "load" ∷ codes "1" ∷ [])) ≡ Some (load_of 1 1024 65536)
-unfolding on_rows
-least_blocks = refl
-
--- the most blocks, of ten digits
-most_blocks : task_of (line (codes "load" ∷ codes "0000001000" ∷ [])) ≡ Some (load_of 1000 1024 65536)
-unfolding on_rows
-most_blocks = refl
-
--- no rule is kept
-load_cache : task_of (line (codes "load" ∷ codes "2" ∷ codes "--cache" ∷ codes "0" ∷ [])) ≡ Some (load_of 2 0 65536)
-unfolding on_rows
-load_cache = refl
-
--- tags before the count, kept rules behind it
-load_around : task_of (line (codes "load" ∷ codes "--tags" ∷ codes "6" ∷ codes "2" ∷ codes "--cache=5" ∷ [])) ≡ Some (load_of 2 5 6)
-unfolding on_rows
-load_around = refl
+workloads = refl
 
 -- ---- lines in which `clap` names a fault
 
@@ -308,379 +150,121 @@ no_words : faults_of [] ≡ MissingSubcommand ∷ []
 unfolding on_rows
 no_words = refl
 
--- the program's name alone
-name_alone : faults_of (line []) ≡ MissingSubcommand ∷ []
+without_subcommand : Name (MissingSubcommand ∷ []) (
+    codes "pump" ∷  -- the program's name alone
+    [])
 unfolding on_rows
-name_alone = refl
+without_subcommand = refl
 
--- a run of nothing
-run_alone : faults_of (line (codes "run" ∷ [])) ≡ MissingRequiredArgument ∷ []
+without_operand : Name (MissingRequiredArgument ∷ []) (
+    codes "pump run" ∷  -- a run of nothing
+    codes "pump run --policy seal" ∷  -- a run with options and no image
+    codes "pump shell" ∷  -- a shell of nothing
+    codes "pump asm" ∷  -- an assembly of nothing
+    codes "pump asm a.s" ∷  -- an assembly without the image
+    codes "pump asm a.s --" ∷  -- two dashes are no name
+    codes "pump dis" ∷  -- a listing of nothing
+    codes "pump load" ∷  -- a workload of no count
+    [])
 unfolding on_rows
-run_alone = refl
+without_operand = refl
 
--- a run with options and no image
-options_alone : faults_of (line (codes "run" ∷ codes "--policy" ∷ codes "seal" ∷ [])) ≡ MissingRequiredArgument ∷ []
+options_twice : Name (ArgumentConflict ∷ []) (
+    codes "pump run a.img --policy seal --policy seal" ∷  -- an option that is repeated
+    codes "pump run --turns 5 a.img --turns=5" ∷  -- turns named twice
+    codes "pump run a.img --cache 5 --cache 5" ∷  -- kept rules named twice
+    codes "pump run a.img --tags 5 --tags 6" ∷  -- tags named twice
+    codes "pump shell a.img --tags 5 --tags=6" ∷  -- an option of a shell that is repeated
+    codes "pump load 1 --cache 5 --cache=5" ∷  -- an option of a workload that is repeated
+    [])
 unfolding on_rows
-options_alone = refl
+options_twice = refl
 
--- two images
-two_images : faults_of (line (codes "run" ∷ codes "a.img" ∷ codes "b.img" ∷ [])) ≡ UnknownArgument ∷ []
+without_value : Name (InvalidValue ∷ []) (
+    codes "pump run a.img --policy" ∷  -- an option without its value
+    codes "pump run a.img --policy --turns 5" ∷  -- an option in place of a value
+    [])
 unfolding on_rows
-two_images = refl
+without_value = refl
 
--- an option that is repeated
-policy_twice : faults_of (line (codes "run" ∷ codes "a.img" ∷ codes "--policy" ∷ codes "seal" ∷ codes "--policy" ∷ codes "seal" ∷ [])) ≡ ArgumentConflict ∷ []
+unknown_arguments : Name (UnknownArgument ∷ []) (
+    codes "pump run a.img b.img" ∷  -- two images
+    codes "pump run a.img --rules 5" ∷  -- an option of no meaning
+    codes "pump run a.img -p" ∷  -- a short option
+    codes "pump run a.img --pol seal" ∷  -- an option that is shortened
+    codes "pump run a.img --turns -5" ∷  -- a word with a dash for a value
+    codes "pump run a.img --cache -1" ∷  -- the same for kept rules
+    codes "pump --policy seal run a.img" ∷  -- an option before the subcommand
+    codes "pump --help" ∷  -- a request for help
+    codes "pump run a.img --help" ∷  -- a request for the help of `run`
+    codes "pump --version" ∷  -- a request for the version
+    codes "pump shell a.img b.img" ∷  -- a shell of two images
+    codes "pump shell a.img --turns 5" ∷  -- a shell has no limit of turns
+    codes "pump asm a.s a.img b.img" ∷  -- an assembly of three names
+    codes "pump asm a.s a.img --policy seal" ∷  -- an assembly starts no image: it has no policy
+    codes "pump asm --cache 5 a.s a.img" ∷  -- the same for kept rules, before the names
+    codes "pump asm a.s --turns=5 a.img" ∷  -- and for turns, between them
+    codes "pump asm --source a.s --image a.img" ∷  -- the operands are no options
+    codes "pump asm a.s a.img --help" ∷  -- a request for the help of `asm`
+    codes "pump dis a.img b.img" ∷  -- a listing of two images
+    codes "pump dis a.img --policy seal" ∷  -- a listing starts no image: it has no policy
+    codes "pump dis a.img --cache 5" ∷  -- the same for kept rules
+    codes "pump dis --tags 5 a.img" ∷  -- for tags
+    codes "pump dis a.img --turns 5" ∷  -- and for turns
+    codes "pump dis a.img -p" ∷  -- a short option for a listing
+    codes "pump dis --image=a.img" ∷  -- an option in place of the image
+    codes "pump load 1 2" ∷  -- two counts
+    codes "pump load -1" ∷  -- a count with a minus sign
+    codes "pump load 1 --policy seal" ∷  -- a workload runs under every policy
+    codes "pump load 1 --turns 5" ∷  -- and its turns follow from its count
+    [])
 unfolding on_rows
-policy_twice = refl
+unknown_arguments = refl
 
--- the other one
-turns_twice : faults_of (line (codes "run" ∷ codes "--turns" ∷ codes "5" ∷ codes "a.img" ∷ codes "--turns=5" ∷ [])) ≡ ArgumentConflict ∷ []
+unknown_subcommands : Name (UnknownArgument ∷ InvalidSubcommand ∷ []) (
+    codes "pump walk a.img" ∷  -- a subcommand of no meaning
+    codes "pump help" ∷  -- help as a subcommand
+    codes "pump a.img" ∷  -- an image without a subcommand
+    codes "pump Run a.img" ∷  -- a subcommand in upper case
+    codes "pump assemble a.s a.img" ∷  -- a longer name of the subcommand
+    codes "pump disassemble a.img" ∷  -- and of another
+    [])
 unfolding on_rows
-turns_twice = refl
-
--- kept rules named twice
-cache_twice : faults_of (line (codes "run" ∷ codes "a.img" ∷ codes "--cache" ∷ codes "5" ∷ codes "--cache" ∷ codes "5" ∷ [])) ≡ ArgumentConflict ∷ []
-unfolding on_rows
-cache_twice = refl
-
--- tags named twice
-tags_twice : faults_of (line (codes "run" ∷ codes "a.img" ∷ codes "--tags" ∷ codes "5" ∷ codes "--tags" ∷ codes "6" ∷ [])) ≡ ArgumentConflict ∷ []
-unfolding on_rows
-tags_twice = refl
-
--- an option of no meaning
-unknown_option : faults_of (line (codes "run" ∷ codes "a.img" ∷ codes "--rules" ∷ codes "5" ∷ [])) ≡ UnknownArgument ∷ []
-unfolding on_rows
-unknown_option = refl
-
--- a short option
-short_option : faults_of (line (codes "run" ∷ codes "a.img" ∷ codes "-p" ∷ [])) ≡ UnknownArgument ∷ []
-unfolding on_rows
-short_option = refl
-
--- an option that is shortened
-shortened_option : faults_of (line (codes "run" ∷ codes "a.img" ∷ codes "--pol" ∷ codes "seal" ∷ [])) ≡ UnknownArgument ∷ []
-unfolding on_rows
-shortened_option = refl
-
--- an option without its value
-no_value : faults_of (line (codes "run" ∷ codes "a.img" ∷ codes "--policy" ∷ [])) ≡ InvalidValue ∷ []
-unfolding on_rows
-no_value = refl
-
--- an option in place of a value
-option_for_value : faults_of (line (codes "run" ∷ codes "a.img" ∷ codes "--policy" ∷ codes "--turns" ∷ codes "5" ∷ [])) ≡ InvalidValue ∷ []
-unfolding on_rows
-option_for_value = refl
-
--- a word with a dash for a value
-negative_turns : faults_of (line (codes "run" ∷ codes "a.img" ∷ codes "--turns" ∷ codes "-5" ∷ [])) ≡ UnknownArgument ∷ []
-unfolding on_rows
-negative_turns = refl
-
--- the same for kept rules
-negative_cache : faults_of (line (codes "run" ∷ codes "a.img" ∷ codes "--cache" ∷ codes "-1" ∷ [])) ≡ UnknownArgument ∷ []
-unfolding on_rows
-negative_cache = refl
-
--- an option before the subcommand
-option_before_run : faults_of (line (codes "--policy" ∷ codes "seal" ∷ codes "run" ∷ codes "a.img" ∷ [])) ≡ UnknownArgument ∷ []
-unfolding on_rows
-option_before_run = refl
-
--- a request for help
-help_flag : faults_of (line (codes "--help" ∷ [])) ≡ UnknownArgument ∷ []
-unfolding on_rows
-help_flag = refl
-
--- a request for the help of `run`
-help_of_run : faults_of (line (codes "run" ∷ codes "a.img" ∷ codes "--help" ∷ [])) ≡ UnknownArgument ∷ []
-unfolding on_rows
-help_of_run = refl
-
--- a request for the version
-version_flag : faults_of (line (codes "--version" ∷ [])) ≡ UnknownArgument ∷ []
-unfolding on_rows
-version_flag = refl
-
--- a subcommand of no meaning
-unknown_subcommand : faults_of (line (codes "walk" ∷ codes "a.img" ∷ [])) ≡ UnknownArgument ∷ InvalidSubcommand ∷ []
-unfolding on_rows
-unknown_subcommand = refl
-
--- help as a subcommand
-help_subcommand : faults_of (line (codes "help" ∷ [])) ≡ UnknownArgument ∷ InvalidSubcommand ∷ []
-unfolding on_rows
-help_subcommand = refl
-
--- an image without a subcommand
-image_alone : faults_of (line (codes "a.img" ∷ [])) ≡ UnknownArgument ∷ InvalidSubcommand ∷ []
-unfolding on_rows
-image_alone = refl
-
--- a subcommand in upper case
-upper_case : faults_of (line (codes "Run" ∷ codes "a.img" ∷ [])) ≡ UnknownArgument ∷ InvalidSubcommand ∷ []
-unfolding on_rows
-upper_case = refl
-
--- a shell of nothing
-shell_alone : faults_of (line (codes "shell" ∷ [])) ≡ MissingRequiredArgument ∷ []
-unfolding on_rows
-shell_alone = refl
-
--- a shell of two images
-shell_two_images : faults_of (line (codes "shell" ∷ codes "a.img" ∷ codes "b.img" ∷ [])) ≡ UnknownArgument ∷ []
-unfolding on_rows
-shell_two_images = refl
-
--- a shell has no limit of turns
-shell_turns : faults_of (line (codes "shell" ∷ codes "a.img" ∷ codes "--turns" ∷ codes "5" ∷ [])) ≡ UnknownArgument ∷ []
-unfolding on_rows
-shell_turns = refl
-
--- an option of a shell that is repeated
-shell_tags_twice : faults_of (line (codes "shell" ∷ codes "a.img" ∷ codes "--tags" ∷ codes "5" ∷ codes "--tags=6" ∷ [])) ≡ ArgumentConflict ∷ []
-unfolding on_rows
-shell_tags_twice = refl
-
--- an assembly of nothing
-asm_alone : faults_of (line (codes "asm" ∷ [])) ≡ MissingRequiredArgument ∷ []
-unfolding on_rows
-asm_alone = refl
-
--- an assembly without the image
-asm_no_image : faults_of (line (codes "asm" ∷ codes "a.s" ∷ [])) ≡ MissingRequiredArgument ∷ []
-unfolding on_rows
-asm_no_image = refl
-
--- two dashes are no name
-asm_dashes_alone : faults_of (line (codes "asm" ∷ codes "a.s" ∷ codes "--" ∷ [])) ≡ MissingRequiredArgument ∷ []
-unfolding on_rows
-asm_dashes_alone = refl
-
--- an assembly of three names
-asm_three_names : faults_of (line (codes "asm" ∷ codes "a.s" ∷ codes "a.img" ∷ codes "b.img" ∷ [])) ≡ UnknownArgument ∷ []
-unfolding on_rows
-asm_three_names = refl
-
--- an assembly starts no image: it has no policy
-asm_policy : faults_of (line (codes "asm" ∷ codes "a.s" ∷ codes "a.img" ∷ codes "--policy" ∷ codes "seal" ∷ [])) ≡ UnknownArgument ∷ []
-unfolding on_rows
-asm_policy = refl
-
--- the same for kept rules, before the names
-asm_cache : faults_of (line (codes "asm" ∷ codes "--cache" ∷ codes "5" ∷ codes "a.s" ∷ codes "a.img" ∷ [])) ≡ UnknownArgument ∷ []
-unfolding on_rows
-asm_cache = refl
-
--- and for turns, between them
-asm_turns : faults_of (line (codes "asm" ∷ codes "a.s" ∷ codes "--turns=5" ∷ codes "a.img" ∷ [])) ≡ UnknownArgument ∷ []
-unfolding on_rows
-asm_turns = refl
-
--- the operands are no options
-asm_options : faults_of (line (codes "asm" ∷ codes "--source" ∷ codes "a.s" ∷ codes "--image" ∷ codes "a.img" ∷ [])) ≡ UnknownArgument ∷ []
-unfolding on_rows
-asm_options = refl
-
--- a request for the help of `asm`
-help_of_asm : faults_of (line (codes "asm" ∷ codes "a.s" ∷ codes "a.img" ∷ codes "--help" ∷ [])) ≡ UnknownArgument ∷ []
-unfolding on_rows
-help_of_asm = refl
-
--- a longer name of the subcommand
-asm_longer : faults_of (line (codes "assemble" ∷ codes "a.s" ∷ codes "a.img" ∷ [])) ≡ UnknownArgument ∷ InvalidSubcommand ∷ []
-unfolding on_rows
-asm_longer = refl
-
--- a listing of nothing
-dis_alone : faults_of (line (codes "dis" ∷ [])) ≡ MissingRequiredArgument ∷ []
-unfolding on_rows
-dis_alone = refl
-
--- a listing of two images
-dis_two_images : faults_of (line (codes "dis" ∷ codes "a.img" ∷ codes "b.img" ∷ [])) ≡ UnknownArgument ∷ []
-unfolding on_rows
-dis_two_images = refl
-
--- a listing starts no image: it has no policy
-dis_policy : faults_of (line (codes "dis" ∷ codes "a.img" ∷ codes "--policy" ∷ codes "seal" ∷ [])) ≡ UnknownArgument ∷ []
-unfolding on_rows
-dis_policy = refl
-
--- the same for kept rules
-dis_cache : faults_of (line (codes "dis" ∷ codes "a.img" ∷ codes "--cache" ∷ codes "5" ∷ [])) ≡ UnknownArgument ∷ []
-unfolding on_rows
-dis_cache = refl
-
--- for tags
-dis_tags : faults_of (line (codes "dis" ∷ codes "--tags" ∷ codes "5" ∷ codes "a.img" ∷ [])) ≡ UnknownArgument ∷ []
-unfolding on_rows
-dis_tags = refl
-
--- and for turns
-dis_turns : faults_of (line (codes "dis" ∷ codes "a.img" ∷ codes "--turns" ∷ codes "5" ∷ [])) ≡ UnknownArgument ∷ []
-unfolding on_rows
-dis_turns = refl
-
--- a short option for a listing
-dis_short_option : faults_of (line (codes "dis" ∷ codes "a.img" ∷ codes "-p" ∷ [])) ≡ UnknownArgument ∷ []
-unfolding on_rows
-dis_short_option = refl
-
--- an option in place of the image
-dis_option_alone : faults_of (line (codes "dis" ∷ codes "--image=a.img" ∷ [])) ≡ UnknownArgument ∷ []
-unfolding on_rows
-dis_option_alone = refl
-
--- a longer name of the subcommand
-dis_longer : faults_of (line (codes "disassemble" ∷ codes "a.img" ∷ [])) ≡ UnknownArgument ∷ InvalidSubcommand ∷ []
-unfolding on_rows
-dis_longer = refl
-
--- a workload of no count
-load_alone : faults_of (line (codes "load" ∷ [])) ≡ MissingRequiredArgument ∷ []
-unfolding on_rows
-load_alone = refl
-
--- two counts
-load_two_counts : faults_of (line (codes "load" ∷ codes "1" ∷ codes "2" ∷ [])) ≡ UnknownArgument ∷ []
-unfolding on_rows
-load_two_counts = refl
-
--- a count with a minus sign
-load_negative : faults_of (line (codes "load" ∷ codes "-1" ∷ [])) ≡ UnknownArgument ∷ []
-unfolding on_rows
-load_negative = refl
-
--- a workload runs under every policy
-load_policy : faults_of (line (codes "load" ∷ codes "1" ∷ codes "--policy" ∷ codes "seal" ∷ [])) ≡ UnknownArgument ∷ []
-unfolding on_rows
-load_policy = refl
-
--- and its turns follow from its count
-load_turns : faults_of (line (codes "load" ∷ codes "1" ∷ codes "--turns" ∷ codes "5" ∷ [])) ≡ UnknownArgument ∷ []
-unfolding on_rows
-load_turns = refl
-
--- an option of a workload that is repeated
-load_cache_twice : faults_of (line (codes "load" ∷ codes "1" ∷ codes "--cache" ∷ codes "5" ∷ codes "--cache=5" ∷ [])) ≡ ArgumentConflict ∷ []
-unfolding on_rows
-load_cache_twice = refl
+unknown_subcommands = refl
 
 -- ---- lines without a fault, of which a value is refused
 
--- a policy named twice
-named_twice : (faults_of (line (codes "run" ∷ codes "a.img" ∷ codes "--policy" ∷ codes "seal,seal" ∷ [])) ≡ []) × (task_of (line (codes "run" ∷ codes "a.img" ∷ codes "--policy" ∷ codes "seal,seal" ∷ [])) ≡ None)
+bad_values : AskNothing (
+    codes "pump run a.img --policy seal,seal" ∷  -- a policy named twice
+    codes "pump run a.img --policy Seal" ∷  -- a list in upper case
+    codes "pump run a.img --policy=" ∷  -- an empty list
+    codes "pump run a.img --policy none,comp" ∷  -- no policy, and one
+    codes "pump run a.img --turns 0" ∷  -- no turn at all
+    codes "pump run a.img --turns 1000000001" ∷  -- one turn more than the most
+    codes "pump run a.img --cache 65537" ∷  -- one kept rule more than the most
+    codes "pump run a.img --tags 0" ∷  -- no tag at all
+    codes "pump run a.img --tags 1048577" ∷  -- one tag more than the most
+    codes "pump run a.img --turns 00000000007" ∷  -- eleven digits
+    codes "pump run a.img --turns +5" ∷  -- a sign
+    codes "pump run a.img --turns=-5" ∷  -- a minus sign behind an equals sign
+    codes "pump run a.img --turns 0x5" ∷  -- a hexadecimal number
+    codes "pump run a.img --turns " ∷  -- no digit
+    codes "pump shell a.img --policy seal,seal" ∷  -- a policy named twice for a shell
+    codes "pump shell a.img --tags 0" ∷  -- a shell with no tag at all
+    codes "pump shell a.img --cache 65537" ∷  -- one kept rule more than the most for a shell
+    codes "pump load 0" ∷  -- a workload of no blocks
+    codes "pump load 1001" ∷  -- one block more than the most
+    codes "pump load 00000000001" ∷  -- a count of eleven digits
+    codes "pump load two" ∷  -- a count that is no number
+    codes "pump load 1 --tags 0" ∷  -- a workload with no tag at all
+    [])
 unfolding on_rows
-named_twice = (refl, refl)
+bad_values = (refl, refl)
 
--- a list in upper case
-upper_case_list : (faults_of (line (codes "run" ∷ codes "a.img" ∷ codes "--policy" ∷ codes "Seal" ∷ [])) ≡ []) × (task_of (line (codes "run" ∷ codes "a.img" ∷ codes "--policy" ∷ codes "Seal" ∷ [])) ≡ None)
-unfolding on_rows
-upper_case_list = (refl, refl)
+-- a word with a blank after its digits
+abbrev blank_words : List Text
+blank_words = codes "pump" ∷ codes "run" ∷ codes "a.img" ∷ codes "--turns" ∷ codes "5 " ∷ []
 
--- an empty list
-empty_list : (faults_of (line (codes "run" ∷ codes "a.img" ∷ codes "--policy=" ∷ [])) ≡ []) × (task_of (line (codes "run" ∷ codes "a.img" ∷ codes "--policy=" ∷ [])) ≡ None)
-unfolding on_rows
-empty_list = (refl, refl)
-
--- no policy, and one
-none_and_one : (faults_of (line (codes "run" ∷ codes "a.img" ∷ codes "--policy" ∷ codes "none,comp" ∷ [])) ≡ []) × (task_of (line (codes "run" ∷ codes "a.img" ∷ codes "--policy" ∷ codes "none,comp" ∷ [])) ≡ None)
-unfolding on_rows
-none_and_one = (refl, refl)
-
--- no turn at all
-no_turns : (faults_of (line (codes "run" ∷ codes "a.img" ∷ codes "--turns" ∷ codes "0" ∷ [])) ≡ []) × (task_of (line (codes "run" ∷ codes "a.img" ∷ codes "--turns" ∷ codes "0" ∷ [])) ≡ None)
-unfolding on_rows
-no_turns = (refl, refl)
-
--- one turn more than the most
-too_many_turns : (faults_of (line (codes "run" ∷ codes "a.img" ∷ codes "--turns" ∷ codes "1000000001" ∷ [])) ≡ []) × (task_of (line (codes "run" ∷ codes "a.img" ∷ codes "--turns" ∷ codes "1000000001" ∷ [])) ≡ None)
-unfolding on_rows
-too_many_turns = (refl, refl)
-
--- one kept rule more than the most
-too_large_cache : (faults_of (line (codes "run" ∷ codes "a.img" ∷ codes "--cache" ∷ codes "65537" ∷ [])) ≡ []) × (task_of (line (codes "run" ∷ codes "a.img" ∷ codes "--cache" ∷ codes "65537" ∷ [])) ≡ None)
-unfolding on_rows
-too_large_cache = (refl, refl)
-
--- no tag at all
-no_tags : (faults_of (line (codes "run" ∷ codes "a.img" ∷ codes "--tags" ∷ codes "0" ∷ [])) ≡ []) × (task_of (line (codes "run" ∷ codes "a.img" ∷ codes "--tags" ∷ codes "0" ∷ [])) ≡ None)
-unfolding on_rows
-no_tags = (refl, refl)
-
--- one tag more than the most
-too_many_tags : (faults_of (line (codes "run" ∷ codes "a.img" ∷ codes "--tags" ∷ codes "1048577" ∷ [])) ≡ []) × (task_of (line (codes "run" ∷ codes "a.img" ∷ codes "--tags" ∷ codes "1048577" ∷ [])) ≡ None)
-unfolding on_rows
-too_many_tags = (refl, refl)
-
--- eleven digits
-eleven_digits : (faults_of (line (codes "run" ∷ codes "a.img" ∷ codes "--turns" ∷ codes "00000000007" ∷ [])) ≡ []) × (task_of (line (codes "run" ∷ codes "a.img" ∷ codes "--turns" ∷ codes "00000000007" ∷ [])) ≡ None)
-unfolding on_rows
-eleven_digits = (refl, refl)
-
--- a sign
-sign : (faults_of (line (codes "run" ∷ codes "a.img" ∷ codes "--turns" ∷ codes "+5" ∷ [])) ≡ []) × (task_of (line (codes "run" ∷ codes "a.img" ∷ codes "--turns" ∷ codes "+5" ∷ [])) ≡ None)
-unfolding on_rows
-sign = (refl, refl)
-
--- a minus sign behind an equals sign
-negative : (faults_of (line (codes "run" ∷ codes "a.img" ∷ codes "--turns=-5" ∷ [])) ≡ []) × (task_of (line (codes "run" ∷ codes "a.img" ∷ codes "--turns=-5" ∷ [])) ≡ None)
-unfolding on_rows
-negative = (refl, refl)
-
--- a hexadecimal number
-hexadecimal : (faults_of (line (codes "run" ∷ codes "a.img" ∷ codes "--turns" ∷ codes "0x5" ∷ [])) ≡ []) × (task_of (line (codes "run" ∷ codes "a.img" ∷ codes "--turns" ∷ codes "0x5" ∷ [])) ≡ None)
-unfolding on_rows
-hexadecimal = (refl, refl)
-
--- no digit
-empty_number : (faults_of (line (codes "run" ∷ codes "a.img" ∷ codes "--turns" ∷ [] ∷ [])) ≡ []) × (task_of (line (codes "run" ∷ codes "a.img" ∷ codes "--turns" ∷ [] ∷ [])) ≡ None)
-unfolding on_rows
-empty_number = (refl, refl)
-
--- a blank after the digits
-blank : (faults_of (line (codes "run" ∷ codes "a.img" ∷ codes "--turns" ∷ codes "5 " ∷ [])) ≡ []) × (task_of (line (codes "run" ∷ codes "a.img" ∷ codes "--turns" ∷ codes "5 " ∷ [])) ≡ None)
+blank : (faults_of blank_words ≡ []) × (task_of blank_words ≡ None)
 unfolding on_rows
 blank = (refl, refl)
-
--- a policy named twice for a shell
-shell_named_twice : (faults_of (line (codes "shell" ∷ codes "a.img" ∷ codes "--policy" ∷ codes "seal,seal" ∷ [])) ≡ []) × (task_of (line (codes "shell" ∷ codes "a.img" ∷ codes "--policy" ∷ codes "seal,seal" ∷ [])) ≡ None)
-unfolding on_rows
-shell_named_twice = (refl, refl)
-
--- a shell with no tag at all
-shell_no_tags : (faults_of (line (codes "shell" ∷ codes "a.img" ∷ codes "--tags" ∷ codes "0" ∷ [])) ≡ []) × (task_of (line (codes "shell" ∷ codes "a.img" ∷ codes "--tags" ∷ codes "0" ∷ [])) ≡ None)
-unfolding on_rows
-shell_no_tags = (refl, refl)
-
--- one kept rule more than the most for a shell
-shell_too_large_cache : (faults_of (line (codes "shell" ∷ codes "a.img" ∷ codes "--cache" ∷ codes "65537" ∷ [])) ≡ []) × (task_of (line (codes "shell" ∷ codes "a.img" ∷ codes "--cache" ∷ codes "65537" ∷ [])) ≡ None)
-unfolding on_rows
-shell_too_large_cache = (refl, refl)
-
--- a workload of no blocks
-no_blocks : (faults_of (line (codes "load" ∷ codes "0" ∷ [])) ≡ []) × (task_of (line (codes "load" ∷ codes "0" ∷ [])) ≡ None)
-unfolding on_rows
-no_blocks = (refl, refl)
-
--- one block more than the most
-too_many_blocks : (faults_of (line (codes "load" ∷ codes "1001" ∷ [])) ≡ []) × (task_of (line (codes "load" ∷ codes "1001" ∷ [])) ≡ None)
-unfolding on_rows
-too_many_blocks = (refl, refl)
-
--- a count of eleven digits
-count_of_eleven_digits : (faults_of (line (codes "load" ∷ codes "00000000001" ∷ [])) ≡ []) × (task_of (line (codes "load" ∷ codes "00000000001" ∷ [])) ≡ None)
-unfolding on_rows
-count_of_eleven_digits = (refl, refl)
-
--- a count that is no number
-count_by_name : (faults_of (line (codes "load" ∷ codes "two" ∷ [])) ≡ []) × (task_of (line (codes "load" ∷ codes "two" ∷ [])) ≡ None)
-unfolding on_rows
-count_by_name = (refl, refl)
-
--- a workload with no tag at all
-load_no_tags : (faults_of (line (codes "load" ∷ codes "1" ∷ codes "--tags" ∷ codes "0" ∷ [])) ≡ []) × (task_of (line (codes "load" ∷ codes "1" ∷ codes "--tags" ∷ codes "0" ∷ [])) ≡ None)
-unfolding on_rows
-load_no_tags = (refl, refl)

@@ -1,2 +1,3 @@
+pub mod ChosenLoads
 pub mod Loads
 pub mod PlainLoads

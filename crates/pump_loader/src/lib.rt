@@ -1,11 +1,13 @@
 //! Starts of an image under the chosen policies, that can be made again and again: on the engine that asks them at every turn,
-//! and on the one that keeps rules.
+//! on the one that keeps rules, and on whichever of the two suits how many rules may be kept.
 #![tactic(auto)]
 
+mod chosen;
 mod law;
 mod load;
 mod plain_load;
 
+pub use chosen::{ChosenLoad, chosen_load};
 pub use law::bare_law;
 pub use load::PumpLoad;
 pub use plain_load::{BareLoad, PlainLoad};

@@ -1,2 +1,2 @@
-pub mod StartLemmas
+mod StartLemmas
 pub mod ToldLemmas

@@ -1,22 +1,34 @@
--- The start that a setup asks for, by whether rules are kept.
-use Rattle.std.proofs.Common.{◌≡◌, ℕ, ◌≤◌, ◌==◌, Bool, if◌then◌else◌, ap}
+-- What a session comes to from the start that is chosen is what it comes to as its setup asks.
+use Rattle.std.proofs.Common.{◌≡◌, ℕ, true, List, Option, Result, IfOk, IfSome, sym, subst}
 use Rattle.image_format.specs.Picture.{Picture}
-use Rattle.policy_choice.specs.All.{AllState, AllTag}
+use Rattle.policy_choice.specs.All.{AllState, AllTag, all, all_eq}
+use Rattle.engine_trait.specs.Accounts.{is_over}
 use Rattle.engine_trait.specs.Standing.{Standing}
-use Rattle.engine_trait.proofs.AccountLemmas.{keeps_some}
-use Rattle.pump_loader.specs.PlainLoads.{start_of}
-use Rattle.pump_loader.specs.Loads.{cached_start_of}
-use Rattle.pump_shell.specs.Told.{start_of_setup}
+use Rattle.shell_turns.specs.Cuts.{PutsOut}
+use Rattle.pump_loader.specs.ChosenLoads.{chosen_start_of}
+use Rattle.pump_shell.specs.Told.{start_of_setup, told_from, told_of}
+use Rattle.pump_shell.specs.declared.ends.SessionCut.{SessionCut}
+use Rattle.pump_shell.specs.declared.ends.SessionEnd.{SessionEnd}
 use Rattle.pump_shell.specs.declared.setup.Setup.{Setup}
 
-module _ (setup : Setup) (g : Picture) where
-  start_if : Bool → Standing AllState AllTag
-  start_if keeps_none = if keeps_none then start_of setup.basis g else cached_start_of setup.basis setup.cache setup.tags g
+module _ (setup : Setup) (g : Picture) (start : Standing AllState AllTag) (chosen : start ≡ chosen_start_of setup.basis setup.cache setup.tags g) where
+  starts : start ≡ start_of_setup setup g
+  unfolding start_of_setup
+  starts = chosen
 
-  pub asked_start : setup.cache ≡ 0 → start_of_setup setup g ≡ start_of setup.basis g
-  unfolding start_of_setup start_if
-  asked_start none = ap start_if (ap (λ (rules : ℕ). rules == 0) none)
+  module _ (limit : ℕ) (left : Option (List ℕ)) (result : Result SessionEnd SessionCut) where
+    pub done_as_set : IfOk result (λ end. IfSome left (λ bytes. end ≡ (told_from all_eq all limit start bytes).end))
+        → IfOk result (λ end. IfSome left (λ bytes. end ≡ (told_of setup g limit bytes).end))
+    done_as_set done =
+        subst (λ (from : Standing AllState AllTag). IfOk result (λ (end : SessionEnd). IfSome left (λ (bytes : List ℕ). end ≡ (told_from all_eq all limit from bytes).end))) starts done
 
-  pub kept_start : 1 ≤ setup.cache → start_of_setup setup g ≡ cached_start_of setup.basis setup.cache setup.tags g
-  unfolding start_of_setup start_if
-  kept_start some = ap start_if (keeps_some setup.cache some)
+    pub puts_as_set : (old new : Option (List ℕ)) → IfSome left (λ bytes. PutsOut old new (told_from all_eq all limit start bytes).pieces result)
+        → IfSome left (λ bytes. PutsOut old new (told_of setup g limit bytes).pieces result)
+    puts_as_set old new puts =
+        subst (λ (from : Standing AllState AllTag). IfSome left (λ (bytes : List ℕ). PutsOut old new (told_from all_eq all limit from bytes).pieces result)) starts puts
+
+  pub over_as_set : is_over start.account ≡ true → is_over (start_of_setup setup g).account ≡ true
+  over_as_set over = subst (λ (from : Standing AllState AllTag). is_over from.account ≡ true) starts over
+
+  pub over_as_chosen : is_over (start_of_setup setup g).account ≡ true → is_over start.account ≡ true
+  over_as_chosen over = subst (λ (from : Standing AllState AllTag). is_over from.account ≡ true) (sym starts) over

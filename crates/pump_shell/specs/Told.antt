@@ -1,13 +1,12 @@
 -- What a session over an image and an input puts, and how it ends.
-use Rattle.std.specs.Prelude.{ℕ, ◌==◌, Bool, List, [], if◌then◌else◌}
+use Rattle.std.specs.Prelude.{ℕ, Bool, List, [], if◌then◌else◌}
 use Rattle.image_format.specs.Picture.{Picture}
 use Rattle.host_io.specs.Pieces.{Piece}
 use Rattle.policy_trait.specs.Model.{PolicyModel}
 use Rattle.policy_choice.specs.All.{AllState, AllTag, all, all_eq}
 use Rattle.engine_trait.specs.Accounts.{is_over}
 use Rattle.engine_trait.specs.Standing.{Standing}
-use Rattle.pump_loader.specs.PlainLoads.{start_of}
-use Rattle.pump_loader.specs.Loads.{cached_start_of}
+use Rattle.pump_loader.specs.ChosenLoads.{chosen_start_of}
 use Rattle.shell_run.specs.Session.{fresh}
 use Rattle.shell_script.specs.Shell.{Shell, shell_of}
 use Rattle.pump_shell.specs.Ends.{end_of}
@@ -33,10 +32,9 @@ unfoldable pub told_from : {S T : Type 0} → (T → T → Bool) → PolicyModel
 told_from eq m limit start input =
     if is_over start.account then out_at_start else told_by (shell_of eq m limit (fresh start) input)
 
--- the image's start under the chosen policies; with a cache of 0 no rules are kept, and no tag has a word
+-- the image's start under the chosen policies, with so many rules kept
 unfoldable pub start_of_setup : Setup → Picture → Standing AllState AllTag
-start_of_setup setup g =
-    if setup.cache == 0 then start_of setup.basis g else cached_start_of setup.basis setup.cache setup.tags g
+start_of_setup setup g = chosen_start_of setup.basis setup.cache setup.tags g
 
 -- a session over this image and input, set up so; at most `limit` bytes of the input count
 abbrev pub told_of : Setup → Picture → ℕ → List ℕ → Told

@@ -12,7 +12,7 @@ use crate::setup::Setup;
 use engine_trait::{LoadEnd, Loader};
 use host_io::{Sink, Source};
 use image_format::Image;
-use pump_loader::{PlainLoad, PumpLoad};
+use pump_loader::{ChosenLoad, chosen_load};
 use shell_run::Session;
 use shell_script::obey_input;
 use std::alloc::Global;
@@ -54,67 +54,6 @@ fn run_from<L: Loader, S: Source, K: Sink>(
     }
 }
 
-/// A session on the engine that asks its policies at every turn.
-fn session_asked<S: Source, K: Sink>(
-    alloc: Global,
-    setup: Setup,
-    image: &Image,
-    input: &mut S,
-    limit: usize,
-    out: &mut K,
-) -> Result<SessionEnd, SessionCut>
-    requires { setup.cache ≡ 0 }
-    ensures done { IfOk result (λ end. IfSome (S.left input.old) (λ bytes.
-        end ≡ (told_of setup image.now limit bytes).end)) }
-    ensures puts { IfSome (S.left input.old) (λ bytes. PutsOut (K.taken out.old) (K.taken out.new)
-        (told_of setup image.now limit bytes).pieces result) }
-    ensures long { result ≡ Ok SessionEnd.TooLong
-        → IfSome (S.left input.old) (λ bytes. limit < length bytes) }
-    ensures out_of_tags { result ≡ Ok SessionEnd.TagsOut
-        → is_over (start_of_setup setup image.now).account ≡ true }
-    ensures over { is_over (start_of_setup setup image.now).account ≡ true
-        → NoSession input.old input.new (K.taken out.old) (K.taken out.new) result }
-    ensures closed { result ≡ Ok SessionEnd.InputEnd → IsTrue (S.closed input.new) }
-    ensures moved { LosesPrefix (S.left input.old) (S.left input.new) (limit + 4096) }
-    ensures cause { SessionCause
-        (record { input = S.faults input.old; out = K.faults out.old })
-        (record { input = S.faults input.new; out = K.faults out.new }) result }
-{
-    let loader = PlainLoad::new(alloc, image, setup.basis);
-    run_from(alloc, loader, input, limit, out)
-}
-
-/// A session on the engine that keeps rules.
-fn session_kept<S: Source, K: Sink>(
-    alloc: Global,
-    setup: Setup,
-    image: &Image,
-    input: &mut S,
-    limit: usize,
-    out: &mut K,
-) -> Result<SessionEnd, SessionCut>
-    requires rules { 1 ≤ setup.cache }
-    requires tags { 1 ≤ setup.tags }
-    ensures done { IfOk result (λ end. IfSome (S.left input.old) (λ bytes.
-        end ≡ (told_of setup image.now limit bytes).end)) }
-    ensures puts { IfSome (S.left input.old) (λ bytes. PutsOut (K.taken out.old) (K.taken out.new)
-        (told_of setup image.now limit bytes).pieces result) }
-    ensures long { result ≡ Ok SessionEnd.TooLong
-        → IfSome (S.left input.old) (λ bytes. limit < length bytes) }
-    ensures out_of_tags { result ≡ Ok SessionEnd.TagsOut
-        → is_over (start_of_setup setup image.now).account ≡ true }
-    ensures over { is_over (start_of_setup setup image.now).account ≡ true
-        → NoSession input.old input.new (K.taken out.old) (K.taken out.new) result }
-    ensures closed { result ≡ Ok SessionEnd.InputEnd → IsTrue (S.closed input.new) }
-    ensures moved { LosesPrefix (S.left input.old) (S.left input.new) (limit + 4096) }
-    ensures cause { SessionCause
-        (record { input = S.faults input.old; out = K.faults out.old })
-        (record { input = S.faults input.new; out = K.faults out.new }) result }
-{
-    let loader = PumpLoad::new(alloc, image, setup.basis, setup.cache, setup.tags);
-    run_from(alloc, loader, input, limit, out)
-}
-
 /// Starts the image as the setup says, and executes the input's lines, each as its newline comes, up to `quit` or to the end of the
 /// input, which ends a last line that was begun. Of an input of more than `limit` bytes those lines are executed that end within
 /// them. What is replied is put on `out` line by line. Where the start needs more tag numbers than there may be, the input is left
@@ -150,8 +89,8 @@ pub fn run_session<S: Source, K: Sink>(
         (record { input = S.faults input.old; out = K.faults out.old })
         (record { input = S.faults input.new; out = K.faults out.new }) result }
 {
-    if setup.cache == 0 {
-        return session_asked(alloc, setup, image, input, limit, out);
+    match chosen_load(alloc, image, setup.basis, setup.cache, setup.tags) {
+        ChosenLoad::Asked(loader) => run_from(alloc, loader, input, limit, out),
+        ChosenLoad::Kept(loader) => run_from(alloc, loader, input, limit, out),
     }
-    session_kept(alloc, setup, image, input, limit, out)
 }

@@ -57,8 +57,7 @@ pub fn next_turn<E: Engine>(engine: &E, from: u32) -> Option<u32>
     unless_stopped(engine, next_hart(engine, from))
 }
 
-/// The order of the harts that are ready now. It stays a call, since few turns stop a hart.
-#[inline(never)]
+/// The order of the harts that are ready now.
 pub(crate) fn order_of<E: Engine>(engine: &E) -> Order
     ensures { result.items ≡ order_in (E.standing engine.now).machine.core }
 {
@@ -77,8 +76,16 @@ fn renew<E: Engine>(engine: &E, end: TurnEnd, order: &mut Order)
     ensures { order.new.items ≡ order_in (E.standing engine.now).machine.core }
 {
     if let TurnEnd::Stopped(_) = end {
-        *order = order_of(engine);
+        order_anew(engine, order);
     }
+}
+
+/// Makes the order anew. It stays a call, since few turns stop a hart, and the room of an order would be cleared at every turn.
+#[inline(never)]
+fn order_anew<E: Engine>(engine: &E, order: &mut Order)
+    ensures { order.new.items ≡ order_in (E.standing engine.now).machine.core }
+{
+    *order = order_of(engine);
 }
 
 /// The hart whose turn is next after one of hart `h` that ended so. The order is that of before the

@@ -22,13 +22,18 @@ pub(crate) fn one_line(entry: &Entry<'_>) -> Result<(), RowsEnd> {
     }
 }
 
+/// The number that a text of an entry writes.
+fn number_in(entry: &Entry<'_>, text: &str) -> Result<u64, RowsEnd> {
+    match text.parse::<u64>() {
+        Ok(number) => Ok(number),
+        Err(_) => Err(entry.refused(Wrong::Number)),
+    }
+}
+
 /// A number on its key's line.
 pub(crate) fn number_of(entry: &Entry<'_>) -> Result<u64, RowsEnd> {
     one_line(entry)?;
-    entry
-        .value
-        .parse::<u64>()
-        .map_err(|_| entry.refused(Wrong::Number))
+    number_in(entry, entry.value)
 }
 
 /// Numbers on their key's line, one at least.
@@ -36,10 +41,7 @@ pub(crate) fn numbers_of(alloc: Global, entry: &Entry<'_>) -> Result<Vec<u64>, R
     one_line(entry)?;
     let mut numbers = Vec::new(alloc);
     for word in entry.value.split_whitespace() {
-        let number = word
-            .parse::<u64>()
-            .map_err(|_| entry.refused(Wrong::Number))?;
-        numbers.push(number)?;
+        numbers.push(number_in(entry, word)?)?;
     }
     if numbers.is_empty() {
         return Err(entry.refused(Wrong::Number));
@@ -69,20 +71,27 @@ fn words_of(alloc: Global, line: Line<'_>) -> Result<Vec<String>, RowsEnd> {
     Ok(words)
 }
 
+/// Puts the words of a line behind those of other command lines.
+fn add_call(
+    alloc: Global,
+    calls: &mut Vec<Vec<String>>,
+    number: u64,
+    text: &str,
+) -> Result<(), RowsEnd> {
+    calls.push(words_of(alloc, Line { number, text })?)?;
+    Ok(())
+}
+
 /// The command lines of an entry: that on its key's line, or those of its block.
 pub(crate) fn calls_of(alloc: Global, entry: &Entry<'_>) -> Result<Vec<Vec<String>>, RowsEnd> {
     let mut calls = Vec::new(alloc);
     if entry.block.is_empty() {
-        let number = entry.number;
-        let text = entry.value;
-        calls.push(words_of(alloc, Line { number, text })?)?;
-        return Ok(calls);
-    }
-    if !entry.value.is_empty() {
+        add_call(alloc, &mut calls, entry.number, entry.value)?;
+    } else if !entry.value.is_empty() {
         return Err(entry.refused(Wrong::Block));
     }
     for line in &entry.block {
-        calls.push(words_of(alloc, *line)?)?;
+        add_call(alloc, &mut calls, line.number, line.text)?;
     }
     Ok(calls)
 }
@@ -90,7 +99,12 @@ pub(crate) fn calls_of(alloc: Global, entry: &Entry<'_>) -> Result<Vec<Vec<Strin
 /// Puts the bytes of a line of hexadecimal digits, up to a `#`, behind those that are there. Blanks may stand between digits.
 fn append_hex(alloc: Global, bytes: &mut Vec<u8>, line: Line<'_>) -> Result<(), RowsEnd> {
     let (text, _) = line.text.split_once('#').unwrap_or((line.text, ""));
-    let digits: Vec<u8> = text.bytes().filter(|byte| *byte != b' ').collect(alloc)?;
+    let mut digits = Vec::new(alloc);
+    for byte in text.bytes() {
+        if byte != b' ' {
+            digits.push(byte)?;
+        }
+    }
     match hex::decode(alloc, digits.as_slice()) {
         Ok(read) => Ok(bytes.extend_from_slice(&read)?),
         Err(hex::FromHexError::OutOfMemory) => Err(RowsEnd::Memory),

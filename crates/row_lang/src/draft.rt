@@ -21,12 +21,56 @@ fn has_file(files: &[File], name: &str) -> bool {
     files.iter().any(|file| file.name.as_str() == name)
 }
 
-/// Puts a file behind others, none of which has its name.
+/// Puts a file behind others. It is refused, where it then stands, if one of them has its name.
 fn add_file(files: &mut Vec<File>, entry: &Entry<'_>, file: File) -> Result<(), RowsEnd> {
-    if has_file(files, file.name.as_str()) {
+    let is_again = has_file(files, file.name.as_str());
+    files.push(file)?;
+    if is_again {
         return Err(entry.refused(Wrong::Twice));
     }
-    files.push(file)?;
+    Ok(())
+}
+
+/// Takes the file that an entry tells.
+fn take_file(
+    alloc: Global,
+    programs: &[Program<'_>],
+    files: &mut Vec<File>,
+    entry: &Entry<'_>,
+) -> Result<(), RowsEnd> {
+    let file = file_of(alloc, programs, entry)?;
+    add_file(files, entry, file)
+}
+
+/// Takes the numbers of calls that fail.
+fn take_failing(alloc: Global, failing: &mut Failing, entry: &Entry<'_>) -> Result<(), RowsEnd> {
+    match entry.key {
+        "fail-reads" => failing.reads = numbers_of(alloc, entry)?,
+        "fail-files" => failing.files = numbers_of(alloc, entry)?,
+        "fail-puts" => failing.puts = numbers_of(alloc, entry)?,
+        "fail-tells" => failing.tells = numbers_of(alloc, entry)?,
+        _ => return Err(entry.refused(Wrong::Key)),
+    }
+    Ok(())
+}
+
+/// A status on its key's line.
+fn status_of(entry: &Entry<'_>) -> Result<u8, RowsEnd> {
+    match u8::try_from(number_of(entry)?) {
+        Ok(status) => Ok(status),
+        Err(_) => Err(entry.refused(Wrong::Number)),
+    }
+}
+
+/// Takes what is due of the call itself.
+fn take_due(alloc: Global, due: &mut Due, entry: &Entry<'_>) -> Result<(), RowsEnd> {
+    match entry.key {
+        "out" => due.out = text_of(alloc, entry, entry.value)?,
+        "err" => due.err = text_of(alloc, entry, entry.value)?,
+        "status" => due.status = status_of(entry)?,
+        "left" => due.left = Some(number_of(entry)?),
+        _ => return Err(entry.refused(Wrong::Key)),
+    }
     Ok(())
 }
 
@@ -110,18 +154,8 @@ impl<'a> Draft<'a> {
             "caches" => self.row.caches = numbers_of(alloc, entry)?,
             "input" => self.row.input.bytes = text_of(alloc, entry, entry.value)?,
             "pieces" => self.row.input.pieces = numbers_of(alloc, entry)?,
-            "fail-reads" => self.row.failing.reads = numbers_of(alloc, entry)?,
-            "fail-files" => self.row.failing.files = numbers_of(alloc, entry)?,
-            "fail-puts" => self.row.failing.puts = numbers_of(alloc, entry)?,
-            "fail-tells" => self.row.failing.tells = numbers_of(alloc, entry)?,
-            "out" => self.row.due.out = text_of(alloc, entry, entry.value)?,
-            "err" => self.row.due.err = text_of(alloc, entry, entry.value)?,
-            "status" => {
-                let status = u8::try_from(number_of(entry)?);
-                self.row.due.status = status.map_err(|_| entry.refused(Wrong::Number))?;
-            }
-            "left" => self.row.due.left = Some(number_of(entry)?),
-            _ => return Err(entry.refused(Wrong::Key)),
+            "out" | "err" | "status" | "left" => take_due(alloc, &mut self.row.due, entry)?,
+            _ => take_failing(alloc, &mut self.row.failing, entry)?,
         }
         Ok(())
     }
@@ -134,14 +168,8 @@ impl<'a> Draft<'a> {
         entry: &Entry<'a>,
     ) -> Result<(), RowsEnd> {
         match entry.key {
-            "file" => {
-                let file = file_of(alloc, programs, entry)?;
-                add_file(&mut self.row.files, entry, file)
-            }
-            "holds" => {
-                let file = file_of(alloc, programs, entry)?;
-                add_file(&mut self.row.due.held, entry, file)
-            }
+            "file" => take_file(alloc, programs, &mut self.row.files, entry),
+            "holds" => take_file(alloc, programs, &mut self.row.due.held, entry),
             "session" => self.take_session(entry),
             _ => self.take_once(alloc, entry),
         }

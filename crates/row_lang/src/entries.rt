@@ -56,6 +56,39 @@ fn entry_of<'a>(alloc: Global, line: Line<'a>) -> Result<Entry<'a>, RowsEnd> {
     })
 }
 
+/// Refuses a line with a byte that ASCII doesn't print, and one that ends in a blank.
+fn printed(line: Line<'_>) -> Result<(), RowsEnd> {
+    if !line.text.bytes().all(|byte| (b' '..=b'~').contains(&byte)) {
+        return Err(line.refused(Wrong::Byte));
+    }
+    if line.text.ends_with(' ') {
+        return Err(line.refused(Wrong::Blank));
+    }
+    Ok(())
+}
+
+/// Puts a line behind the block of the last entry.
+fn add_line<'a>(entries: &mut Vec<Entry<'a>>, line: Line<'a>) -> Result<(), RowsEnd> {
+    let Some(entry) = entries.last_mut() else {
+        return Err(line.refused(Wrong::Stray));
+    };
+    entry.block.push(line)?;
+    Ok(())
+}
+
+/// Puts an entry that a line begins behind the others.
+fn add_entry<'a>(
+    alloc: Global,
+    entries: &mut Vec<Entry<'a>>,
+    line: Line<'a>,
+) -> Result<(), RowsEnd> {
+    if line.text.starts_with(' ') {
+        return Err(line.refused(Wrong::Margin));
+    }
+    entries.push(entry_of(alloc, line)?)?;
+    Ok(())
+}
+
 /// Puts a line behind the entries: it begins one, or is the next of the last one's block. An empty line and one that begins with
 /// `#` are neither.
 fn take_line<'a>(
@@ -66,26 +99,11 @@ fn take_line<'a>(
     if line.text.is_empty() || line.text.starts_with('#') {
         return Ok(());
     }
-    if !line.text.bytes().all(|byte| (b' '..=b'~').contains(&byte)) {
-        return Err(line.refused(Wrong::Byte));
+    printed(line)?;
+    match line.text.strip_prefix(MARGIN) {
+        Some(text) => add_line(entries, Line { text, ..line }),
+        None => add_entry(alloc, entries, line),
     }
-    if line.text.ends_with(' ') {
-        return Err(line.refused(Wrong::Blank));
-    }
-    let Some(text) = line.text.strip_prefix(MARGIN) else {
-        if line.text.starts_with(' ') {
-            return Err(line.refused(Wrong::Margin));
-        }
-        entries.push(entry_of(alloc, line)?)?;
-        return Ok(());
-    };
-    let Some(mut entry) = entries.pop() else {
-        return Err(line.refused(Wrong::Stray));
-    };
-    let number = line.number;
-    entry.block.push(Line { number, text })?;
-    entries.push(entry)?;
-    Ok(())
 }
 
 /// The entries of a text, in their order.

@@ -72,7 +72,7 @@ pub enum Wrong {
 }
 
 /// How reading a text of rows ends without rows.
-#[derive(Clone, Copy, Debug, PartialEq, Eq)]
+#[derive(Clone, Copy)]
 pub enum RowsEnd {
     /// A line, counted from 1, is refused.
     Bad {

@@ -20,7 +20,7 @@ const NOTHING: Times = Times { count: 0, byte: 0 };
 const MOST: u32 = 67_108_864;
 
 /// Where a text is: between characters, or within an escape.
-#[derive(Clone, Copy, PartialEq, Eq)]
+#[derive(Clone, Copy)]
 enum Place {
     Plain,
     Escape,
@@ -78,24 +78,50 @@ fn escape_of(byte: u8) -> Option<(Place, Times)> {
     }
 }
 
+/// Where a text is behind a character that no escape was before, and the bytes that are known.
+fn plain_step(byte: u8) -> (Place, Times) {
+    if byte == b'\\' {
+        (Place::Escape, NOTHING)
+    } else {
+        (Place::Plain, once(byte))
+    }
+}
+
+/// Where a text is behind a character of a count.
+fn count_step(count: u32, byte: u8) -> Option<Place> {
+    if byte == b'*' {
+        return Some(Place::TimesHigh(count));
+    }
+    Some(Place::Count(count_of(count, byte)?))
+}
+
+/// Where a text is behind a character within an escape that doesn't end there.
+fn inner_step(place: Place, byte: u8) -> Option<Place> {
+    match place {
+        Place::High => Some(Place::Low(digit_of(byte)?)),
+        Place::Count(count) => count_step(count, byte),
+        Place::TimesHigh(count) => Some(Place::TimesLow(count, digit_of(byte)?)),
+        Place::TimesLow(count, high) => Some(Place::Close(count, byte_of(high, byte)?)),
+        _ => None,
+    }
+}
+
+/// The bytes of an escape that ends with a character.
+fn last_step(place: Place, byte: u8) -> Option<Times> {
+    match place {
+        Place::Low(high) => Some(once(byte_of(high, byte)?)),
+        Place::Close(count, times) if byte == b'}' => Some(Times { count, byte: times }),
+        _ => None,
+    }
+}
+
 /// Where a text is behind a character, and the bytes that are then known.
 fn step_of(place: Place, byte: u8) -> Option<(Place, Times)> {
     match place {
-        Place::Plain if byte == b'\\' => Some((Place::Escape, NOTHING)),
-        Place::Plain => Some((Place::Plain, once(byte))),
+        Place::Plain => Some(plain_step(byte)),
         Place::Escape => escape_of(byte),
-        Place::High => Some((Place::Low(digit_of(byte)?), NOTHING)),
-        Place::Low(high) => Some((Place::Plain, once(byte_of(high, byte)?))),
-        Place::Count(count) if byte == b'*' => Some((Place::TimesHigh(count), NOTHING)),
-        Place::Count(count) => Some((Place::Count(count_of(count, byte)?), NOTHING)),
-        Place::TimesHigh(count) => Some((Place::TimesLow(count, digit_of(byte)?), NOTHING)),
-        Place::TimesLow(count, high) => {
-            Some((Place::Close(count, byte_of(high, byte)?), NOTHING))
-        }
-        Place::Close(count, times) if byte == b'}' => {
-            Some((Place::Plain, Times { count, byte: times }))
-        }
-        Place::Close(..) => None,
+        Place::Low(_) | Place::Close(..) => Some((Place::Plain, last_step(place, byte)?)),
+        _ => Some((inner_step(place, byte)?, NOTHING)),
     }
 }
 
@@ -109,10 +135,10 @@ pub(crate) fn append_text(bytes: &mut Vec<u8>, line: Line<'_>) -> Result<(), Row
         bytes.resize(bytes.len().saturating_add(times.count as usize), times.byte)?;
         place = next;
     }
-    if place != Place::Plain {
-        return Err(line.refused(Wrong::Escape));
+    match place {
+        Place::Plain => Ok(()),
+        _ => Err(line.refused(Wrong::Escape)),
     }
-    Ok(())
 }
 
 /// The same, with a newline behind.

@@ -1,5 +1,7 @@
 pub mod AccountLemmas
+pub mod FrontLemmas
 pub mod KeyLemmas
 pub mod OneSetLemmas
+pub mod PromotedLemmas
 pub mod RuleLemmas
 pub mod StoreLemmas

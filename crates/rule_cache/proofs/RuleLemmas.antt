@@ -1,5 +1,5 @@
 -- What the cache below leaves of its rules, in the words of a store.
-use Rattle.std.proofs.Common.{◌≡◌, ℕ, zero, suc, ◌+◌, ◌-◌, ◌≤◌, true, false, not, cond, [], ◌∷◌, IfNone, IfSome, length, take, slice_get, Option, Some, None, option_map, refl, sym, ap, ◌∙◌, subst, arith}
+use Rattle.std.proofs.Common.{◌≡◌, ℕ, zero, suc, ◌+◌, ◌-◌, ◌≤◌, true, false, not, cond, [], ◌∷◌, IfNone, IfSome, length, take, Option, Some, None, option_map, refl, sym, ap, ◌∙◌, arith}
 use Rattle.std.specs.List.{IsDistinct}
 use Rattle.std.specs.Map.{keys_of, lookup, lookup_entry, remove_entry}
 use Rattle.std.specs.Option.{option_map_or}
@@ -112,20 +112,3 @@ module _ (key : Key) where
   moved_miss capacity kept None is =
       ap (λ (rules : Rules). lru_cache rules capacity) (missed_by kept (lookup_entry (key_eq key) kept) (lookup-lookup_entry (key_eq key) kept ∙ sym is))
   moved_miss capacity kept (Some words) is = tt
-
-  -- ---- the first rule
-
-  pub first_found : (words : Outs ℕ) (kept : Rules) → slice_get kept 0 ≡ Some (key, words) → lookup (key_eq key) kept ≡ Some words
-  first_found words [] first = absurd cc
-  first_found words (rule ∷ kept) first =
-      let is : rule ≡ (key, words) = cc in
-      subst (λ (r : Key × Outs ℕ). lookup (key_eq key) (r ∷ kept) ≡ Some words) (sym is) (rw (key_laws.refl key) refl)
-
-  pub first_stays : (capacity : ℕ) (words : Outs ℕ) (kept : Rules) → IsValid key_eq (lru_cache kept capacity)
-      → slice_get kept 0 ≡ Some (key, words) → kept ≡ with_rule capacity key words kept
-  first_stays capacity words [] valid first = absurd cc
-  first_stays capacity words (rule ∷ kept) valid first =
-      let is : rule ≡ (key, words) = cc in
-      let same : key_eq key rule.0 ≡ true = ap (λ (r : Key × Outs ℕ). key_eq key r.0) is ∙ key_laws.refl key in
-      let hit : promoted (key_eq key) (rule ∷ kept) ≡ rule ∷ kept = rw same refl in
-      sym hit ∙ promoted_hit capacity (rule ∷ kept) valid words (first_found words (rule ∷ kept) first)

@@ -67,7 +67,7 @@ module _ (key : Key) where
       (IsDistinct-cons key_eq key (keys_of (without key kept)) (others kept)
       (IsDistinct-keys_filter key_eq (λ rule. not (key_eq key rule.0)) kept apart)))
 
-  with_rule_set : (ways : ℕ) (words : Outs ℕ) (kept : Rules) → IsSet ways kept → IsSet ways (with_rule ways key words kept)
+  pub with_rule_set : (ways : ℕ) (words : Outs ℕ) (kept : Rules) → IsSet ways kept → IsSet ways (with_rule ways key words kept)
   with_rule_set ways words kept is = record {
     apart = with_rule_apart ways words kept is.apart;
     within = length_take ways ((key, words) ∷ without key kept);

@@ -1,21 +1,21 @@
 //! `RuleCache`: the rules in one set by recency.
 
-ghost use Rattle.std.specs.Prelude.{◌≡◌, ◌≤◌, [], ◌∷◌, IfNone, IfSome, Some, slice_get};
+ghost use Rattle.std.specs.Prelude.{◌≡◌, ◌≤◌, [], ◌∷◌, IfNone, IfSome};
 ghost use Rattle.std.specs.Map.{lookup};
 ghost use Rattle.lru.specs.LruCache.{lru_cache};
 ghost use Rattle.rule_cache.specs.Keys.{key_eq};
 ghost use Rattle.rule_cache.specs.Stores.{Store, store_without_rules, empty_store, lookup_of, looked_for, store_with, with_rule};
 
+use crate::front::FrontedRules;
 use crate::key::{Key, OutWords};
 use crate::store::RuleStore;
-use lru::LruCache;
 use std::alloc::{AllocError, Global};
 use std::num::NonZeroUsize;
 
 /// A store of one set, under a hash of the keys.
 #[derive(Drop)]
 pub struct RuleCache {
-    rules: LruCache<Key, OutWords>,
+    rules: FrontedRules,
     hits: u64,
     misses: u64,
 }
@@ -32,7 +32,7 @@ impl RuleStore for RuleCache {
 
     fn made(alloc: Global, _sets: u32, ways: u32) -> Result<Self, AllocError> {
         let ways = NonZeroUsize::new(ways as usize).unwrap();
-        let rules = LruCache::new(alloc, ways)?;
+        let rules = FrontedRules::new(alloc, ways)?;
         Ok(RuleCache {
             rules,
             hits: 0,
@@ -40,6 +40,7 @@ impl RuleStore for RuleCache {
         })
     }
 
+    #[inline(always)]
     fn find(&mut self, key: &Key) -> Option<OutWords> {
         let found = moved(&mut self.rules, key);
         if found.is_some() {
@@ -51,7 +52,7 @@ impl RuleStore for RuleCache {
     }
 
     fn keep(&mut self, key: Key, words: OutWords) -> Result<(), AllocError> {
-        let _length = self.rules.len(); // no two keys are the same
+        self.rules.are_valid(); // no two keys are the same
         self.rules.put(key, words)?;
         Ok(())
     }
@@ -70,24 +71,13 @@ impl RuleStore for RuleCache {
 }
 
 // The outputs of the rule with this key, which goes to the front.
-fn moved(rules: &mut LruCache<Key, OutWords>, key: &Key) -> Option<OutWords>
+#[inline(always)]
+fn moved(rules: &mut FrontedRules, key: &Key) -> Option<OutWords>
     ensures found { result ≡ lookup (key_eq key.now) rules.old.entries }
     ensures hit { IfSome result (λ words. rules.new
         ≡ lru_cache (with_rule rules.old.cap key.now words rules.old.entries) rules.old.cap) }
     ensures miss { IfNone result (rules.new ≡ rules.old) }
 {
-    let _length = rules.len(); // no two keys are the same, and they fit
-    if let Some(words) = newest(rules, key) {
-        return Some(words);
-    }
-    rules.get(key).copied()
-}
-
-// The outputs of the most recent rule where it has this key. A program that runs in a loop of few rules asks for it often,
-// and it takes no hash.
-fn newest(rules: &LruCache<Key, OutWords>, key: &Key) -> Option<OutWords>
-    ensures { IfSome result (λ words. slice_get rules.now.entries 0 ≡ Some (key.now, words)) }
-{
-    let (first, words) = rules.peek_mru()?;
-    if *first == *key { Some(*words) } else { None }
+    rules.are_valid(); // no two keys are the same, and they fit
+    rules.get(*key)
 }

@@ -3,6 +3,7 @@
 #![tactic(auto)]
 
 mod cache;
+mod front;
 mod hash;
 mod key;
 mod law;

@@ -18,7 +18,7 @@ use Rattle.flow_runs.specs.EdgeWalk.{walk_of}
 use Rattle.heap_runs.specs.BlockBook.{block_book}
 use Rattle.run_props.proofs.RunLemmas.{run_is_safe}
 use Rattle.run_props.specs.Safe.{IsSafe}
-use Rattle.run_props.specs.Views.{comp_view, events_by, flow_view, heap_view, seal_view}
+use Rattle.run_props.specs.Lenses.{comp_lens, events_by, flow_lens, heap_lens, seal_lens}
 use Rattle.run_examples.specs.Example.{all_four, blocks, events, harts, image, jump, keys, landing, second_walk, shared}
 
 -- it is an image, so that the laws speak of its run
@@ -44,26 +44,26 @@ pub all_retire : map is_retirement events ≡ replicate 31 true
 unfolding event_of turn_of attempt preparation rule_answer turn_job service_on job_at core_served core_effected carried_at service_job effect_result look_result instr_of_word birth_of memory_of start_harts start_machine start_ram start_tags first_fit
 all_retire = refl
 
-pub keys_are : key_book (events_by seal_view events) ≡ keys
+pub keys_are : key_book (events_by seal_lens events) ≡ keys
 unfolding key_book event_of turn_of attempt preparation rule_answer turn_job service_on job_at core_served core_effected carried_at service_job effect_result look_result instr_of_word birth_of memory_of start_harts start_machine start_ram start_tags first_fit
 keys_are = refl
 
-pub shared_is : owner_book (birth_of image) (events_by comp_view events) 56 ≡ shared
+pub shared_is : owner_book (birth_of image) (events_by comp_lens events) 56 ≡ shared
 unfolding owner_book event_of turn_of attempt preparation rule_answer turn_job service_on job_at core_served core_effected carried_at service_job effect_result look_result instr_of_word birth_of memory_of start_harts start_machine start_ram start_tags first_fit
 shared_is = refl
 
-pub walk_is : walk_of 1 (events_by flow_view events) ≡ second_walk
+pub walk_is : walk_of 1 (events_by flow_lens events) ≡ second_walk
 unfolding walk_of event_of turn_of attempt preparation rule_answer turn_job service_on job_at core_served core_effected carried_at service_job effect_result look_result instr_of_word birth_of memory_of start_harts start_machine start_ram start_tags first_fit
 walk_is = refl
 
-pub jump_is : slice_get (walk_of 0 (events_by flow_view events)) 22 ≡ Some jump
+pub jump_is : slice_get (walk_of 0 (events_by flow_lens events)) 22 ≡ Some jump
 unfolding walk_of event_of turn_of attempt preparation rule_answer turn_job service_on job_at core_served core_effected carried_at service_job effect_result look_result instr_of_word birth_of memory_of start_harts start_machine start_ram start_tags first_fit
 jump_is = refl
 
-pub landing_is : slice_get (walk_of 0 (events_by flow_view events)) 23 ≡ Some landing
+pub landing_is : slice_get (walk_of 0 (events_by flow_lens events)) 23 ≡ Some landing
 unfolding walk_of event_of turn_of attempt preparation rule_answer turn_job service_on job_at core_served core_effected carried_at service_job effect_result look_result instr_of_word birth_of memory_of start_harts start_machine start_ram start_tags first_fit
 landing_is = refl
 
-pub blocks_are : block_book (events_by heap_view events) ≡ blocks
+pub blocks_are : block_book (events_by heap_lens events) ≡ blocks
 unfolding block_book event_of turn_of attempt preparation rule_answer turn_job service_on job_at core_served core_effected carried_at service_job effect_result look_result instr_of_word birth_of memory_of start_harts start_machine start_ram start_tags first_fit
 blocks_are = refl

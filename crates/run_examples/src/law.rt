@@ -9,7 +9,7 @@ ghost use Rattle.comp_runs.specs.OwnerBook.{owner_book};
 ghost use Rattle.flow_runs.specs.EdgeWalk.{walk_of};
 ghost use Rattle.heap_runs.specs.BlockBook.{block_book};
 ghost use Rattle.run_props.specs.Safe.{IsSafe};
-ghost use Rattle.run_props.specs.Views.{comp_view, events_by, flow_view, heap_view, seal_view};
+ghost use Rattle.run_props.specs.Lenses.{comp_lens, events_by, flow_lens, heap_lens, seal_lens};
 ghost use Rattle.run_examples.specs.Example.{all_four, blocks, events, image, jump, keys, landing, second_walk, shared};
 
 /// In the example's run, of which the laws on runs speak, each turn retires, and the books at its end hold what they are to: the key that was made and what it
@@ -19,10 +19,10 @@ pub fn example_law()
     ensures image { IsImage image }
     ensures safe { IsSafe all_four image events }
     ensures retire { map is_retirement events ≡ replicate 31 true }
-    ensures keys { key_book (events_by seal_view events) ≡ keys }
-    ensures shared { owner_book (birth_of image) (events_by comp_view events) 56 ≡ shared }
-    ensures walk { walk_of 1 (events_by flow_view events) ≡ second_walk }
-    ensures jump { slice_get (walk_of 0 (events_by flow_view events)) 22 ≡ Some jump }
-    ensures landing { slice_get (walk_of 0 (events_by flow_view events)) 23 ≡ Some landing }
-    ensures blocks { block_book (events_by heap_view events) ≡ blocks }
+    ensures keys { key_book (events_by seal_lens events) ≡ keys }
+    ensures shared { owner_book (birth_of image) (events_by comp_lens events) 56 ≡ shared }
+    ensures walk { walk_of 1 (events_by flow_lens events) ≡ second_walk }
+    ensures jump { slice_get (walk_of 0 (events_by flow_lens events)) 22 ≡ Some jump }
+    ensures landing { slice_get (walk_of 0 (events_by flow_lens events)) 23 ≡ Some landing }
+    ensures blocks { block_book (events_by heap_lens events) ≡ blocks }
 {}

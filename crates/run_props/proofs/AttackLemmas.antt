@@ -16,7 +16,7 @@ use Rattle.engine_trait.specs.Events.{Call, Event, Work, event_of, is_retirement
 use Rattle.engine_trait.specs.Machine.{Machine, is_ready_in}
 use Rattle.engine_trait.specs.Turn.{turn_of}
 use Rattle.policy_parts.specs.Part.{IsPart}
-use Rattle.policy_parts.specs.View.{View}
+use Rattle.policy_parts.specs.Lens.{Lens}
 use Rattle.part_turns.proofs.MachineLemmas.{seen_sound, words_stay}
 use Rattle.part_turns.proofs.TurnLemmas.{turn_shown}
 use Rattle.part_turns.specs.Keeps.{Keeps}
@@ -42,13 +42,13 @@ use Rattle.run_props.specs.Attacks.{GoesAstray, MissesBlock, Trespasses, Unseals
 use Rattle.run_props.specs.Ends.{IsStopped}
 use Rattle.policy_choice.specs.AllLaws.{AllHold, all_laws}
 use Rattle.run_props.specs.Invariant.{MeetsInvariant}
-use Rattle.run_props.specs.Views.{comp_view, flow_view, heap_view, seal_view}
+use Rattle.run_props.specs.Lenses.{comp_lens, flow_lens, heap_lens, seal_lens}
 
 module _ (s : Machine AllState AllTag) (feed : Tape) (h : ℕ) where
   abbrev turn : Event AllTag
   turn = event_of all s feed h
 
-  module _ {U V : Type 0} (m : PolicyModel U V) (l : View AllTag AllState U V) (invariant : List (Event U) → Machine V U → Type 0)
+  module _ {U V : Type 0} (m : PolicyModel U V) (l : Lens AllTag AllState U V) (invariant : List (Event U) → Machine V U → Type 0)
       (guarantee : List (Event U) → Event U → Type 0) (part : IsPart all m l) (keeps : Keeps m invariant guarantee) (events : List (Event U))
       (stands : MeetsInvariant l invariant events s) (ready : is_ready_in s.core h ≡ true) where
     -- the turn is as the policy guarantees
@@ -72,62 +72,62 @@ module _ (s : Machine AllState AllTag) (feed : Tape) (h : ℕ) where
 
   -- ---- sealing
 
-  module _ (events : List (Event SealTag)) (stands : MeetsInvariant seal_view SealInvariant events s) (ready : is_ready_in s.core h ≡ true)
-      (attack : UnsealsWithoutKey (event_with seal_view.tag turn)) where
-    by_call : SealTurn (key_book events) (event_with seal_view.tag turn) → is_retirement turn ≡ true
-        → (call : Option (Call AllTag)) → turn.call ≡ call → option_map (call_by seal_view.tag) call ≡ Some attack.call → ⊥
+  module _ (events : List (Event SealTag)) (stands : MeetsInvariant seal_lens SealInvariant events s) (ready : is_ready_in s.core h ≡ true)
+      (attack : UnsealsWithoutKey (event_with seal_lens.tag turn)) where
+    by_call : SealTurn (key_book events) (event_with seal_lens.tag turn) → is_retirement turn ≡ true
+        → (call : Option (Call AllTag)) → turn.call ≡ call → option_map (call_by seal_lens.tag) call ≡ Some attack.call → ⊥
     by_call kept done None is same = absurd cc
     by_call kept done (Some call) is same =
         let served = retired_call all s feed h ready call is done in
-        let seen : call_by seal_view.tag call ≡ attack.call = cc in
-        let service = ap (λ c. seen_service seal_view.tag c turn.work) is ∙ ap (λ w. seen_service seal_view.tag (Some call) w) served.told in
+        let seen : call_by seal_lens.tag call ≡ attack.call = cc in
+        let service = ap (λ c. seen_service seal_lens.tag c turn.work) is ∙ ap (λ w. seen_service seal_lens.tag (Some call) w) served.told in
         let uses = kept.unseals _ service (ap (λ (c : Call SealTag). c.number) seen ∙ attack.unseals) in
         attack.without uses.key (sym (ap (λ (c : Call SealTag). c.arguments.t0) seen) ∙ uses.sealed) (sym (ap (λ (c : Call SealTag). c.arguments.t1) seen) ∙ uses.held)
 
     pub seal_stops : IsStopped turn
     seal_stops =
-        stopped_unless sealing seal_view SealInvariant (λ before event. SealTurn (key_book before) event) seal_is_part keeps_invariant events stands ready
+        stopped_unless sealing seal_lens SealInvariant (λ before event. SealTurn (key_book before) event) seal_is_part keeps_invariant events stands ready
         (λ kept done. by_call kept done turn.call refl attack.called)
 
   -- ---- compartments
 
   module _ (birth : ℕ → Birth) (entries : List ℕ) (events : List (Event CompartmentTag))
-      (stands : MeetsInvariant comp_view (CompInvariant birth entries) events s) (ready : is_ready_in s.core h ≡ true) where
-    trespass_fails : Trespasses birth entries s.policy events turn → CompTurn birth entries events (event_with comp_view.tag turn)
+      (stands : MeetsInvariant comp_lens (CompInvariant birth entries) events s) (ready : is_ready_in s.core h ≡ true) where
+    trespass_fails : Trespasses birth entries s.policy events turn → CompTurn birth entries events (event_with comp_lens.tag turn)
         → is_retirement turn ≡ true → ⊥
     trespass_fails (stores touch accessed is_store foreign) kept done =
         let permitted = (kept.writes done).stores touch accessed is_store in absurd (cc (permitted, foreign))
     trespass_fails (zeroes call range word called would covered foreign) kept done =
         let served = retired_call all s feed h ready call called done in
-        let service = ap (λ c. seen_service comp_view.tag c turn.work) called ∙ ap (λ w. seen_service comp_view.tag (Some call) w) served.told in
+        let service = ap (λ c. seen_service comp_lens.tag c turn.work) called ∙ ap (λ w. seen_service comp_lens.tag (Some call) w) served.told in
         let plan = would served.pc served.plan served.planned in
         let permitted = (kept.writes done).zeroes _ range word service plan.0 plan.1 covered in absurd (cc (permitted, foreign))
     trespass_fails (enters without) kept done = without (kept.follows done)
 
     pub comp_stops : Trespasses birth entries s.policy events turn → IsStopped turn
     comp_stops attack =
-        stopped_unless compartments comp_view (CompInvariant birth entries) (CompTurn birth entries) comp_is_part (comp_keeps birth entries) events stands ready
+        stopped_unless compartments comp_lens (CompInvariant birth entries) (CompTurn birth entries) comp_is_part (comp_keeps birth entries) events stands ready
         (trespass_fails attack)
 
   -- ---- control flow
 
   module _ (birth : ℕ → Birth) (words : List ℕ) (edges : List (ℕ × ℕ)) (events : List (Event FlowTag))
-      (stands : MeetsInvariant flow_view (FlowInvariant birth words edges) events s) (ready : is_ready_in s.core h ≡ true) where
-    stray_fails : GoesAstray birth words edges events (event_with flow_view.tag turn) → FlowTurn birth words edges events (event_with flow_view.tag turn)
+      (stands : MeetsInvariant flow_lens (FlowInvariant birth words edges) events s) (ready : is_ready_in s.core h ≡ true) where
+    stray_fails : GoesAstray birth words edges events (event_with flow_lens.tag turn) → FlowTurn birth words edges events (event_with flow_lens.tag turn)
         → is_retirement turn ≡ true → ⊥
     stray_fails (outside no_code) kept done = let code = (kept.code done).code in absurd (cc (code, no_code))
     stray_fails (unlisted x last jumps without) kept done = without (kept.listed done x last jumps)
 
-    pub flow_stops : GoesAstray birth words edges events (event_with flow_view.tag turn) → IsStopped turn
+    pub flow_stops : GoesAstray birth words edges events (event_with flow_lens.tag turn) → IsStopped turn
     flow_stops attack =
-        stopped_unless flow flow_view (FlowInvariant birth words edges) (FlowTurn birth words edges) flow_is_part (turns_keep birth words edges) events stands ready
+        stopped_unless flow flow_lens (FlowInvariant birth words edges) (FlowTurn birth words edges) flow_is_part (turns_keep birth words edges) events stands ready
         (stray_fails attack)
 
   -- ---- heap safety
 
   module _ (base top : ℕ) (events : List (Event HeapTag))
-      (stands : MeetsInvariant heap_view (HeapInvariant base top) events s) (ready : is_ready_in s.core h ≡ true) where
-    miss_fails : MissesBlock base top (block_book events) (event_with heap_view.tag turn) → HeapTurn base top (block_book events) (event_with heap_view.tag turn)
+      (stands : MeetsInvariant heap_lens (HeapInvariant base top) events s) (ready : is_ready_in s.core h ≡ true) where
+    miss_fails : MissesBlock base top (block_book events) (event_with heap_lens.tag turn) → HeapTurn base top (block_book events) (event_with heap_lens.tag turn)
         → is_retirement turn ≡ true → ⊥
     miss_fails (outside touch asked number accessed asks pointer without) kept done = by_place (is_in_heap base top touch.address) refl
       where
@@ -137,7 +137,7 @@ module _ (s : Machine AllState AllTag) (feed : Tape) (h : ℕ) where
     miss_fails (forged touch asked accessed asks inside without) kept done =
         let reaches = kept.inside touch asked done accessed asks inside in without reaches.block.number reaches.pointer
 
-    pub heap_stops : MissesBlock base top (block_book events) (event_with heap_view.tag turn) → IsStopped turn
+    pub heap_stops : MissesBlock base top (block_book events) (event_with heap_lens.tag turn) → IsStopped turn
     heap_stops attack =
-        stopped_unless heap heap_view (HeapInvariant base top) (λ before event. HeapTurn base top (block_book before) event) heap_is_part (heap_keeps base top) events stands ready
+        stopped_unless heap heap_lens (HeapInvariant base top) (λ before event. HeapTurn base top (block_book before) event) heap_is_part (heap_keeps base top) events stands ready
         (miss_fails attack)

@@ -13,7 +13,7 @@ use Rattle.policy_choice.specs.declared.basis.Basis.{Basis}
 use Rattle.policy_choice.proofs.AllLemmas.{room_of_chosen}
 use Rattle.engine_trait.specs.Machine.{IsMachine}
 use Rattle.tag_loader.specs.Start.{start_machine}
-use Rattle.run_props.specs.Views.{comp_view, flow_view, heap_view, seal_view}
+use Rattle.run_props.specs.Lenses.{comp_lens, flow_lens, heap_lens, seal_lens}
 use Rattle.run_props.proofs.BirthLemmas.{count_is, ends_inside, heap_is}
 use Rattle.policy_choice.specs.AllLaws.{AllHold}
 use Rattle.run_props.proofs.StartLemmas.{sound_start}
@@ -48,26 +48,26 @@ module _ (basis : Basis) (g : Picture) where
 
   -- ---- each of them, where it is chosen
 
-  pub seal_on : basis.choice.seal ≡ true → seal_view.is_on (choice_state basis g) ≡ true
+  pub seal_on : basis.choice.seal ≡ true → seal_lens.is_on (choice_state basis g) ≡ true
   seal_on on = on_if 0 basis.choice.seal on
 
-  pub seal_value : basis.choice.seal ≡ true → seal_view.value (choice_state basis g) ≡ 0
+  pub seal_value : basis.choice.seal ≡ true → seal_lens.value (choice_state basis g) ≡ 0
   seal_value on = value_if 0 basis.choice.seal 0 on
 
-  pub comp_on : basis.choice.comp ≡ true → comp_view.is_on (choice_state basis g) ≡ true
+  pub comp_on : basis.choice.comp ≡ true → comp_lens.is_on (choice_state basis g) ≡ true
   comp_on on = on_if (compartments_of g) basis.choice.comp on
 
-  pub comp_value : basis.choice.comp ≡ true → comp_view.value (choice_state basis g) ≡ compartments_of g
+  pub comp_value : basis.choice.comp ≡ true → comp_lens.value (choice_state basis g) ≡ compartments_of g
   comp_value on = value_if (compartments_of g) basis.choice.comp (first_compartments 0) on
 
-  pub flow_on : basis.choice.flow ≡ true → flow_view.is_on (choice_state basis g) ≡ true
+  pub flow_on : basis.choice.flow ≡ true → flow_lens.is_on (choice_state basis g) ≡ true
   flow_on on = on_if (map pair_of g.edges) basis.choice.flow on
 
-  pub flow_value : basis.choice.flow ≡ true → flow_view.value (choice_state basis g) ≡ map pair_of g.edges
+  pub flow_value : basis.choice.flow ≡ true → flow_lens.value (choice_state basis g) ≡ map pair_of g.edges
   flow_value on = value_if (map pair_of g.edges) basis.choice.flow [] on
 
-  pub heap_on : basis.choice.heap ≡ true → heap_view.is_on (choice_state basis g) ≡ true
+  pub heap_on : basis.choice.heap ≡ true → heap_lens.is_on (choice_state basis g) ≡ true
   heap_on on = on_if (heap_of g) basis.choice.heap on
 
-  pub heap_value : basis.choice.heap ≡ true → heap_view.value (choice_state basis g) ≡ heap_of g
+  pub heap_value : basis.choice.heap ≡ true → heap_lens.value (choice_state basis g) ≡ heap_of g
   heap_value on = value_if (heap_of g) basis.choice.heap (empty_heap 0 0) on

@@ -18,40 +18,40 @@ use Rattle.policy_choice.specs.All.{all}
 use Rattle.policy_choice.specs.AllLaws.{CompHolds, FlowHolds, HeapHolds, LastHold, RestHold, SealHolds, comp_keeps, flow_keeps, heap_keeps, last_keep, rest_keep, seal_keeps}
 use Rattle.policy_choice.proofs.AllLemmas.{comp_apart, flow_apart, seal_apart}
 use Rattle.policy_parts.specs.Part.{IsPart}
-use Rattle.policy_parts.specs.View.{left_view, on_view, right_view}
+use Rattle.policy_parts.specs.Lens.{left_lens, on_lens, right_lens}
 use Rattle.policy_parts.proofs.OnLemmas.{part_of_itself}
 use Rattle.policy_parts.proofs.PairLemmas.{part_of_left, part_of_right}
-use Rattle.run_props.specs.Views.{comp_view, flow_view, heap_view, seal_view}
+use Rattle.run_props.specs.Lenses.{comp_lens, flow_lens, heap_lens, seal_lens}
 
-pub seal_is_part : IsPart all sealing seal_view
+pub seal_is_part : IsPart all sealing seal_lens
 seal_is_part =
-    part_of_left (maybe sealing) (both (maybe compartments) (both (maybe flow) (maybe heap))) SealHolds RestHold seal_keeps rest_keep sealing (on_view Data 0)
+    part_of_left (maybe sealing) (both (maybe compartments) (both (maybe flow) (maybe heap))) SealHolds RestHold seal_keeps rest_keep sealing (on_lens Data 0)
     (part_of_itself sealing HasFewKeys sealing_laws Data 0 (λ v. refl))
 
-pub comp_is_part : IsPart all compartments comp_view
+pub comp_is_part : IsPart all compartments comp_lens
 comp_is_part =
     part_of_right (maybe sealing) (both (maybe compartments) (both (maybe flow) (maybe heap))) SealHolds RestHold seal_keeps rest_keep seal_apart
-    compartments (left_view (on_view compartment_tag.Plain (first_compartments 0)))
+    compartments (left_lens (on_lens compartment_tag.Plain (first_compartments 0)))
     (part_of_left (maybe compartments) (both (maybe flow) (maybe heap)) CompHolds LastHold comp_keeps last_keep
-    compartments (on_view compartment_tag.Plain (first_compartments 0))
+    compartments (on_lens compartment_tag.Plain (first_compartments 0))
     (part_of_itself compartments IsCount compartment_laws compartment_tag.Plain (first_compartments 0) (λ v. refl)))
 
-pub flow_is_part : IsPart all flow flow_view
+pub flow_is_part : IsPart all flow flow_lens
 flow_is_part =
     part_of_right (maybe sealing) (both (maybe compartments) (both (maybe flow) (maybe heap))) SealHolds RestHold seal_keeps rest_keep seal_apart
-    flow (right_view (left_view (on_view flow_tag.Plain [])))
+    flow (right_lens (left_lens (on_lens flow_tag.Plain [])))
     (part_of_right (maybe compartments) (both (maybe flow) (maybe heap)) CompHolds LastHold comp_keeps last_keep comp_apart
-    flow (left_view (on_view flow_tag.Plain []))
+    flow (left_lens (on_lens flow_tag.Plain []))
     (part_of_left (maybe flow) (maybe heap) FlowHolds HeapHolds flow_keeps heap_keeps
-    flow (on_view flow_tag.Plain [])
+    flow (on_lens flow_tag.Plain [])
     (part_of_itself flow HoldsAlways flow_laws flow_tag.Plain [] (λ v. refl))))
 
-pub heap_is_part : IsPart all heap heap_view
+pub heap_is_part : IsPart all heap heap_lens
 heap_is_part =
     part_of_right (maybe sealing) (both (maybe compartments) (both (maybe flow) (maybe heap))) SealHolds RestHold seal_keeps rest_keep seal_apart
-    heap (right_view (right_view (on_view Val (empty_heap 0 0))))
+    heap (right_lens (right_lens (on_lens Val (empty_heap 0 0))))
     (part_of_right (maybe compartments) (both (maybe flow) (maybe heap)) CompHolds LastHold comp_keeps last_keep comp_apart
-    heap (right_view (on_view Val (empty_heap 0 0)))
+    heap (right_lens (on_lens Val (empty_heap 0 0)))
     (part_of_right (maybe flow) (maybe heap) FlowHolds HeapHolds flow_keeps heap_keeps flow_apart
-    heap (on_view Val (empty_heap 0 0))
+    heap (on_lens Val (empty_heap 0 0))
     (part_of_itself heap IsHeap heap_laws Val (empty_heap 0 0) (λ v. refl))))

@@ -10,7 +10,7 @@ use Rattle.engine_trait.specs.Events.{Event}
 use Rattle.engine_trait.specs.Machine.{Machine}
 use Rattle.engine_trait.specs.Runs.{Item, Trace, run_along}
 use Rattle.policy_parts.specs.Part.{IsPart}
-use Rattle.policy_parts.specs.View.{View}
+use Rattle.policy_parts.specs.Lens.{Lens}
 use Rattle.part_turns.specs.Keeps.{Keeps, RunKeeps}
 use Rattle.part_turns.specs.Start.{first_machine}
 use Rattle.part_turns.proofs.RunLemmas.{runs_keep}
@@ -27,7 +27,7 @@ module _ (basis : Basis) (g : Picture) (feed : Tape) (items : List Item) where
   fed_run = run_along all (start_machine all (choice_state basis g) g) feed items
 
   -- v is the part's value at the start
-  pub part_keeps : {U V : Type 0} (m : PolicyModel U V) (l : View AllTag AllState U V) (invariant : List (Event U) → Machine V U → Type 0)
+  pub part_keeps : {U V : Type 0} (m : PolicyModel U V) (l : Lens AllTag AllState U V) (invariant : List (Event U) → Machine V U → Type 0)
       (guarantee : List (Event U) → Event U → Type 0) (v : V) → IsImage g → IsPart all m l → Keeps m invariant guarantee
       → l.is_on (choice_state basis g) ≡ true → l.value (choice_state basis g) ≡ v
       → invariant [] (first_machine m v (birth_of g) (memory_of g) g.entries) → RunKeeps l invariant guarantee fed_run

@@ -13,7 +13,7 @@ use Rattle.heap_policy.specs.declared.tag.HeapTag.{HeapTag}
 use Rattle.policy_trait.specs.Model.{PolicyModel}
 use Rattle.policy_choice.specs.All.{AllState, AllTag, all, choice_state, compartments_of, heap_of, pair_of}
 use Rattle.policy_parts.specs.Part.{IsPart}
-use Rattle.policy_parts.specs.View.{View}
+use Rattle.policy_parts.specs.Lens.{Lens}
 use Rattle.policy_choice.specs.declared.basis.Basis.{Basis}
 use Rattle.turn_steps.specs.Feeds.{Tape}
 use Rattle.engine_trait.specs.Events.{Event}
@@ -45,7 +45,7 @@ use Rattle.heap_runs.proofs.StartLemmas.{starts as heap_starts}
 use Rattle.heap_runs.proofs.TurnLemmas.{keeps as heap_keeps}
 use Rattle.run_props.specs.Invariant.{MeetsInvariant}
 use Rattle.run_props.specs.Safe.{MeetsInvariants, IsSafe, heap_top}
-use Rattle.run_props.specs.Views.{comp_view, events_by, flow_view, heap_view, seal_view}
+use Rattle.run_props.specs.Lenses.{comp_lens, events_by, flow_lens, heap_lens, seal_lens}
 use Rattle.run_props.proofs.BirthLemmas.{heap_told, owner_below, region_is}
 use Rattle.run_props.proofs.ChosenLemmas.{comp_on, comp_value, flow_on, flow_value, heap_on, heap_value, seal_on, seal_value, start_holds, start_sound}
 use Rattle.run_props.proofs.PartLemmas.{comp_is_part, flow_is_part, heap_is_part, seal_is_part}
@@ -61,9 +61,9 @@ module _ (basis : Basis) (g : Picture) (feed : Tape) (items : List Item) (is : I
   abbrev seal_guarantee : List (Event SealTag) → Event SealTag → Type 0
   seal_guarantee before event = SealTurn (key_book before) event
 
-  seal_keeps_run : basis.choice.seal ≡ true → RunKeeps seal_view SealInvariant seal_guarantee run
+  seal_keeps_run : basis.choice.seal ≡ true → RunKeeps seal_lens SealInvariant seal_guarantee run
   seal_keeps_run on =
-      part_keeps basis g feed items sealing seal_view SealInvariant seal_guarantee 0 is seal_is_part seal_keeps
+      part_keeps basis g feed items sealing seal_lens SealInvariant seal_guarantee 0 is seal_is_part seal_keeps
       (seal_on basis g on) (seal_value basis g on) (seal_starts (birth_of g) (memory_of g) g.entries (memory_words g is))
 
   abbrev comp_invariant : List (Event CompartmentTag) → Machine CompartmentState CompartmentTag → Type 0
@@ -72,9 +72,9 @@ module _ (basis : Basis) (g : Picture) (feed : Tape) (items : List Item) (is : I
   abbrev comp_guarantee : List (Event CompartmentTag) → Event CompartmentTag → Type 0
   comp_guarantee = CompTurn (birth_of g) g.entries
 
-  comp_keeps_run : basis.choice.comp ≡ true → RunKeeps comp_view comp_invariant comp_guarantee run
+  comp_keeps_run : basis.choice.comp ≡ true → RunKeeps comp_lens comp_invariant comp_guarantee run
   comp_keeps_run on =
-      part_keeps basis g feed items compartments comp_view comp_invariant comp_guarantee (compartments_of g) is comp_is_part
+      part_keeps basis g feed items compartments comp_lens comp_invariant comp_guarantee (compartments_of g) is comp_is_part
       (comp_keeps (birth_of g) g.entries) (comp_on basis g on) (comp_value basis g on)
       (comp_starts (birth_of g) (memory_of g) g.entries (compartments_of g) (λ n below. owner_below g (4 * n)))
 
@@ -87,9 +87,9 @@ module _ (basis : Basis) (g : Picture) (feed : Tape) (items : List Item) (is : I
   abbrev flow_guarantee : List (Event FlowTag) → Event FlowTag → Type 0
   flow_guarantee = FlowTurn (birth_of g) (memory_of g) edges
 
-  flow_keeps_run : basis.choice.flow ≡ true → RunKeeps flow_view flow_invariant flow_guarantee run
+  flow_keeps_run : basis.choice.flow ≡ true → RunKeeps flow_lens flow_invariant flow_guarantee run
   flow_keeps_run on =
-      part_keeps basis g feed items flow flow_view flow_invariant flow_guarantee edges is flow_is_part
+      part_keeps basis g feed items flow flow_lens flow_invariant flow_guarantee edges is flow_is_part
       (flow_keeps (birth_of g) (memory_of g) edges) (flow_on basis g on) (flow_value basis g on)
       (flow_starts (birth_of g) (memory_of g) g.entries edges)
 
@@ -99,10 +99,10 @@ module _ (basis : Basis) (g : Picture) (feed : Tape) (items : List Item) (is : I
   abbrev heap_guarantee : List (Event HeapTag) → Event HeapTag → Type 0
   heap_guarantee before event = HeapTurn g.heap_base (heap_top g) (block_book before) event
 
-  heap_keeps_run : basis.choice.heap ≡ true → RunKeeps heap_view heap_invariant heap_guarantee run
+  heap_keeps_run : basis.choice.heap ≡ true → RunKeeps heap_lens heap_invariant heap_guarantee run
   heap_keeps_run on =
       let region = region_is g is in
-      part_keeps basis g feed items heap heap_view heap_invariant heap_guarantee (heap_of g) is heap_is_part
+      part_keeps basis g feed items heap heap_lens heap_invariant heap_guarantee (heap_of g) is heap_is_part
       (heap_keeps g.heap_base (heap_top g)) (heap_on basis g on) (heap_value basis g on)
       (heap_starts (birth_of g) (memory_of g) g.entries g.heap_base g.heap_bytes region.aligned region.small (λ n below. heap_told g n))
 
@@ -111,12 +111,12 @@ module _ (basis : Basis) (g : Picture) (feed : Tape) (items : List Item) (is : I
   pub run_is_safe : IsSafe basis g run.events
   run_is_safe = record {
     seal = λ on. (seal_keeps_run on).guarantees;
-    comp = λ on. comp_law (birth_of g) g.entries (events_by comp_view run.events) (comp_keeps_run on).guarantees;
-    flow = λ on. flow_law (birth_of g) (memory_of g) edges (events_by flow_view run.events) (flow_keeps_run on).guarantees;
+    comp = λ on. comp_law (birth_of g) g.entries (events_by comp_lens run.events) (comp_keeps_run on).guarantees;
+    flow = λ on. flow_law (birth_of g) (memory_of g) edges (events_by flow_lens run.events) (flow_keeps_run on).guarantees;
     heap = λ on. (heap_keeps_run on).guarantees;
   }
 
-  meets_invariant : {U V : Type 0} (m : PolicyModel U V) (l : View AllTag AllState U V) (invariant : List (Event U) → Machine V U → Type 0)
+  meets_invariant : {U V : Type 0} (m : PolicyModel U V) (l : Lens AllTag AllState U V) (invariant : List (Event U) → Machine V U → Type 0)
       (guarantee : List (Event U) → Event U → Type 0) → IsPart all m l → l.is_on (choice_state basis g) ≡ true → RunKeeps l invariant guarantee run
       → MeetsInvariant l invariant (events_by l run.events) run.machine
   unfolding start_machine
@@ -127,8 +127,8 @@ module _ (basis : Basis) (g : Picture) (feed : Tape) (items : List Item) (is : I
 
   pub run_meets_invariant : MeetsInvariants basis g run.events run.machine
   run_meets_invariant = record {
-    seal = λ on. meets_invariant sealing seal_view SealInvariant seal_guarantee seal_is_part (seal_on basis g on) (seal_keeps_run on);
-    comp = λ on. meets_invariant compartments comp_view comp_invariant comp_guarantee comp_is_part (comp_on basis g on) (comp_keeps_run on);
-    flow = λ on. meets_invariant flow flow_view flow_invariant flow_guarantee flow_is_part (flow_on basis g on) (flow_keeps_run on);
-    heap = λ on. meets_invariant heap heap_view heap_invariant heap_guarantee heap_is_part (heap_on basis g on) (heap_keeps_run on);
+    seal = λ on. meets_invariant sealing seal_lens SealInvariant seal_guarantee seal_is_part (seal_on basis g on) (seal_keeps_run on);
+    comp = λ on. meets_invariant compartments comp_lens comp_invariant comp_guarantee comp_is_part (comp_on basis g on) (comp_keeps_run on);
+    flow = λ on. meets_invariant flow flow_lens flow_invariant flow_guarantee flow_is_part (flow_on basis g on) (flow_keeps_run on);
+    heap = λ on. meets_invariant heap heap_lens heap_invariant heap_guarantee heap_is_part (heap_on basis g on) (heap_keeps_run on);
   }

@@ -18,7 +18,7 @@ use Rattle.tag_memory.specs.Ram.{IsRam}
 use Rattle.turn_steps.specs.declared.stop.Stop.{Stop}
 use Rattle.engine_trait.specs.Machine.{IsCore, IsMachine, fresh_core}
 use Rattle.policy_parts.specs.Part.{IsPart}
-use Rattle.policy_parts.specs.View.{View}
+use Rattle.policy_parts.specs.Lens.{Lens}
 use Rattle.part_turns.specs.Maps.{seen_by}
 use Rattle.part_turns.specs.Start.{first_hart, first_machine}
 use Rattle.tag_loader.specs.Births.{birth_of}
@@ -84,7 +84,7 @@ module _ {T S : Type 0} (w : PolicyModel T S) (s : S) (g : Picture) (is : IsImag
 
 -- ---- the start as a part sees it
 
-module _ {T S U V : Type 0} (w : PolicyModel T S) (m : PolicyModel U V) (l : View T S U V) (part : IsPart w m l) (s : S) (g : Picture)
+module _ {T S U V : Type 0} (w : PolicyModel T S) (m : PolicyModel U V) (l : Lens T S U V) (part : IsPart w m l) (s : S) (g : Picture)
     (on : l.is_on s ≡ true) where
   hart_seen : (entry : ℕ) → hart_by l.tag (start_hart w s g entry) ≡ first_hart m (l.value s) (birth_of g) (memory_of g) g.entries entry
   hart_seen entry = λ j. fresh_hart entry (part.start_pc s (birth_of g entry) on j) (part.plain s on j)

@@ -8,11 +8,11 @@ use Rattle.engine_trait.specs.Machine.{IsMachine, Machine}
 use Rattle.engine_trait.specs.Runs.{Item, fed, run_along, turn}
 use Rattle.engine_trait.specs.Turn.{turn_of}
 use Rattle.policy_parts.specs.Part.{IsPart}
-use Rattle.policy_parts.specs.View.{View}
+use Rattle.policy_parts.specs.Lens.{Lens}
 use Rattle.part_turns.proofs.TurnLemmas.{turn_shown}
 use Rattle.policy_choice.specs.AllLaws.{AllHold, all_laws}
 
-module _ {U V : Type 0} (m : PolicyModel U V) (l : View AllTag AllState U V) (part : IsPart all m l) where
+module _ {U V : Type 0} (m : PolicyModel U V) (l : Lens AllTag AllState U V) (part : IsPart all m l) where
   pub record IsOn (s : Machine AllState AllTag) : Type 0 where
     pub sound : IsMachine all s
     pub valid : AllHold s.policy

@@ -17,7 +17,7 @@ use Rattle.shared_terms.proofs.CaseLemmas.{not_refused}
 use Rattle.shared_terms.proofs.StepLemmas.{ok_is}
 use Rattle.run_props.proofs.PartLemmas.{heap_is_part}
 use Rattle.run_props.specs.Attacks.{WouldZero}
-use Rattle.run_props.specs.Views.{heap_view}
+use Rattle.run_props.specs.Lenses.{heap_lens}
 
 -- the plan makes the words of the range zero
 abbrev Zeroes : {T : Type 0} → Plan T → Words → Type 0
@@ -52,28 +52,28 @@ module _ (state : HeapState) (a : Args HeapTag) (pc : HeapTag) (p : Plan HeapTag
       → Zeroes p (record { base = block.base; count = block.words })
   free_zeroes block live e = freed_by block (block.base == a.a0) (ap (plan_of_freeing a.a0 pc) (sym live) ∙ e)
 
-module _ (policy : AllState) (call : Call AllTag) (on : heap_view.is_on policy ≡ true) where
+module _ (policy : AllState) (call : Call AllTag) (on : heap_lens.is_on policy ≡ true) where
   -- the heap's own plan of a call of one of its services
   own_plan : (pc : AllTag) (plan : Plan AllTag) → heap_knows call.number ≡ true → all.plan policy call.number call.arguments pc ≡ Ok plan
-      → heap_plan (heap_view.value policy) call.number (args_by heap_view.tag call.arguments) (heap_view.tag pc) ≡ Ok (plan_by heap_view.tag plan)
+      → heap_plan (heap_lens.value policy) call.number (args_by heap_lens.tag call.arguments) (heap_lens.tag pc) ≡ Ok (plan_by heap_lens.tag plan)
   own_plan pc plan known e =
       by_owner (heap_is_part.plan policy call.number call.arguments pc plan on (heap_is_part.knows policy call.number on known) e)
     where
-      by_owner : Planned heap (heap_view.value policy) call.number (args_by heap_view.tag call.arguments) (heap_view.tag pc) (plan_by heap_view.tag plan)
-          → heap_plan (heap_view.value policy) call.number (args_by heap_view.tag call.arguments) (heap_view.tag pc) ≡ Ok (plan_by heap_view.tag plan)
+      by_owner : Planned heap (heap_lens.value policy) call.number (args_by heap_lens.tag call.arguments) (heap_lens.tag pc) (plan_by heap_lens.tag plan)
+          → heap_plan (heap_lens.value policy) call.number (args_by heap_lens.tag call.arguments) (heap_lens.tag pc) ≡ Ok (plan_by heap_lens.tag plan)
       by_owner (own knows service planned) = planned
       by_owner (others unknown service from_pc answers) = absurd (cc (known, unknown))
 
-  pub malloc_would : (base : ℕ) → call.number ≡ malloc_service → first_fit (heap_view.value policy).space (words_of call.arguments.a0) ≡ Some base
+  pub malloc_would : (base : ℕ) → call.number ≡ malloc_service → first_fit (heap_lens.value policy).space (words_of call.arguments.a0) ≡ Some base
       → WouldZero policy call (record { base = base; count = words_of call.arguments.a0 })
   malloc_would base is fit pc plan e =
-      malloc_zeroes (heap_view.value policy) (args_by heap_view.tag call.arguments) (heap_view.tag pc) (plan_by heap_view.tag plan) base fit
-      (ap (λ n. heap_plan (heap_view.value policy) n (args_by heap_view.tag call.arguments) (heap_view.tag pc)) (sym is)
+      malloc_zeroes (heap_lens.value policy) (args_by heap_lens.tag call.arguments) (heap_lens.tag pc) (plan_by heap_lens.tag plan) base fit
+      (ap (λ n. heap_plan (heap_lens.value policy) n (args_by heap_lens.tag call.arguments) (heap_lens.tag pc)) (sym is)
       ∙ own_plan pc plan (ap heap_knows is) e)
 
-  pub free_would : (block : Block) → call.number ≡ free_service → pointed_to (heap_view.value policy).space (heap_view.tag call.arguments.t0) ≡ Some block
+  pub free_would : (block : Block) → call.number ≡ free_service → pointed_to (heap_lens.value policy).space (heap_lens.tag call.arguments.t0) ≡ Some block
       → WouldZero policy call (record { base = block.base; count = block.words })
   free_would block is live pc plan e =
-      free_zeroes (heap_view.value policy) (args_by heap_view.tag call.arguments) (heap_view.tag pc) (plan_by heap_view.tag plan) block live
-      (ap (λ n. heap_plan (heap_view.value policy) n (args_by heap_view.tag call.arguments) (heap_view.tag pc)) (sym is)
+      free_zeroes (heap_lens.value policy) (args_by heap_lens.tag call.arguments) (heap_lens.tag pc) (plan_by heap_lens.tag plan) block live
+      (ap (λ n. heap_plan (heap_lens.value policy) n (args_by heap_lens.tag call.arguments) (heap_lens.tag pc)) (sym is)
       ∙ own_plan pc plan (ap heap_knows is) e)

@@ -1,5 +1,5 @@
 pub mod Attacks
 pub mod Ends
 pub mod Invariant
+pub mod Lenses
 pub mod Safe
-pub mod Views

@@ -18,7 +18,7 @@ use Rattle.flow_runs.specs.FlowSafe.{FlowSafe}
 use Rattle.heap_runs.specs.HeapInvariant.{HeapInvariant}
 use Rattle.heap_runs.specs.HeapSafe.{HeapSafe}
 use Rattle.run_props.specs.Invariant.{MeetsInvariant}
-use Rattle.run_props.specs.Views.{comp_view, events_by, flow_view, heap_view, seal_view}
+use Rattle.run_props.specs.Lenses.{comp_lens, events_by, flow_lens, heap_lens, seal_lens}
 
 -- the run of an image under the chosen policies, along any list of turns and fed bytes
 abbrev pub run_of : Basis → Picture → List Item → Trace AllState AllTag
@@ -33,14 +33,14 @@ module _ (basis : Basis) (g : Picture) where
   -- alone; the image's code alone is run, and each indirect jump is a listed edge; each heap access lies in its pointer's live
   -- block.
   pub record IsSafe (events : List (Event AllTag)) : Type 0 where
-    pub seal : basis.choice.seal ≡ true → SealSafe (events_by seal_view events)
-    pub comp : basis.choice.comp ≡ true → CompSafe (birth_of g) g.entries (events_by comp_view events)
-    pub flow : basis.choice.flow ≡ true → FlowSafe (birth_of g) (memory_of g) (map pair_of g.edges) (events_by flow_view events)
-    pub heap : basis.choice.heap ≡ true → HeapSafe g.heap_base (heap_top g) (events_by heap_view events)
+    pub seal : basis.choice.seal ≡ true → SealSafe (events_by seal_lens events)
+    pub comp : basis.choice.comp ≡ true → CompSafe (birth_of g) g.entries (events_by comp_lens events)
+    pub flow : basis.choice.flow ≡ true → FlowSafe (birth_of g) (memory_of g) (map pair_of g.edges) (events_by flow_lens events)
+    pub heap : basis.choice.heap ≡ true → HeapSafe g.heap_base (heap_top g) (events_by heap_lens events)
 
   -- a state that a run with these events came to is one of which the invariant of each chosen policy speaks
   pub record MeetsInvariants (events : List (Event AllTag)) (s : Machine AllState AllTag) : Type 0 where
-    pub seal : basis.choice.seal ≡ true → MeetsInvariant seal_view SealInvariant (events_by seal_view events) s
-    pub comp : basis.choice.comp ≡ true → MeetsInvariant comp_view (CompInvariant (birth_of g) g.entries) (events_by comp_view events) s
-    pub flow : basis.choice.flow ≡ true → MeetsInvariant flow_view (FlowInvariant (birth_of g) (memory_of g) (map pair_of g.edges)) (events_by flow_view events) s
-    pub heap : basis.choice.heap ≡ true → MeetsInvariant heap_view (HeapInvariant g.heap_base (heap_top g)) (events_by heap_view events) s
+    pub seal : basis.choice.seal ≡ true → MeetsInvariant seal_lens SealInvariant (events_by seal_lens events) s
+    pub comp : basis.choice.comp ≡ true → MeetsInvariant comp_lens (CompInvariant (birth_of g) g.entries) (events_by comp_lens events) s
+    pub flow : basis.choice.flow ≡ true → MeetsInvariant flow_lens (FlowInvariant (birth_of g) (memory_of g) (map pair_of g.edges)) (events_by flow_lens events) s
+    pub heap : basis.choice.heap ≡ true → MeetsInvariant heap_lens (HeapInvariant g.heap_base (heap_top g)) (events_by heap_lens events) s

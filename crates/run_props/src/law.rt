@@ -34,7 +34,7 @@ ghost use Rattle.run_props.specs.Attacks.{GoesAstray, MissesBlock, Trespasses, U
 ghost use Rattle.run_props.specs.Ends.{IsStopped};
 ghost use Rattle.run_props.specs.Invariant.{MeetsInvariant};
 ghost use Rattle.run_props.specs.Safe.{MeetsInvariants, IsSafe, heap_top, run_of};
-ghost use Rattle.run_props.specs.Views.{comp_view, events_by, flow_view, heap_view, seal_view};
+ghost use Rattle.run_props.specs.Lenses.{comp_lens, events_by, flow_lens, heap_lens, seal_lens};
 
 use compartment_policy::CompartmentTag;
 use flow_policy::FlowTag;
@@ -43,16 +43,16 @@ use sealing_policy::SealTag;
 
 /// Each of the four policies is a part of all of them together, wherever it is chosen.
 pub fn parts_law()
-    ensures seal { IsPart all sealing seal_view }
-    ensures comp { IsPart all compartments comp_view }
-    ensures flow { IsPart all flow flow_view }
-    ensures heap { IsPart all heap heap_view }
+    ensures seal { IsPart all sealing seal_lens }
+    ensures comp { IsPart all compartments comp_lens }
+    ensures flow { IsPart all flow flow_lens }
+    ensures heap { IsPart all heap heap_lens }
 {}
 
 /// Where sealing is chosen, along any list of turns and fed bytes, each unsealing used its key.
 pub fn seal_law()
     ensures { (basis : Basis) (g : Picture) (items : List Item) → IsImage g
-        → basis.choice.seal ≡ true → SealSafe (events_by seal_view (run_of basis g items).events) }
+        → basis.choice.seal ≡ true → SealSafe (events_by seal_lens (run_of basis g items).events) }
 {}
 
 /// Where compartments are chosen, along any list of turns and fed bytes, each store lies in its compartment's permitted
@@ -60,7 +60,7 @@ pub fn seal_law()
 pub fn comp_law()
     ensures { (basis : Basis) (g : Picture) (items : List Item) → IsImage g
         → basis.choice.comp ≡ true
-        → CompSafe (birth_of g) g.entries (events_by comp_view (run_of basis g items).events) }
+        → CompSafe (birth_of g) g.entries (events_by comp_lens (run_of basis g items).events) }
 {}
 
 /// Where control flow is chosen, along any list of turns and fed bytes, each hart runs the image's code alone, and each
@@ -69,7 +69,7 @@ pub fn flow_law()
     ensures { (basis : Basis) (g : Picture) (items : List Item) → IsImage g
         → basis.choice.flow ≡ true
         → FlowSafe (birth_of g) (memory_of g) (map pair_of g.edges)
-        (events_by flow_view (run_of basis g items).events) }
+        (events_by flow_lens (run_of basis g items).events) }
 {}
 
 /// Where heap safety is chosen, along any list of turns and fed bytes, each heap access lies in its pointer's live block.
@@ -77,7 +77,7 @@ pub fn heap_law()
     ensures { (basis : Basis) (g : Picture) (items : List Item) → IsImage g
         → basis.choice.heap ≡ true
         → HeapSafe g.heap_base (heap_top g)
-        (events_by heap_view (run_of basis g items).events) }
+        (events_by heap_lens (run_of basis g items).events) }
 {}
 
 /// Each run keeps what is said of each chosen policy, whatever bytes were there to be got at its start.
@@ -100,8 +100,8 @@ pub fn invariant_law()
 /// no exit.
 pub fn seal_attack_law()
     ensures { (events : List (Event SealTag)) (s : Machine AllState AllTag) (feed : Tape) (h : ℕ)
-        → MeetsInvariant seal_view SealInvariant events s → is_ready_in s.core h ≡ true
-        → UnsealsWithoutKey (event_with seal_view.tag (event_of all s feed h))
+        → MeetsInvariant seal_lens SealInvariant events s → is_ready_in s.core h ≡ true
+        → UnsealsWithoutKey (event_with seal_lens.tag (event_of all s feed h))
         → IsStopped (event_of all s feed h) }
 {}
 
@@ -111,7 +111,7 @@ pub fn seal_attack_law()
 pub fn comp_attack_law()
     ensures { (birth : ℕ → Birth) (entries : List ℕ) (events : List (Event CompartmentTag))
         (s : Machine AllState AllTag) (feed : Tape) (h : ℕ)
-        → MeetsInvariant comp_view (CompInvariant birth entries) events s → is_ready_in s.core h ≡ true
+        → MeetsInvariant comp_lens (CompInvariant birth entries) events s → is_ready_in s.core h ≡ true
         → Trespasses birth entries s.policy events (event_of all s feed h)
         → IsStopped (event_of all s feed h) }
 {}
@@ -120,12 +120,12 @@ pub fn comp_attack_law()
 /// that the pointer in a0 points to, whichever policies are chosen too.
 pub fn zeroing_law()
     ensures malloc { (policy : AllState) (call : Call AllTag) (base : ℕ)
-        → heap_view.is_on policy ≡ true → call.number ≡ malloc_service
-        → first_fit (heap_view.value policy).space (words_of call.arguments.a0) ≡ Some base
+        → heap_lens.is_on policy ≡ true → call.number ≡ malloc_service
+        → first_fit (heap_lens.value policy).space (words_of call.arguments.a0) ≡ Some base
         → WouldZero policy call (record { base = base; count = words_of call.arguments.a0 }) }
     ensures free { (policy : AllState) (call : Call AllTag) (block : Block)
-        → heap_view.is_on policy ≡ true → call.number ≡ free_service
-        → pointed_to (heap_view.value policy).space (heap_view.tag call.arguments.t0) ≡ Some block
+        → heap_lens.is_on policy ≡ true → call.number ≡ free_service
+        → pointed_to (heap_lens.value policy).space (heap_lens.tag call.arguments.t0) ≡ Some block
         → WouldZero policy call (record { base = block.base; count = block.words }) }
 {}
 
@@ -134,8 +134,8 @@ pub fn zeroing_law()
 pub fn flow_attack_law()
     ensures { (birth : ℕ → Birth) (words : List ℕ) (edges : List (ℕ × ℕ))
         (events : List (Event FlowTag)) (s : Machine AllState AllTag) (feed : Tape) (h : ℕ)
-        → MeetsInvariant flow_view (FlowInvariant birth words edges) events s → is_ready_in s.core h ≡ true
-        → GoesAstray birth words edges events (event_with flow_view.tag (event_of all s feed h))
+        → MeetsInvariant flow_lens (FlowInvariant birth words edges) events s → is_ready_in s.core h ≡ true
+        → GoesAstray birth words edges events (event_with flow_lens.tag (event_of all s feed h))
         → IsStopped (event_of all s feed h) }
 {}
 
@@ -143,9 +143,9 @@ pub fn flow_attack_law()
 /// memory by a pointer that does not reach its live block, or the heap by what is no pointer.
 pub fn heap_attack_law()
     ensures { (base top : ℕ) (events : List (Event HeapTag)) (s : Machine AllState AllTag)
-        (feed : Tape) (h : ℕ) → MeetsInvariant heap_view (HeapInvariant base top) events s
+        (feed : Tape) (h : ℕ) → MeetsInvariant heap_lens (HeapInvariant base top) events s
         → is_ready_in s.core h ≡ true
         → MissesBlock base top (block_book events)
-        (event_with heap_view.tag (event_of all s feed h))
+        (event_with heap_lens.tag (event_of all s feed h))
         → IsStopped (event_of all s feed h) }
 {}

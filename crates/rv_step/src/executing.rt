@@ -60,8 +60,11 @@ pub fn exec(instr: &Instr, pc: u32, a: u32, b: u32) -> Effect
     }
 }
 
+// Effects of each kind. They have hints alone: were they always inlined, in some forty cases, what looks ahead, and an engine's turn
+// with it, would be too large for the compiler to inline, and that costs a turn much more.
+
 // The effect of going on to the next instruction, and nothing else.
-#[inline(always)]
+#[inline]
 fn pass(pc: u32) -> Effect
     ensures { result ≡ passes pc }
 {
@@ -73,7 +76,7 @@ fn pass(pc: u32) -> Effect
     }
 }
 
-#[inline(always)]
+#[inline]
 fn compute(pc: u32, value: u32) -> Effect
     ensures { result ≡ computes pc value }
 {
@@ -83,7 +86,7 @@ fn compute(pc: u32, value: u32) -> Effect
     }
 }
 
-#[inline(always)]
+#[inline]
 fn jump(pc: u32, target: u32) -> Effect
     ensures { result ≡ jumps pc target }
 {
@@ -95,7 +98,7 @@ fn jump(pc: u32, target: u32) -> Effect
     }
 }
 
-#[inline(always)]
+#[inline]
 fn branch(pc: u32, offset: u32, taken: bool) -> Effect
     ensures { result ≡ branches pc offset taken }
 {
@@ -112,7 +115,7 @@ fn branch(pc: u32, offset: u32, taken: bool) -> Effect
     }
 }
 
-#[inline(always)]
+#[inline]
 fn load(pc: u32, addr: u32, width: Width, signed: bool) -> Effect
     ensures { result ≡ loads pc addr width signed }
 {
@@ -126,7 +129,7 @@ fn load(pc: u32, addr: u32, width: Width, signed: bool) -> Effect
     }
 }
 
-#[inline(always)]
+#[inline]
 fn store(pc: u32, addr: u32, width: Width, value: u32) -> Effect
     ensures { result ≡ stores pc addr width value }
 {

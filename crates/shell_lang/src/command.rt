@@ -3,7 +3,7 @@
 use crate::values::{Bytes, Digits};
 
 /// What a line asks for: a command with its operands in their order.
-#[derive(Debug, Drop)]
+#[derive(Drop)]
 pub enum Command {
     /// Nothing: a line without words.
     Blank,

@@ -6,7 +6,7 @@ use arrayvec::ArrayVec;
 use std::marker::Model;
 
 /// The digits of an operand, each by its value, of which a line can hold no more than 256.
-#[derive(Debug, Drop)]
+#[derive(Drop)]
 pub struct Digits {
     values: ArrayVec<u8, 256>,
 }
@@ -37,7 +37,7 @@ impl Digits {
 }
 
 /// The bytes of an operand, of which a line can hold no more than 128.
-#[derive(Debug, Drop)]
+#[derive(Drop)]
 pub struct Bytes {
     values: ArrayVec<u8, 128>,
 }

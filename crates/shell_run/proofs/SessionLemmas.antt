@@ -1,5 +1,6 @@
 -- What becomes of a session, by its end and by its commands.
-use Rattle.std.proofs.Common.{◌≡◌, ℕ, Bool, true, false, nat_lt, inl, inr, List, [], ◌∷◌, length, Option, Some, Result, Ok, Err, IfErr, if◌then◌else◌, refl, subst}
+use Rattle.std.proofs.Common.{◌≡◌, ℕ, ◌<◌, Bool, true, false, nat_lt, inl, inr, List, [], ◌∷◌, length, Option, Some, None, Result, Ok, Err, IfErr, IfSome, OnOk, if◌then◌else◌, refl, ap, sym, subst}
+use Rattle.std.proofs.lemmas.Bool.{lt-ltb}
 use Rattle.std.specs.List.{list_all}
 use Rattle.host_io.specs.Pieces.{out}
 use Rattle.policy_trait.specs.Model.{PolicyModel}
@@ -10,9 +11,9 @@ use Rattle.shell_turns.specs.Order.{Order, listed, only, rounds_from}
 use Rattle.shell_turns.specs.Turns.{Leaves, turns}
 use Rattle.shell_turns.specs.declared.ends.ObeyEnd.{ObeyEnd}
 use Rattle.shell_turns.proofs.PutLemmas.{gives, puts_as}
-use Rattle.shell_run.specs.Lines.{turns_line}
-use Rattle.shell_run.specs.Replies.{IsCut, IsCutInCount, Reply, breaking, reply_if, clearing, is_kept, reply_to, running, silent, with_break}
-use Rattle.shell_run.specs.Session.{SessionState, is_hart, is_place, is_range}
+use Rattle.shell_run.specs.Lines.{refusal_line, turns_line}
+use Rattle.shell_run.specs.Replies.{CutAs, IsCut, IsCutInCount, Reply, breaking, reply_if, clearing, is_kept, reply_to, running, silent, telling, with_break}
+use Rattle.shell_run.specs.Session.{SessionState, ending, is_hart, is_place, is_range}
 
 -- ---- turns that are cut short
 
@@ -81,3 +82,51 @@ module _ {S T : Type 0} (s : SessionState S T) where
     ended_stays (command.Clear a) = checked_lives (is_place s a) (clearing s a) refl
     ended_stays command.Reset = refl
     ended_stays command.Quit = refl
+
+-- ---- a breakpoint
+
+module _ {S T : Type 0} (s : SessionState S T) (a : ℕ) where
+  abbrev break_reply : Bool → Bool → Reply S T
+  break_reply kept room = if kept then silent s else reply_if s room (record { after = with_break s a; pieces = [] })
+
+  -- one that is kept already
+  pub break_there : is_kept s a ≡ true → breaking s a ≡ silent s
+  break_there kept = ap (λ test. break_reply test (nat_lt (length s.breaks) 64)) kept
+
+  -- a new one, for which there is room
+  pub break_more : is_kept s a ≡ false → length s.breaks < 64 → breaking s a ≡ record { after = with_break s a; pieces = [] }
+  break_more kept few = λ j. break_reply (kept j) (lt-ltb (length s.breaks) 64 few j)
+
+  -- a 65th
+  pub break_full : is_kept s a ≡ false → length s.breaks ≡ 64 → breaking s a ≡ telling s (out (refusal_line 4) ∷ [])
+  break_full kept full = λ j. break_reply (kept j) ((ap (λ n. nat_lt n 64) full) j)
+
+-- what is said of an answer whatever it is
+pub at_ok : {A E : Type 0} (r : Result A E) (P : Type 0) → P → OnOk r P
+at_ok (Ok x) P holds = holds
+at_ok (Err end) P holds = tt
+
+pub at_err : {A E : Type 0} (r : Result A E) (P : E → Type 0) → ((end : E) → P end) → IfErr r P
+at_err (Ok x) P holds = tt
+at_err (Err end) P holds = holds end
+
+-- ---- a session by its end
+
+-- what is said of a session that had ended so, and of one that goes on
+pub some_told : {A : Type 0} (o : Option A) (x : A) (P : A → Type 0) → o ≡ Some x → P x → IfSome o P
+some_told o x P is holds = subst (λ known. IfSome known P) (sym is) holds
+
+pub none_told : {A : Type 0} (o : Option A) (P : A → Type 0) → o ≡ None → IfSome o P
+none_told o P is = subst (λ known. IfSome known P) (sym is) tt
+
+module _ {S T : Type 0} (eq : T → T → Bool) (m : PolicyModel T S) (s : SessionState S T) (old new : Option (List ℕ)) (end : ObeyEnd) where
+  cut_beside : (asked : Option (ℕ × Order)) (t : SessionState S T) → CutAs eq m s asked t old new end → CutAs eq m (ending s end) asked (ending t end) old new end
+  cut_beside None t cut = cut
+  cut_beside (Some asked) t cut = cut
+
+  -- a session that ends as its command was cut short
+  pub cut_ends : (asked : Option (ℕ × Order)) (t u : SessionState S T) → u ≡ t → IsCut eq m s asked t old new end
+      → IsCut eq m (ending s end) asked (ending u end) old new end
+  cut_ends asked t u same cut =
+      subst (λ (v : SessionState S T). IsCut eq m (ending s end) asked (ending v end) old new end) (sym same)
+      (record { start = cut.start; breaks = cut.breaks; ended = refl; cut = cut_beside asked t cut.cut })

@@ -1,8 +1,8 @@
 //! Sources, each with where its lines and names lie, or with its error.
 
-use asm_names::Names;
 use asm_places::{layout_of, names_of};
 use asm_read::{AsmEnd, Line, read_source};
+use asm_words::Names;
 use std::alloc::{AllocError, Global};
 use std::process::Abort;
 use std::test::Fail;

@@ -2,10 +2,9 @@
 
 use crate::answers::is_word;
 use asm_laws::reassembly_law;
-use asm_names::Names;
 use asm_read::{AsmErrorKind, line_of};
 use asm_show::show_instr;
-use asm_words::{Emission, emission_of};
+use asm_words::{Emission, Names, emission_of};
 use pump_words::Line;
 use std::alloc::Global;
 

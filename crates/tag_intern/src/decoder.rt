@@ -25,9 +25,6 @@ impl<T: TagTable> TagMap for Decoder<'_, T> {
 
     #[inline(always)]
     fn image(&self, word: u32) -> T::Tag {
-        if word < self.tags.len() {
-            return self.tags.tag_of(word);
-        }
-        self.plain
+        self.tags.tag_or(word, self.plain)
     }
 }

@@ -48,8 +48,13 @@ impl<T: Same> TagTable for Interner<T> {
         Some(word as u32)
     }
 
-    fn tag_of(&self, word: u32) -> T {
-        self.tags.as_slice()[word as usize]
+    #[inline(always)]
+    fn tag_or(&self, word: u32, other: T) -> T {
+        self.tags
+            .as_slice()
+            .get(word as usize)
+            .copied()
+            .unwrap_or(other)
     }
 
     fn intern(&mut self, tag: T) -> Result<u32, InternEnd> {

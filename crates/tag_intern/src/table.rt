@@ -3,6 +3,7 @@
 ghost use Rattle.std.specs.Prelude.{◌≡◌, ℕ, ◌<◌, ◌≤◌, ◌↔◌, Contains, Err, IfOk, IsNone, IsOk, OnErr, OnOk, Some, length, slice_get};
 ghost use Rattle.engine_trait.specs.Accounts.{with_tag};
 ghost use Rattle.tag_intern.specs.Table.{Extends, IsTable, cut_to, empty_table, table_after};
+ghost use Rattle.tag_intern.specs.Words.{tag_at};
 
 use pump_words::Same;
 use std::alloc::{AllocError, Global};
@@ -45,10 +46,9 @@ pub trait TagTable: Drop {
             ↔ (slice_get (state self.now).tags word ≡ Some tag.now) }
         ensures missing { IsNone result ↔ (¬ Contains (state self.now).tags tag.now) };
 
-    /// The tag of a word.
-    fn tag_of(&self, word: u32) -> Self::Tag
-        requires { word < length (state self.now).tags }
-        ensures { slice_get (state self.now).tags word ≡ Some result };
+    /// The tag of a word, and another where no tag has that word.
+    fn tag_or(&self, word: u32, other: Self::Tag) -> Self::Tag
+        ensures { result ≡ tag_at other (state self.now).tags word };
 
     /// The word of a tag, which goes to the end where it is new. It is refused as `Full` exactly where it is new and as
     /// many have words as may; a tag that has a word is never refused. A refusal changes nothing.

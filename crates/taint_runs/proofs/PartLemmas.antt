@@ -1,7 +1,7 @@
 -- What taint is a part of.
 use Rattle.std.proofs.Common.{◌≡◌, ℕ, true, false, Option, Some, None, refl, arith}
 use Rattle.policy_parts.specs.Part.{IsPart}
-use Rattle.policy_parts.specs.View.{on_view, right_view}
+use Rattle.policy_parts.specs.Lens.{on_lens, right_lens}
 use Rattle.policy_parts.proofs.OnLemmas.{part_of_itself}
 use Rattle.policy_parts.proofs.PairLemmas.{part_of_right}
 use Rattle.policy_product.specs.Both.{IsApart, both}
@@ -14,12 +14,12 @@ use Rattle.taint_policy.specs.Taint.{HoldsAlways, taint}
 use Rattle.taint_policy.specs.TaintLaws.{taint_laws}
 use Rattle.taint_policy.specs.declared.policy.Taint.{Taint}
 use Rattle.taint_policy.specs.declared.tag.TaintTag.TheVariants.{Clean}
-use Rattle.taint_runs.specs.Whole.{whole_view}
+use Rattle.taint_runs.specs.Whole.{whole_lens}
 
 unknown : {P : Type 0} → false ≡ true → P
 unknown e = absurd cc
 
-pub part_alone : IsPart taint taint whole_view
+pub part_alone : IsPart taint taint whole_lens
 part_alone = record {
   plain = λ s on. refl;
   room = λ s on. omega arith;
@@ -42,8 +42,8 @@ offers_none (Some policy) k = refl
 apart : (s : Maybe ℕ) (r : Maybe Taint) → IsApart (maybe sealing) (maybe taint) s r
 apart s r k owned = offers_none r.part k
 
-pub part_of_pair : (policy : Taint) → IsPart (both (maybe sealing) (maybe taint)) taint (right_view (on_view Clean policy))
+pub part_of_pair : (policy : Taint) → IsPart (both (maybe sealing) (maybe taint)) taint (right_lens (on_lens Clean policy))
 part_of_pair policy =
     part_of_right (maybe sealing) (maybe taint) (MaybeHolds HasFewKeys) (MaybeHolds HoldsAlways)
-    (maybe_laws sealing HasFewKeys sealing_laws) (maybe_laws taint HoldsAlways taint_laws) apart taint (on_view Clean policy)
+    (maybe_laws sealing HasFewKeys sealing_laws) (maybe_laws taint HoldsAlways taint_laws) apart taint (on_lens Clean policy)
     (part_of_itself taint HoldsAlways taint_laws Clean policy (λ v. refl))

@@ -8,10 +8,13 @@ use tag_intern::{InternEnd, Interner, TagTable};
 enum Call {
     Intern(u32, Result<u32, InternEnd>),
     WordOf(u32, Option<u32>),
-    TagOf(u32, u32),
+    TagOr(u32, u32),
     Len(u32),
     Cut(u32),
 }
+
+/// What a word that no tag has is read as.
+const OTHER: u32 = 90;
 
 /// The calls on a table for three tags, in order.
 const CALLS: &[Call] = &[
@@ -28,15 +31,16 @@ const CALLS: &[Call] = &[
     Call::Len(3),
     Call::WordOf(60, Some(2)),
     Call::WordOf(40, None),
-    Call::TagOf(0, 70),
-    Call::TagOf(2, 60),
+    Call::TagOr(0, 70),
+    Call::TagOr(2, 60),
     // the last two lose their words, and one gets another
     Call::Cut(1),
     Call::Len(1),
     Call::WordOf(70, Some(0)),
     Call::WordOf(50, None),
+    Call::TagOr(2, OTHER),
     Call::Intern(60, Ok(1)),
-    Call::TagOf(1, 60),
+    Call::TagOr(1, 60),
     Call::Cut(0),
     Call::Len(0),
 ];
@@ -55,7 +59,7 @@ fn answers_as_stated<T: TagTable<Tag = u32>>(table: &mut T, call: Call) -> bool 
     match call {
         Call::Intern(tag, word) => table.intern(tag) == word,
         Call::WordOf(tag, word) => table.word_of(&tag) == word,
-        Call::TagOf(word, tag) => word < table.len() && table.tag_of(word) == tag,
+        Call::TagOr(word, tag) => table.tag_or(word, OTHER) == tag,
         Call::Len(len) => table.len() == len,
         Call::Cut(len) => {
             let within = len <= table.len();

@@ -14,8 +14,8 @@ asked_hit : (g : Over) (c : goal.In-Some g)
 asked_hit g c = record {
   laws = g.met.T.Tag.Eq.laws;
   exact = g.met.T.Tag.Same.same;
-  law = c.ignores.ensures.law;
-  key_is = ap (λ words. record { group = c.args.group; words = words }) (c.masked.ensures ∙ ap (λ mask. masked_inputs mask 0 c.args.words) c.ignores.ensures.mask);
+  law = c.mask.ensures.law;
+  key_is = ap (λ words. record { group = c.args.group; words = words }) (c.masked.ensures ∙ ap (λ mask. masked_inputs mask 0 c.args.words) c.mask.ensures.mask);
   distinct = c.len-len.ensures.sound.distinct;
   plain_word = c.requires.plain_word;
   in_words = c.requires.in_words;
@@ -52,8 +52,8 @@ asked_miss : (g : Over) (c : goal.After-missed g)
 asked_miss g c = record {
   laws = g.met.T.Tag.Eq.laws;
   exact = g.met.T.Tag.Same.same;
-  law = c.ignores.ensures.law;
-  key_is = ap (λ words. record { group = c.args.group; words = words }) (c.masked.ensures ∙ ap (λ mask. masked_inputs mask 0 c.args.words) c.ignores.ensures.mask);
+  law = c.mask.ensures.law;
+  key_is = ap (λ words. record { group = c.args.group; words = words }) (c.masked.ensures ∙ ap (λ mask. masked_inputs mask 0 c.args.words) c.mask.ensures.mask);
   distinct = c.len-len.ensures.sound.distinct;
   plain_word = c.requires.plain_word;
   in_words = c.requires.in_words;

@@ -1,7 +1,7 @@
 use Rattle.std.proofs.Common.{Some, refl}
 use Rattle.pump_line.specs.Told.{texts_of, task_value}
 use Rattle.pump_cli.specs.Facts.{status_in}
-use Rattle.pump_cli.proofs.WayLemmas.{asked_as, words_refused, words_unread}
+use Rattle.pump_cli.proofs.WordWayLemmas.{asked_as, words_refused, words_unread}
 use Rattle.pump_cli.proofs.program.run_words.Goals as goal
 
 pub returns-in-Ok : goal.returns-in-Ok

@@ -1,4 +1,4 @@
-use Rattle.std.proofs.Common.{◌≡◌, codes, ap, subst, sym, arith, rules}
+use Rattle.std.proofs.Common.{◌≡◌, codes, subst, sym, arith, rules}
 use Rattle.std.proofs.lemmas.Slice.Eq.{text_from_reads}
 use Rattle.std.specs.Prelude.{Some}
 use Rattle.shell_lang.specs.Grammar.{hart_view}

@@ -1,15 +1,19 @@
-use Rattle.std.proofs.Common.{rules, arith, ◌≡◌, ◌≤◌, ℕ, List, [], ◌++◌, Bool, true, false, drop, length, take, Ok, Err, IfSome, refl, ap, sym, subst, ◌∙◌}
+use Rattle.std.proofs.Common.{arith, ◌≡◌, ◌≤◌, ◌+◌, ℕ, List, [], ◌++◌, Bool, true, false, drop, length, take, Option, Ok, Err, IfSome, refl, ap, sym, subst, ◌∙◌}
 use Rattle.std.specs.Io.KnownBytes.{IsAtEnd, prepend_known}
+use Rattle.host_io.specs.Causes.{Rose}
+use Rattle.host_io.specs.Prefixes.{LosesPrefix}
 use Rattle.std.proofs.lemmas.List.{length-append, length-drop, length-take}
-use Rattle.host_io.proofs.ReadingLemmas.{prepend_known-append}
+use Rattle.host_io.proofs.ReadingLemmas.{prepend_known-append, two_prefixes}
 use Rattle.shell_lang.specs.Stream.{answers_along, end_answer, onto_answers}
-use Rattle.shell_turns.specs.Cuts.{PutsOut}
+use Rattle.shell_turns.specs.Cuts.{ObeyCause, PutsOut}
+use Rattle.shell_turns.specs.declared.ends.ObeyEnd.{ObeyEnd}
 use Rattle.shell_turns.specs.declared.ends.ObeyEnd.TheVariants as obey_end
-use Rattle.shell_turns.proofs.PutLemmas.{done, fails, gives, puts_as, puts_cut_with, puts_prefix, puts_nothing, puts_with, whole}
+use Rattle.shell_turns.proofs.PutLemmas.{broken, done, fails, gives, puts_as, puts_cut_with, puts_prefix, puts_nothing, puts_with, whole}
 use Rattle.shell_script.specs.Scripts.{Ends, Script, script}
-use Rattle.shell_script.specs.Shell.{Shell, ShellCause, ShellEnds, at_the_end, shell_of}
+use Rattle.shell_script.specs.Shell.{Shell, ShellCause, ShellEnds, ShellFaults, at_the_end, shell_of}
 use Rattle.shell_script.specs.declared.reading.ShellCut.{ShellCut}
 use Rattle.shell_script.specs.declared.reading.ShellCut.TheVariants.{Obey, ReadFailed}
+use Rattle.shell_script.specs.declared.reading.ShellEnd.{ShellEnd}
 use Rattle.shell_script.specs.declared.reading.ShellEnd.TheVariants.{Quit, TooLong}
 use Rattle.shell_script.proofs.LineLemmas.{answers_of_none, line_of_none}
 use Rattle.shell_script.proofs.ScriptLemmas.{script_none}
@@ -51,7 +55,7 @@ returns-in-Ok-eq0-clause-done g c =
     let old = g.K.Sink.taken c.args.out.now in
     let put = g.K.Sink.taken c.loop-session.out in
     let t = c.finish.new.session in
-    let ends : IsAtEnd mid = c.read.ensures.end (search rules) (search rules) in
+    let ends : IsAtEnd mid = c.read.ensures.end (c.in-Ok-eq0.is ∙ ap Ok c.in-Ok-eq0.field-0-test) (omega arith) in
     let within = i.within in
     ok_map c.finish.result (λ end. ShellEnds (at_the_end (script eq m now (onto_answers (end_answer c.loop-session.lines) []))) t end)
     (λ end. IfSome left (λ bytes. ShellEnds (shell_of eq m limit s bytes) t end))
@@ -74,7 +78,7 @@ returns-in-Ok-eq0-clause-puts g c =
     let old = g.K.Sink.taken c.args.out.now in
     let put = g.K.Sink.taken c.loop-session.out in
     let new = g.K.Sink.taken c.finish.new.out in
-    let ends : IsAtEnd mid = c.read.ensures.end (search rules) (search rules) in
+    let ends : IsAtEnd mid = c.read.ensures.end (c.in-Ok-eq0.is ∙ ap Ok c.in-Ok-eq0.field-0-test) (omega arith) in
     let within = i.within in
     told_at_end left i.taken mid (λ bytes. PutsOut old new (shell_of eq m limit s bytes).pieces c.finish.result) i.moved ends
     (done_puts eq m limit s i.taken within now i.ends old put new c.finish.result i.puts
@@ -127,12 +131,12 @@ returns-in-Ok-true-clause-done g c =
     let prefix = take k buffer in
     let back = drop k (take count buffer) in
     let new = g.K.Sink.taken c.obey_bytes.new.out in
-    let few : k ≤ count = grind (arith, c.min.ensures) in
-    let room : k ≤ c.loop-session.room = grind (arith, c.min.ensures) in
+    let few : k ≤ count = omega (arith, c.min.ensures) in
+    let room : k ≤ c.loop-session.room = omega (arith, c.min.ensures) in
     let within : length (i.taken ++ prefix) ≤ limit = omega (arith, length-append i.taken prefix, length-take k buffer, room, i.room) in
     let moved : mid ≡ prepend_known (take count buffer) rest = c.in-Ok.ensures.moved in
     let t = c.obey_bytes.new.session in
-    let ends : Ends (script eq m now (answers_along c.loop-session.lines prefix)) t true = search rules in
+    let ends : Ends (script eq m now (answers_along c.loop-session.lines prefix)) t true = subst (Ends (script eq m now (answers_along c.loop-session.lines prefix)) t) c.in-Ok-true.field-0-test c.in-Ok-true.ensures.done in
     told_in left i.taken (take count buffer) prefix back mid rest (λ bytes. ShellEnds (shell_of eq m limit s bytes) t Quit) i.moved moved
     (prefix_back count k buffer few) λ more is.
     shell_quits eq m limit s (i.taken ++ prefix) (back ++ more) within t (piece_ends eq m limit s i.taken prefix c.loop-session.lines i.lines now i.ends t true ends)
@@ -156,13 +160,14 @@ returns-in-Ok-true-clause-puts g c =
     let prefix = take k buffer in
     let back = drop k (take count buffer) in
     let new = g.K.Sink.taken c.obey_bytes.new.out in
-    let few : k ≤ count = grind (arith, c.min.ensures) in
-    let room : k ≤ c.loop-session.room = grind (arith, c.min.ensures) in
+    let few : k ≤ count = omega (arith, c.min.ensures) in
+    let room : k ≤ c.loop-session.room = omega (arith, c.min.ensures) in
     let within : length (i.taken ++ prefix) ≤ limit = omega (arith, length-append i.taken prefix, length-take k buffer, room, i.room) in
     let moved : mid ≡ prepend_known (take count buffer) rest = c.in-Ok.ensures.moved in
     let t = c.obey_bytes.new.session in
-    let ends : Ends (script eq m now (answers_along c.loop-session.lines prefix)) t true = search rules in
-    let puts : PutsOut put new (script eq m now (answers_along c.loop-session.lines prefix)).pieces (gives true) = search rules in
+    let ends : Ends (script eq m now (answers_along c.loop-session.lines prefix)) t true = subst (Ends (script eq m now (answers_along c.loop-session.lines prefix)) t) c.in-Ok-true.field-0-test c.in-Ok-true.ensures.done in
+    let puts : PutsOut put new (script eq m now (answers_along c.loop-session.lines prefix)).pieces (gives true) =
+    puts_as put new (script eq m now (answers_along c.loop-session.lines prefix)).pieces c.in-Ok-true.field-0 true c.in-Ok-true.ensures.puts in
     told_in left i.taken (take count buffer) prefix back mid rest (λ bytes. PutsOut old new (shell_of eq m limit s bytes).pieces (Ok Quit)) i.moved moved
     (prefix_back count k buffer few) λ more is.
     subst (λ pieces. PutsOut old new pieces (whole ShellCut Quit))
@@ -189,12 +194,12 @@ returns-in-Err-obey_bytes-clause-puts g c =
     let prefix = take k buffer in
     let back = drop k (take count buffer) in
     let new = g.K.Sink.taken c.obey_bytes.new.out in
-    let few : k ≤ count = grind (arith, c.min.ensures) in
-    let room : k ≤ c.loop-session.room = grind (arith, c.min.ensures) in
+    let few : k ≤ count = omega (arith, c.min.ensures) in
+    let room : k ≤ c.loop-session.room = omega (arith, c.min.ensures) in
     let within : length (i.taken ++ prefix) ≤ limit = omega (arith, length-append i.taken prefix, length-take k buffer, room, i.room) in
     let moved : mid ≡ prepend_known (take count buffer) rest = c.in-Ok.ensures.moved in
     let end = c.in-Err-obey_bytes.end in
-    let puts : PutsOut put new (script eq m now (answers_along c.loop-session.lines prefix)).pieces (fails Bool end) = search rules in
+    let puts : PutsOut put new (script eq m now (answers_along c.loop-session.lines prefix)).pieces (fails Bool end) = c.in-Err-obey_bytes.ensures.puts in
     told_in left i.taken (take count buffer) prefix back mid rest (λ bytes. PutsOut old new (shell_of eq m limit s bytes).pieces (Err (Obey end))) i.moved moved
     (prefix_back count k buffer few) λ more is.
     puts_cut_with Bool _ old new (shell_of eq m limit s (i.taken ++ prefix ++ (back ++ more))).pieces end (Obey end)
@@ -220,14 +225,14 @@ returns-then-count-room-clause-done g c =
     let prefix = take k buffer in
     let back = drop k (take count buffer) in
     let new = g.K.Sink.taken c.obey_bytes.new.out in
-    let few : k ≤ count = grind (arith, c.min.ensures) in
-    let room : k ≤ c.loop-session.room = grind (arith, c.min.ensures) in
+    let few : k ≤ count = omega (arith, c.min.ensures) in
+    let room : k ≤ c.loop-session.room = omega (arith, c.min.ensures) in
     let within : length (i.taken ++ prefix) ≤ limit = omega (arith, length-append i.taken prefix, length-take k buffer, room, i.room) in
     let moved : mid ≡ prepend_known (take count buffer) rest = c.in-Ok.ensures.moved in
     let t = c.obey_bytes.new.session in
-    let more_ends : Ends (script eq m now (answers_along c.loop-session.lines prefix)) t false = search rules in
+    let more_ends : Ends (script eq m now (answers_along c.loop-session.lines prefix)) t false = subst (Ends (script eq m now (answers_along c.loop-session.lines prefix)) t) c.in-Ok-false.field-0-test c.in-Ok-false.ensures.done in
     let ends = piece_ends eq m limit s i.taken prefix c.loop-session.lines i.lines now i.ends t false more_ends in
-    let over : k ≡ c.loop-session.room = grind (arith, c.min.ensures) in
+    let over : k ≡ c.loop-session.room = omega (arith, c.min.ensures) in
     let fits : count ≤ length buffer = grind (arith, c.read.ensures.within) in
     let full : length (i.taken ++ prefix) ≡ limit = omega (arith, length-append i.taken prefix, length-take k buffer, over, few, fits, i.room) in
     let longer : (more : List ℕ) → 1 ≤ length (back ++ more)
@@ -259,15 +264,16 @@ returns-then-count-room-clause-puts g c =
     let prefix = take k buffer in
     let back = drop k (take count buffer) in
     let new = g.K.Sink.taken c.obey_bytes.new.out in
-    let few : k ≤ count = grind (arith, c.min.ensures) in
-    let room : k ≤ c.loop-session.room = grind (arith, c.min.ensures) in
+    let few : k ≤ count = omega (arith, c.min.ensures) in
+    let room : k ≤ c.loop-session.room = omega (arith, c.min.ensures) in
     let within : length (i.taken ++ prefix) ≤ limit = omega (arith, length-append i.taken prefix, length-take k buffer, room, i.room) in
     let moved : mid ≡ prepend_known (take count buffer) rest = c.in-Ok.ensures.moved in
     let t = c.obey_bytes.new.session in
-    let more_ends : Ends (script eq m now (answers_along c.loop-session.lines prefix)) t false = search rules in
+    let more_ends : Ends (script eq m now (answers_along c.loop-session.lines prefix)) t false = subst (Ends (script eq m now (answers_along c.loop-session.lines prefix)) t) c.in-Ok-false.field-0-test c.in-Ok-false.ensures.done in
     let ends = piece_ends eq m limit s i.taken prefix c.loop-session.lines i.lines now i.ends t false more_ends in
-    let puts : PutsOut put new (script eq m now (answers_along c.loop-session.lines prefix)).pieces (gives false) = search rules in
-    let over : k ≡ c.loop-session.room = grind (arith, c.min.ensures) in
+    let puts : PutsOut put new (script eq m now (answers_along c.loop-session.lines prefix)).pieces (gives false) =
+    puts_as put new (script eq m now (answers_along c.loop-session.lines prefix)).pieces c.in-Ok-false.field-0 false c.in-Ok-false.ensures.puts in
+    let over : k ≡ c.loop-session.room = omega (arith, c.min.ensures) in
     let fits : count ≤ length buffer = grind (arith, c.read.ensures.within) in
     let full : length (i.taken ++ prefix) ≡ limit = omega (arith, length-append i.taken prefix, length-take k buffer, over, few, fits, i.room) in
     let longer : (more : List ℕ) → 1 ≤ length (back ++ more)
@@ -298,15 +304,16 @@ loop-session-preserved g c =
     let prefix = take k buffer in
     let back = drop k (take count buffer) in
     let new = g.K.Sink.taken c.obey_bytes.new.out in
-    let few : k ≤ count = grind (arith, c.min.ensures) in
-    let room : k ≤ c.loop-session.room = grind (arith, c.min.ensures) in
+    let few : k ≤ count = omega (arith, c.min.ensures) in
+    let room : k ≤ c.loop-session.room = omega (arith, c.min.ensures) in
     let within : length (i.taken ++ prefix) ≤ limit = omega (arith, length-append i.taken prefix, length-take k buffer, room, i.room) in
     let moved : mid ≡ prepend_known (take count buffer) rest = c.in-Ok.ensures.moved in
     let t = c.obey_bytes.new.session in
-    let more_ends : Ends (script eq m now (answers_along c.loop-session.lines prefix)) t false = search rules in
+    let more_ends : Ends (script eq m now (answers_along c.loop-session.lines prefix)) t false = subst (Ends (script eq m now (answers_along c.loop-session.lines prefix)) t) c.in-Ok-false.field-0-test c.in-Ok-false.ensures.done in
     let ends = piece_ends eq m limit s i.taken prefix c.loop-session.lines i.lines now i.ends t false more_ends in
-    let puts : PutsOut put new (script eq m now (answers_along c.loop-session.lines prefix)).pieces (gives false) = search rules in
-    let all : count ≡ k = grind (arith, c.min.ensures) in
+    let puts : PutsOut put new (script eq m now (answers_along c.loop-session.lines prefix)).pieces (gives false) =
+    puts_as put new (script eq m now (answers_along c.loop-session.lines prefix)).pieces c.in-Ok-false.field-0 false c.in-Ok-false.ensures.puts in
+    let all : count ≡ k = omega (arith, c.min.ensures) in
     record {
       taken = i.taken ++ prefix;
       moved =
@@ -314,12 +321,102 @@ loop-session-preserved g c =
           ∙ sym (prepend_known-append i.taken prefix rest);
       within = within;
       room = grind (arith, length-append i.taken prefix, length-take k buffer, all, c.read.ensures.within, i.room);
-      lines = piece_line eq m limit s i.taken prefix c.loop-session.lines i.lines now i.ends c.obey_bytes.new.lines (search rules);
+      lines = piece_line eq m limit s i.taken prefix c.loop-session.lines i.lines now i.ends c.obey_bytes.new.lines (c.in-Ok-false.ensures.lines c.in-Ok-false.field-0-test);
       ends = ends;
       puts =
           piece_puts eq m limit s i.taken prefix c.loop-session.lines i.lines now i.ends old put new done i.puts
           (puts_as put new (script eq m now (answers_along c.loop-session.lines prefix)).pieces false tt puts);
-      goes_on = search rules;
-      in_faults = search rules;
-      out_faults = search rules;
+      goes_on = c.in-Ok-false.ensures.goes_on;
+      in_faults = c.in-Ok.ensures.cause ∙ i.in_faults;
+      out_faults = c.in-Ok-false.ensures.cause ∙ i.out_faults;
     }
+
+-- ---- what the clauses say beside the definition
+
+-- a failed read moved nothing out
+failed_moved : (left mid rest : Option (List ℕ)) (taken : List ℕ) (limit most : ℕ) → left ≡ prepend_known taken mid → rest ≡ mid → length taken ≤ limit
+    → LosesPrefix left rest (limit + most)
+failed_moved left mid rest taken limit most moved same short = record {
+  prefix = taken;
+  moved = moved ∙ ap (prepend_known taken) (sym same);
+  within = omega (arith, short);
+}
+
+-- counts of faults where nothing failed, and where the session was cut short
+counts_stay : (in_before in_now out_before out_mid out_now : ℕ) → in_now ≡ in_before → out_mid ≡ out_before → out_now ≡ out_mid
+    → ◌≡◌ {A = ShellFaults} (record { input = in_now; out = out_now }) (record { input = in_before; out = out_before })
+counts_stay in_before in_now out_before out_mid out_now in_same first then = λ j. record { input = in_same j; out = (then ∙ first) j }
+
+cut_counted : (A : Type 0) (in_before in_now out_before out_mid out_now : ℕ) (end : ObeyEnd) → in_now ≡ in_before → out_mid ≡ out_before
+    → ObeyCause out_mid out_now (fails A end)
+    → ShellCause (record { input = in_before; out = out_before }) (record { input = in_now; out = out_now }) (broken ShellEnd (Obey end))
+cut_counted A in_before in_now out_before out_mid out_now obey_end.WriteFault in_same first rose = (in_same, subst (λ n. Rose n out_now) first rose)
+cut_counted A in_before in_now out_before out_mid out_now obey_end.Memory in_same first same = counts_stay in_before in_now out_before out_mid out_now in_same first same
+
+pub returns-in-Ok-eq0-clause-closed : goal.returns-in-Ok-eq0-clause-closed
+returns-in-Ok-eq0-clause-closed g c end = c.read.ensures.closes (c.in-Ok-eq0.is ∙ ap Ok c.in-Ok-eq0.field-0-test) (omega arith)
+
+pub returns-in-Ok-eq0-clause-moved : goal.returns-in-Ok-eq0-clause-moved
+returns-in-Ok-eq0-clause-moved g c =
+    two_prefixes (g.S.Source.left c.args.input.now) (g.S.Source.left c.loop-session.input) (g.S.Source.left c.read.new.self) c.loop-session.invariant.taken c.in-Ok-eq0.field-0 c.read.new.buffer
+    c.args.limit 4096 c.loop-session.invariant.moved c.in-Ok-eq0.ensures.moved c.loop-session.invariant.within (omega (arith, c.in-Ok-eq0.field-0-test))
+
+pub returns-in-Err-clause-done : goal.returns-in-Err-clause-done
+returns-in-Err-clause-done g c = tt
+
+pub returns-in-Err-clause-closed : goal.returns-in-Err-clause-closed
+returns-in-Err-clause-closed g c end = absurd (cc end)
+
+pub returns-in-Err-clause-moved : goal.returns-in-Err-clause-moved
+returns-in-Err-clause-moved g c =
+    failed_moved (g.S.Source.left c.args.input.now) (g.S.Source.left c.loop-session.input) (g.S.Source.left c.read.new.self) c.loop-session.invariant.taken
+    c.args.limit 4096 c.loop-session.invariant.moved c.in-Err.ensures.failed c.loop-session.invariant.within
+
+pub returns-in-Err-clause-cause : goal.returns-in-Err-clause-cause
+returns-in-Err-clause-cause g c =
+    (subst (λ n. Rose n (g.S.Source.faults c.read.new.self)) c.loop-session.invariant.in_faults c.in-Err.ensures.cause, c.loop-session.invariant.out_faults)
+
+pub returns-in-Ok-true-clause-closed : goal.returns-in-Ok-true-clause-closed
+returns-in-Ok-true-clause-closed g c end = absurd (cc end)
+
+pub returns-in-Ok-true-clause-moved : goal.returns-in-Ok-true-clause-moved
+returns-in-Ok-true-clause-moved g c =
+    let few : c.in-Ok.count ≤ 4096 = omega (arith, c.in-Ok.ensures.within) in
+    two_prefixes (g.S.Source.left c.args.input.now) (g.S.Source.left c.loop-session.input) (g.S.Source.left c.read.new.self) c.loop-session.invariant.taken c.in-Ok.count c.read.new.buffer
+    c.args.limit 4096 c.loop-session.invariant.moved c.in-Ok.ensures.moved c.loop-session.invariant.within few
+
+pub returns-in-Ok-true-clause-cause : goal.returns-in-Ok-true-clause-cause
+returns-in-Ok-true-clause-cause g c =
+    counts_stay (g.S.Source.faults c.args.input.now) (g.S.Source.faults c.read.new.self) (g.K.Sink.faults c.args.out.now) (g.K.Sink.faults c.loop-session.out) (g.K.Sink.faults c.obey_bytes.new.out)
+    (c.in-Ok.ensures.cause ∙ c.loop-session.invariant.in_faults) c.loop-session.invariant.out_faults c.in-Ok-true.ensures.cause
+
+pub returns-in-Err-obey_bytes-clause-done : goal.returns-in-Err-obey_bytes-clause-done
+returns-in-Err-obey_bytes-clause-done g c = tt
+
+pub returns-in-Err-obey_bytes-clause-closed : goal.returns-in-Err-obey_bytes-clause-closed
+returns-in-Err-obey_bytes-clause-closed g c end = absurd (cc end)
+
+pub returns-in-Err-obey_bytes-clause-moved : goal.returns-in-Err-obey_bytes-clause-moved
+returns-in-Err-obey_bytes-clause-moved g c =
+    let few : c.in-Ok.count ≤ 4096 = omega (arith, c.in-Ok.ensures.within) in
+    two_prefixes (g.S.Source.left c.args.input.now) (g.S.Source.left c.loop-session.input) (g.S.Source.left c.read.new.self) c.loop-session.invariant.taken c.in-Ok.count c.read.new.buffer
+    c.args.limit 4096 c.loop-session.invariant.moved c.in-Ok.ensures.moved c.loop-session.invariant.within few
+
+pub returns-in-Err-obey_bytes-clause-cause : goal.returns-in-Err-obey_bytes-clause-cause
+returns-in-Err-obey_bytes-clause-cause g c =
+    cut_counted Bool (g.S.Source.faults c.args.input.now) (g.S.Source.faults c.read.new.self) (g.K.Sink.faults c.args.out.now) (g.K.Sink.faults c.loop-session.out) (g.K.Sink.faults c.obey_bytes.new.out)
+    c.in-Err-obey_bytes.end (c.in-Ok.ensures.cause ∙ c.loop-session.invariant.in_faults) c.loop-session.invariant.out_faults c.in-Err-obey_bytes.ensures.cause
+
+pub returns-then-count-room-clause-closed : goal.returns-then-count-room-clause-closed
+returns-then-count-room-clause-closed g c end = absurd (cc end)
+
+pub returns-then-count-room-clause-moved : goal.returns-then-count-room-clause-moved
+returns-then-count-room-clause-moved g c =
+    let few : c.in-Ok.count ≤ 4096 = omega (arith, c.in-Ok.ensures.within) in
+    two_prefixes (g.S.Source.left c.args.input.now) (g.S.Source.left c.loop-session.input) (g.S.Source.left c.read.new.self) c.loop-session.invariant.taken c.in-Ok.count c.read.new.buffer
+    c.args.limit 4096 c.loop-session.invariant.moved c.in-Ok.ensures.moved c.loop-session.invariant.within few
+
+pub returns-then-count-room-clause-cause : goal.returns-then-count-room-clause-cause
+returns-then-count-room-clause-cause g c =
+    counts_stay (g.S.Source.faults c.args.input.now) (g.S.Source.faults c.read.new.self) (g.K.Sink.faults c.args.out.now) (g.K.Sink.faults c.loop-session.out) (g.K.Sink.faults c.obey_bytes.new.out)
+    (c.in-Ok.ensures.cause ∙ c.loop-session.invariant.in_faults) c.loop-session.invariant.out_faults c.in-Ok-false.ensures.cause

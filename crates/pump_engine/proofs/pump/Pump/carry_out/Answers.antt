@@ -1,4 +1,4 @@
-use Rattle.std.proofs.Common.{◌≡◌, ◌<◌, ◌∙◌, false, All, length, ap, sym, subst, arith, rules}
+use Rattle.std.proofs.Common.{◌≡◌, ◌<◌, ◌≤◌, ◌∙◌, false, All, length, ap, sym, subst, arith, rules}
 use Rattle.rv_decode.specs.declared.groups.Group.{Group}
 use Rattle.policy_trait.specs.Model.{IsGiven}
 use Rattle.tag_memory.specs.Ram.{IsPlace, ram_bytes}
@@ -8,17 +8,18 @@ use Rattle.engine_trait.specs.Accounts.{is_over}
 use Rattle.engine_trait.specs.Turn.{core_served}
 use Rattle.engine_trait.specs.declared.ends.Halt.TheVariants as halt
 use Rattle.miss_handler.specs.Asked.{AreOutWords}
+use Rattle.tag_intern.specs.Table.{TableState}
 use Rattle.tag_intern.proofs.TableLemmas.{longer}
-use Rattle.pump_engine.proofs.ServiceLemmas.{IsWritten, cut_back, left, pump_left, serves, written_fits}
+use Rattle.pump_engine.proofs.ServiceLemmas.{IsWritten, cut_back, err_at, left, ok_at, pump_left, serves, written_fits}
 use Rattle.pump_engine.proofs.StayLemmas.{pump_at}
 use Rattle.pump_engine.proofs.pump.Pump.carry_out.Goals as goal
-use Rattle.pump_engine.specs.Pump.{IsPump, PumpState, pump_of}
+use Rattle.pump_engine.specs.Pump.{IsMasked, IsPump, PumpState, pump_of}
 use Rattle.pump_engine.specs.Steps.{CarriesOut, Serves, after_halt, first_in}
 
 -- nothing was taken note of, and the tags that were added are cut off
 pub invariant_of-self-then-is_err : goal.invariant_of-self-then-is_err
 invariant_of-self-then-is_err g c =
-    let unnoted : c.commit.new.self ≡ c.self.inside.policy = search rules in
+    let unnoted = err_at c.commit.result (c.commit.new.self ≡ c.self.inside.policy) c.is_err.result c.is_err.ensures.value c.if-is_err.true c.commit.ensures.err in
     let table_is = c.cut.ensures ∙ cut_back (g.T.TagTable.state c.self.inside.tags) (g.T.TagTable.state c.intern_job.new.tags) c.len-len.result
     c.intern_job.ensures.extends c.intern_job.ensures.limit c.len-len.ensures.len in
     record {
@@ -33,7 +34,7 @@ returns-then-is_err-clause-ends g c =
     let job = job_by c.args.job.now.plan c.args.job.now.words.items in
     let p : PumpState g.row.P.Denot g.row.P-Tag.Denot =
     pump_of c.self.inside.policy c.self.inside.core (g.T.TagTable.state c.self.inside.tags) (g.C.RuleStore.state c.self.inside.store) c.self.inside.turns c.self.inside.halt in
-    let unnoted : c.commit.new.self ≡ c.self.inside.policy = search rules in
+    let unnoted = err_at c.commit.result (c.commit.new.self ≡ c.self.inside.policy) c.is_err.result c.is_err.ensures.value c.if-is_err.true c.commit.ensures.err in
     let table_is = c.cut.ensures ∙ cut_back (g.T.TagTable.state c.self.inside.tags) (g.T.TagTable.state c.intern_job.new.tags) c.len-len.result
     c.intern_job.ensures.extends c.intern_job.ensures.limit c.len-len.ensures.len in
     let back : pump_of c.commit.new.self c.self.inside.core (g.T.TagTable.state c.cut.new.self) (g.C.RuleStore.state c.self.inside.store) c.self.inside.turns c.self.inside.halt ≡ p =
@@ -67,7 +68,8 @@ invariant_of-self-2 g c =
       below = c.in-Ok.ensures.below;
       answer_below = c.in-Ok.ensures.answer_below;
     } in
-    let noted : c.commit.new.self ≡ g.P.Policy.model.commit c.self.inside.policy c.args.job.now.plan = search rules in
+    let noted =
+    ok_at c.commit.result (c.commit.new.self ≡ g.P.Policy.model.commit c.self.inside.policy c.args.job.now.plan) c.is_err.result c.is_err.ensures.value c.if-is_err.false c.commit.ensures.ok in
     let core_is : c.serve.new.self ≡ core_served c.self.inside.core c.args.h c.in-Ok.written.words.items c.in-Ok.written.answer c.args.look.now.effect.next c.args.outs.pc =
     c.serve.ensures.core ∙ ap (λ words. core_served c.self.inside.core c.args.h words c.in-Ok.written.answer c.args.look.now.effect.next c.args.outs.pc) c.deref.ensures.value in
     let there = subst (λ (q : PumpState g.row.P.Denot g.row.P-Tag.Denot). c.args.h < length q.core.harts) (sym c.self.view_is) c.requires.hart in
@@ -98,7 +100,8 @@ returns-clause-ends g c =
       below = c.in-Ok.ensures.below;
       answer_below = c.in-Ok.ensures.answer_below;
     } in
-    let noted : c.commit.new.self ≡ g.P.Policy.model.commit c.self.inside.policy c.args.job.now.plan = search rules in
+    let noted =
+    ok_at c.commit.result (c.commit.new.self ≡ g.P.Policy.model.commit c.self.inside.policy c.args.job.now.plan) c.is_err.result c.is_err.ensures.value c.if-is_err.false c.commit.ensures.ok in
     let core_is : c.serve.new.self ≡ core_served c.self.inside.core c.args.h c.in-Ok.written.words.items c.in-Ok.written.answer c.args.look.now.effect.next c.args.outs.pc =
     c.serve.ensures.core ∙ ap (λ words. core_served c.self.inside.core c.args.h words c.in-Ok.written.answer c.args.look.now.effect.next c.args.outs.pc) c.deref.ensures.value in
     let turns_are : c.saturating_add-self-inside.result ≡ next_count c.self.inside.turns = search rules in
@@ -108,3 +111,45 @@ returns-clause-ends g c =
     subst (λ (q : PumpState g.row.P.Denot g.row.P-Tag.Denot). Serves g.P.Tag.PartialEq.eq g.P.Policy.model q c.args.h c.args.look.now c.args.outs (job_by c.args.job.now.plan c.args.job.now.words.items)
     (pump_of c.commit.new.self c.serve.new.self (g.T.TagTable.state c.intern_job.new.tags) (g.C.RuleStore.state c.self.inside.store) c.saturating_add-self-inside.result c.self.inside.halt)) c.self.view_is
     (subst (Serves g.P.Tag.PartialEq.eq g.P.Policy.model p c.args.h c.args.look.now c.args.outs (job_by c.args.job.now.plan c.args.job.now.words.items)) (sym left_is) (serves g.P.Tag.PartialEq.eq g.P.Policy.model g.P.Policy.holds g.met.P.Policy.lawful p c.self.invariant.pump c.args.h c.args.look.now c.args.outs (job_by c.args.job.now.plan c.args.job.now.words.items) (g.T.TagTable.state c.intern_job.new.tags) c.in-Ok.written.words.items c.in-Ok.written.answer written given outputs))
+
+-- ---- tags that got no words
+
+pub invariant_of-self : goal.invariant_of-self
+invariant_of-self g c =
+    subst (λ (table : TableState g.row.P-Tag.Denot). IsMasked g.P.Policy.model c.self.inside.masks (pump_of c.self.inside.policy c.self.inside.core table (g.C.RuleStore.state c.self.inside.store) c.self.inside.turns c.self.inside.halt)) (sym c.in-Err-Full.ensures.refused) c.self.invariant
+
+pub invariant_of-self-in-Err-Memory : goal.invariant_of-self-in-Err-Memory
+invariant_of-self-in-Err-Memory g c =
+    subst (λ (table : TableState g.row.P-Tag.Denot). IsMasked g.P.Policy.model c.self.inside.masks (pump_of c.self.inside.policy c.self.inside.core table (g.C.RuleStore.state c.self.inside.store) c.self.inside.turns c.self.inside.halt)) (sym c.in-Err-Memory.ensures.refused) c.self.invariant
+
+-- ---- and where nothing was taken note of, or all was done
+
+pub returns-then-is_err-clause-harts : goal.returns-then-is_err-clause-harts
+returns-then-is_err-clause-harts g c =
+    ap (λ (q : PumpState g.row.P.Denot g.row.P-Tag.Denot). length q.core.harts) c.give_up-then-is_err.ensures.state ∙ ap (λ (q : PumpState g.row.P.Denot g.row.P-Tag.Denot). length q.core.harts) c.self.view_is
+
+pub returns-then-is_err-clause-bytes : goal.returns-then-is_err-clause-bytes
+returns-then-is_err-clause-bytes g c =
+    ap (λ (q : PumpState g.row.P.Denot g.row.P-Tag.Denot). ram_bytes q.core.ram) c.give_up-then-is_err.ensures.state ∙ ap (λ (q : PumpState g.row.P.Denot g.row.P-Tag.Denot). ram_bytes q.core.ram) c.self.view_is
+
+pub returns-clause-harts : goal.returns-clause-harts
+returns-clause-harts g c = c.serve.ensures.harts ∙ ap (λ (q : PumpState g.row.P.Denot g.row.P-Tag.Denot). length q.core.harts) c.self.view_is
+
+pub returns-clause-bytes : goal.returns-clause-bytes
+returns-clause-bytes g c = c.serve.ensures.bytes ∙ ap (λ (q : PumpState g.row.P.Denot g.row.P-Tag.Denot). ram_bytes q.core.ram) c.self.view_is
+
+pub commit-requires : goal.commit-requires
+commit-requires g c =
+    subst (λ (q : PumpState g.row.P.Denot g.row.P-Tag.Denot). IsGiven g.P.Policy.model q.policy c.args.job.now.plan) (sym c.self.view_is) c.requires.given
+
+pub cut-requires : goal.cut-requires
+cut-requires g c =
+    subst (λ count. count ≤ length (g.T.TagTable.state c.intern_job.new.tags).tags) (sym c.len-len.ensures.len)
+    (longer (g.T.TagTable.state c.self.inside.tags).tags (g.T.TagTable.state c.intern_job.new.tags).tags c.intern_job.ensures.extends)
+
+pub serve-requires-clause-hart : goal.serve-requires-clause-hart
+serve-requires-clause-hart g c =
+    subst (λ (q : PumpState g.row.P.Denot g.row.P-Tag.Denot). c.args.h < length q.core.harts) (sym c.self.view_is) c.requires.hart
+
+pub serve-requires-clause-aligned : goal.serve-requires-clause-aligned
+serve-requires-clause-aligned g c = c.requires.aligned

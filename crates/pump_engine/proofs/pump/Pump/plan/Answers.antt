@@ -1,4 +1,6 @@
-use Rattle.std.proofs.Common.{◌≡◌, ◌≤◌, Ok, IfErr, IfOk, IsOkAnd, length, sym, subst}
+use Rattle.std.proofs.Common.{◌≡◌, ◌≤◌, ℕ, All, Ok, IfErr, IfOk, IsOkAnd, length, sym, subst}
+use Rattle.policy_trait.specs.Model.{IsGiven}
+use Rattle.tag_memory.specs.Ram.{IsPlace, RamState, ram_bytes}
 use Rattle.monitor_calls.specs.Ends.{EndsAs, job_by}
 use Rattle.pump_engine.proofs.ServiceLemmas.{service_as}
 use Rattle.pump_engine.proofs.pump.Pump.plan.Goals as goal
@@ -34,3 +36,11 @@ returns-clause-memory g c out =
     c.service_call-call.result.arguments c.service_call-call.result.pc c.self.view_is (c.service_call-call.ensures.service c.args.look.now) in
     subst (λ (q : PumpState g.row.P.Denot g.row.P-Tag.Denot). IsOkAnd (service_in g.P.Tag.PartialEq.eq g.P.Policy.model q c.args.h c.args.look.now c.args.outs) (λ job. 1 ≤ length job.words)) c.self.view_is
     (subst (λ defined. IsOkAnd defined (λ job. 1 ≤ length job.words)) (sym same) (c.serve.ensures.memory out))
+
+pub returns-clause-places : goal.returns-clause-places
+returns-clause-places g c =
+    subst (λ (ram : RamState ℕ). IfOk c.serve.result (λ job. All (λ word. IsPlace (ram_bytes ram) word.0) job.words.items)) c.service_call-call.ensures.memory c.serve.ensures.places
+
+pub returns-clause-given : goal.returns-clause-given
+returns-clause-given g c =
+    subst (λ (q : PumpState g.row.P.Denot g.row.P-Tag.Denot). IfOk c.serve.result (λ job. IsGiven g.P.Policy.model q.policy job.plan)) c.self.view_is c.serve.ensures.given

@@ -7,8 +7,8 @@ use Rattle.rule_cache.proofs.cache.RuleCacheRuleStore.keep.Goals as goal
 pub returns-clause-kept : goal.returns-clause-kept
 returns-clause-kept c =
     let before = c.args.self.now in
-    let put = put_kept c.args.key before.rules.cap before.rules.entries c.len-length.ensures.valid c.args.words in
-    rw c.in_ok-put.ensures.entries (
+    let put = put_kept c.args.key before.rules.cap before.rules.entries c.are_valid.ensures c.args.words in
+    rw c.in_ok-put.ensures.put (
     ap (λ (kept : Rules). one kept before.rules.cap before.hits before.misses) put
     ∙ sym (one_kept c.args.key before.rules.entries before.rules.cap before.hits before.misses c.args.words)
     )

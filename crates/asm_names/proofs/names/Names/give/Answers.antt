@@ -1,6 +1,0 @@
-use Rattle.asm_names.proofs.PlaceLemmas.{insert_is}
-use Rattle.asm_names.proofs.names.Names.give.Goals as goal
-
-pub returns-clause-ok : goal.returns-clause-ok
-returns-clause-ok c =
-    cc (insert_is c.self.inside.places c.insert.new.self c.args.name.now c.args.place c.in_ok-insert.ensures.updates)

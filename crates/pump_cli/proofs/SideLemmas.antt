@@ -1,0 +1,152 @@
+-- What the status of a task says of what it is not.
+use Rattle.std.proofs.Common.{◌≡◌, ◌⊎◌, Option, Some, Result, IfOk, refl, sym, subst, inl, inr}
+use Rattle.host_io.specs.TwoSinks.{PutFaults}
+use Rattle.pump_line.specs.Task.{Task, assemble, disassemble, load, run, shell}
+use Rattle.pump_cli.specs.Calls.{MakesAll}
+use Rattle.pump_cli.specs.Codes.{IsFinal, IsOfRefusal, IsOfRun, IsSilent, ReadsAll, status_of_cut, status_of_refusal}
+use Rattle.pump_cli.specs.Facts.{PutsFaultBy, status_in}
+use Rattle.pump_cli.specs.declared.cut.Cut.{Cut}
+use Rattle.pump_cli.specs.declared.cut.Cut.TheVariants as cut
+use Rattle.pump_cli.specs.declared.refusal.Refusal.{Refusal}
+use Rattle.pump_cli.specs.declared.refusal.Refusal.TheVariants as refusals
+use Rattle.pump_cli.specs.declared.status.Status.{Status}
+use Rattle.pump_cli.specs.declared.status.Status.TheVariants as statuses
+use Rattle.pump_cli.proofs.AnswerLemmas.{refusal_ends}
+use Rattle.pump_cli.proofs.TaskLemmas.{Side}
+
+-- the status of a cut is no final one
+pub cut_not : (cut : Cut) (status : Status) → status_of_cut cut ≡ status → IsFinal status → ⊥
+cut_not cut.ReadFailed status e final = subst IsFinal (sym e) final
+cut_not cut.WriteFailed status e final = subst IsFinal (sym e) final
+cut_not cut.InputFailed status e final = subst IsFinal (sym e) final
+cut_not cut.PutFailed status e final = subst IsFinal (sym e) final
+cut_not cut.Memory status e final = subst IsFinal (sym e) final
+
+cut_not_run : (cut : Cut) → IsOfRun (status_of_cut cut) → ⊥
+cut_not_run cut.ReadFailed of_run = of_run
+cut_not_run cut.WriteFailed of_run = of_run
+cut_not_run cut.InputFailed of_run = of_run
+cut_not_run cut.PutFailed of_run = of_run
+cut_not_run cut.Memory of_run = of_run
+
+-- only a run tells that it read the whole input
+all_read_is : (task : Task) (status : Status) → ReadsAll task status → IsOfRun status
+all_read_is (run task) status all = all
+all_read_is (shell task) status all = absurd all
+all_read_is (assemble task) status all = absurd all
+all_read_is (disassemble task) status all = absurd all
+all_read_is (load task) status all = absurd all
+
+-- ---- causes of a refusal, at statuses that have none and that have one
+
+pub of_cut : (task : Task) (B S L : Type 0) (cut : Cut) → Side task (status_of_cut cut) B S L
+of_cut task B S L why = record {
+  words = λ e. cut_not why statuses.BadWords e tt;
+  bad = λ e. absurd (cut_not why statuses.BadImage e tt);
+  source = λ e. absurd (cut_not why statuses.BadSource e tt);
+  long = λ e. absurd (cut_not why statuses.TooLong e tt);
+  not_run = λ all. cut_not_run why (all_read_is task (status_of_cut why) all);
+  not_out = λ e. cut_not why statuses.TagsOut e tt;
+  not_done = λ e. cut_not why statuses.Done e tt;
+}
+
+pub of_bad_image : (task : Task) (B S L : Type 0) → B → Side task statuses.BadImage B S L
+of_bad_image task B S L why = record {
+  words = λ e. let h : statuses.BadImage ≡ statuses.BadWords = e in cc;
+  bad = λ e. why;
+  source = λ e. absurd (let h : statuses.BadImage ≡ statuses.BadSource = e in cc);
+  long = λ e. absurd (let h : statuses.BadImage ≡ statuses.TooLong = e in cc);
+  not_run = λ all. all_read_is task statuses.BadImage all;
+  not_out = λ e. let h : statuses.BadImage ≡ statuses.TagsOut = e in cc;
+  not_done = λ e. let h : statuses.BadImage ≡ statuses.Done = e in cc;
+}
+
+pub of_bad_source : (task : Task) (B S L : Type 0) → S → Side task statuses.BadSource B S L
+of_bad_source task B S L why = record {
+  words = λ e. let h : statuses.BadSource ≡ statuses.BadWords = e in cc;
+  bad = λ e. absurd (let h : statuses.BadSource ≡ statuses.BadImage = e in cc);
+  source = λ e. why;
+  long = λ e. absurd (let h : statuses.BadSource ≡ statuses.TooLong = e in cc);
+  not_run = λ all. all_read_is task statuses.BadSource all;
+  not_out = λ e. let h : statuses.BadSource ≡ statuses.TagsOut = e in cc;
+  not_done = λ e. let h : statuses.BadSource ≡ statuses.Done = e in cc;
+}
+
+pub of_too_long : (task : Task) (B S L : Type 0) → L → Side task statuses.TooLong B S L
+of_too_long task B S L why = record {
+  words = λ e. let h : statuses.TooLong ≡ statuses.BadWords = e in cc;
+  bad = λ e. absurd (let h : statuses.TooLong ≡ statuses.BadImage = e in cc);
+  source = λ e. absurd (let h : statuses.TooLong ≡ statuses.BadSource = e in cc);
+  long = λ e. why;
+  not_run = λ all. all_read_is task statuses.TooLong all;
+  not_out = λ e. let h : statuses.TooLong ≡ statuses.TagsOut = e in cc;
+  not_done = λ e. let h : statuses.TooLong ≡ statuses.Done = e in cc;
+}
+
+-- ---- refusals and runs
+
+-- a refusal, a failed put and running out of memory are not silent
+pub refusal_is_told : (task : Option Task) (refusal : Refusal) → IsSilent task (status_of_refusal refusal) → ⊥
+refusal_is_told task refusals.BadWords silent = silent
+refusal_is_told task (refusals.BadImage error) silent = silent
+refusal_is_told task (refusals.BadSource error) silent = silent
+refusal_is_told task refusals.TooLong silent = silent
+
+-- a refusal that was told, or could not be
+pub told_as : (refusal : Refusal) (before now : PutFaults) (result : Result Status Cut) → PutsFaultBy before now result → IfOk result (λ ended. ended ≡ status_of_refusal refusal)
+    → MakesAll (status_in result) → (status_in result ≡ status_of_refusal refusal) ⊎ (status_in result ≡ statuses.PutFailed)
+told_as refusal before now result faults ends =
+    refusal_ends (λ (ended : Status). MakesAll ended → (ended ≡ status_of_refusal refusal) ⊎ (ended ≡ statuses.PutFailed)) refusal before now result faults ends
+    (λ all. inl refl) (λ all. inr refl) (λ all. absurd all)
+
+-- the status of a run is none of the others
+pub record OfRun (task : Task) (status : Status) : Type 0 where
+  pub words : status ≡ statuses.BadWords → ⊥
+  pub silent : IsSilent (Some task) status → ⊥
+  pub refusal : IsOfRefusal (Some task) status → ⊥
+  pub bad : status ≡ statuses.BadImage → ⊥
+  pub source : status ≡ statuses.BadSource → ⊥
+  pub long : status ≡ statuses.TooLong → ⊥
+
+pub of_run_is : (task : Task) (status : Status) → IsOfRun status → OfRun task status
+of_run_is task status of_run = record {
+  words = λ e. subst IsOfRun e of_run;
+  silent = λ silent. silent_is status of_run silent;
+  refusal = λ refused. refused_is status of_run refused;
+  bad = λ e. subst IsOfRun e of_run;
+  source = λ e. subst IsOfRun e of_run;
+  long = λ e. subst IsOfRun e of_run;
+}
+  where
+    silent_is : (s : Status) → IsOfRun s → IsSilent (Some task) s → ⊥
+    silent_is statuses.ReadFailed of_run silent = of_run
+    silent_is statuses.WriteFailed of_run silent = of_run
+    silent_is statuses.InputFailed of_run silent = of_run
+    silent_is _ of_run silent = silent
+
+    refused_is : (s : Status) → IsOfRun s → IsOfRefusal (Some task) s → ⊥
+    refused_is statuses.BadWords of_run refused = of_run
+    refused_is statuses.BadImage of_run refused = of_run
+    refused_is statuses.BadSource of_run refused = of_run
+    refused_is statuses.TooLong of_run refused = of_run
+    refused_is _ of_run refused = refused
+
+pub put_failed_is : (task : Task) → OfRun task statuses.PutFailed
+put_failed_is task = record {
+  words = λ e. let h : statuses.PutFailed ≡ statuses.BadWords = e in cc;
+  silent = λ no. no;
+  refusal = λ no. no;
+  bad = λ e. let h : statuses.PutFailed ≡ statuses.BadImage = e in cc;
+  source = λ e. let h : statuses.PutFailed ≡ statuses.BadSource = e in cc;
+  long = λ e. let h : statuses.PutFailed ≡ statuses.TooLong = e in cc;
+}
+
+pub memory_is : (task : Task) → OfRun task statuses.Memory
+memory_is task = record {
+  words = λ e. let h : statuses.Memory ≡ statuses.BadWords = e in cc;
+  silent = λ no. no;
+  refusal = λ no. no;
+  bad = λ e. let h : statuses.Memory ≡ statuses.BadImage = e in cc;
+  source = λ e. let h : statuses.Memory ≡ statuses.BadSource = e in cc;
+  long = λ e. let h : statuses.Memory ≡ statuses.TooLong = e in cc;
+}

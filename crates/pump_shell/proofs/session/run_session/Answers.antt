@@ -1,0 +1,38 @@
+use Rattle.pump_loader.specs.ChosenLoads.{start_of_chosen}
+use Rattle.pump_loader.specs.declared.chosen.ChosenLoad.TheVariants.{Asked, Kept}
+use Rattle.pump_shell.proofs.StartLemmas.{done_as_set, over_as_chosen, over_as_set, puts_as_set}
+use Rattle.pump_shell.proofs.session.run_session.Goals as goal
+
+pub returns-in-Asked-clause-done : goal.returns-in-Asked-clause-done
+returns-in-Asked-clause-done g c =
+    done_as_set c.args.setup c.args.image.now (start_of_chosen (Asked c.in-Asked.loader)) c.in-Asked.ensures.starts c.args.limit (g.S.Source.left c.args.input.now) c.run_from.result c.run_from.ensures.done
+
+pub returns-in-Asked-clause-puts : goal.returns-in-Asked-clause-puts
+returns-in-Asked-clause-puts g c =
+    puts_as_set c.args.setup c.args.image.now (start_of_chosen (Asked c.in-Asked.loader)) c.in-Asked.ensures.starts c.args.limit (g.S.Source.left c.args.input.now) c.run_from.result
+    (g.K.Sink.taken c.args.out.now) (g.K.Sink.taken c.run_from.new.out) c.run_from.ensures.puts
+
+pub returns-in-Asked-clause-out_of_tags : goal.returns-in-Asked-clause-out_of_tags
+returns-in-Asked-clause-out_of_tags g c out =
+    over_as_set c.args.setup c.args.image.now (start_of_chosen (Asked c.in-Asked.loader)) c.in-Asked.ensures.starts (c.run_from.ensures.out_of_tags out)
+
+pub returns-in-Asked-clause-over : goal.returns-in-Asked-clause-over
+returns-in-Asked-clause-over g c over =
+    c.run_from.ensures.over (over_as_chosen c.args.setup c.args.image.now (start_of_chosen (Asked c.in-Asked.loader)) c.in-Asked.ensures.starts over)
+
+pub returns-in-Kept-clause-done : goal.returns-in-Kept-clause-done
+returns-in-Kept-clause-done g c =
+    done_as_set c.args.setup c.args.image.now (start_of_chosen (Kept c.in-Kept.loader)) c.in-Kept.ensures.starts c.args.limit (g.S.Source.left c.args.input.now) c.run_from-in-Kept.result c.run_from-in-Kept.ensures.done
+
+pub returns-in-Kept-clause-puts : goal.returns-in-Kept-clause-puts
+returns-in-Kept-clause-puts g c =
+    puts_as_set c.args.setup c.args.image.now (start_of_chosen (Kept c.in-Kept.loader)) c.in-Kept.ensures.starts c.args.limit (g.S.Source.left c.args.input.now) c.run_from-in-Kept.result
+    (g.K.Sink.taken c.args.out.now) (g.K.Sink.taken c.run_from-in-Kept.new.out) c.run_from-in-Kept.ensures.puts
+
+pub returns-in-Kept-clause-out_of_tags : goal.returns-in-Kept-clause-out_of_tags
+returns-in-Kept-clause-out_of_tags g c out =
+    over_as_set c.args.setup c.args.image.now (start_of_chosen (Kept c.in-Kept.loader)) c.in-Kept.ensures.starts (c.run_from-in-Kept.ensures.out_of_tags out)
+
+pub returns-in-Kept-clause-over : goal.returns-in-Kept-clause-over
+returns-in-Kept-clause-over g c over =
+    c.run_from-in-Kept.ensures.over (over_as_chosen c.args.setup c.args.image.now (start_of_chosen (Kept c.in-Kept.loader)) c.in-Kept.ensures.starts over)
