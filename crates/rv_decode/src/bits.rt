@@ -4,7 +4,7 @@ ghost use Rattle.std.specs.Prelude.{◌≡◌, ◌<◌};
 ghost use Rattle.rv_decode.specs.Fields.{bits_of, opcode_of, f3_of};
 
 /// The `count` bits of `word` from bit `low` on.
-#[inline(always)]
+#[inline]
 pub(crate) fn field(word: u32, low: u32, count: u32) -> u32
     requires low_in_word { low < 32 }
     requires count_in_word { count < 32 }
@@ -14,7 +14,7 @@ pub(crate) fn field(word: u32, low: u32, count: u32) -> u32
 }
 
 /// Bits 6 to 0.
-#[inline(always)]
+#[inline]
 pub(crate) fn opcode(word: u32) -> u32
     ensures { result ≡ opcode_of word }
 {
@@ -22,7 +22,7 @@ pub(crate) fn opcode(word: u32) -> u32
 }
 
 /// Bits 14 to 12.
-#[inline(always)]
+#[inline]
 pub(crate) fn f3(word: u32) -> u32
     ensures { result ≡ f3_of word }
 {

@@ -12,49 +12,52 @@ use crate::fields::{
 };
 use crate::instructions::Instr;
 
-#[inline(always)]
+// Fields have hints alone: they stand in forty cases, and were they always inlined, a turn with all of them would be too large
+// for the compiler to inline.
+
+#[inline]
 fn rd(word: u32) -> Register
     ensures { result ≡ rd_of word }
 {
     Register::of_bits(field(word, 7, 5))
 }
 
-#[inline(always)]
+#[inline]
 fn rs1(word: u32) -> Register
     ensures { result ≡ rs1_of word }
 {
     Register::of_bits(field(word, 15, 5))
 }
 
-#[inline(always)]
+#[inline]
 fn rs2(word: u32) -> Register
     ensures { result ≡ rs2_of word }
 {
     Register::of_bits(field(word, 20, 5))
 }
 
-#[inline(always)]
+#[inline]
 fn f7(word: u32) -> u32
     ensures { result ≡ f7_of word }
 {
     field(word, 25, 7)
 }
 
-#[inline(always)]
+#[inline]
 fn immediate(word: u32) -> Immediate
     ensures { result ≡ immediate_of word }
 {
     Immediate::of_bits(field(word, 20, 12))
 }
 
-#[inline(always)]
+#[inline]
 fn store_offset(word: u32) -> Immediate
     ensures { result ≡ store_offset_of word }
 {
     Immediate::of_bits(field(word, 7, 5) | (field(word, 25, 7) << 5))
 }
 
-#[inline(always)]
+#[inline]
 fn branch_offset(word: u32) -> BranchOffset
     ensures { result ≡ branch_offset_of word }
 {
@@ -66,14 +69,14 @@ fn branch_offset(word: u32) -> BranchOffset
     )
 }
 
-#[inline(always)]
+#[inline]
 fn upper_immediate(word: u32) -> UpperImmediate
     ensures { result ≡ upper_immediate_of word }
 {
     UpperImmediate::of_bits(field(word, 12, 20))
 }
 
-#[inline(always)]
+#[inline]
 fn jump_offset(word: u32) -> JumpOffset
     ensures { result ≡ jump_offset_of word }
 {

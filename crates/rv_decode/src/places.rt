@@ -50,7 +50,7 @@ pub struct Places {
 }
 
 impl Places {
-    #[inline(always)]
+    #[inline]
     fn new(first: Register, second: Register, rd: Register) -> Places
         ensures { result ≡ record { first = first; second = second; result = rd } }
     {
@@ -62,7 +62,7 @@ impl Places {
     }
 
     /// Those of an ECALL that finds this number in a7.
-    #[inline(always)]
+    #[inline]
     fn of_service(service: u32) -> Places
         ensures { result ≡ places_of Instr.Ecall service }
     {
