@@ -20,7 +20,7 @@ use Rattle.engine_trait.specs.declared.ends.TurnEnd.TheVariants as ends
 use Rattle.engine_trait.proofs.AccountLemmas.{accounted_checked, accounted_missed, rule_counted_missed, seeing_never_over}
 use Rattle.engine_trait.proofs.StepLemmas.{plain_step, ready_parts}
 use Rattle.engine_trait.proofs.TurnLemmas.{job_ruled, rule_looked, turn_checked, turn_refused, turn_ruled}
-use Rattle.plain_engine.specs.Plain.{EndsService, after_look_up, after_turn, allowed_turn, given_up}
+use Rattle.plain_engine.specs.Plain.{EndsService, after_asked, after_look_up, after_turn, allowed_turn, given_up}
 
 module _ {S T : Type 0} (m : PolicyModel T S) (s : Machine S T) (h : ℕ) (look : Look) (outs : Outs T) where
   -- an instruction that is no call of a policy's service has its own effect
@@ -48,7 +48,7 @@ module _ {S T : Type 0} (m : PolicyModel T S) (s : Machine S T) (h : ℕ) (look 
             ∙ there.1,
       )
 
-  call_served : preparation m s h ≡ Ok look → rule_answer m s h look ≡ Ok outs → is_call look.group ≡ true → IsOk (service_on m s h look outs) → is_served m s h ≡ true
+  pub call_served : preparation m s h ≡ Ok look → rule_answer m s h look ≡ Ok outs → is_call look.group ≡ true → IsOk (service_on m s h look outs) → is_served m s h ≡ true
   call_served looked ruled call given = ap is_job (call_job looked ruled call given).1
 
 -- a step as its parts tell it
@@ -81,55 +81,46 @@ module _ {S T : Type 0} (eq : T → T → Bool) (m : PolicyModel T S) (e : Stand
   after_rule = record e.account { misses = next_count e.account.misses; turns = next_count e.account.turns }
 
   -- the rule refused
-  pub refused_step : (look : Look) (why : Stop) (asked f : Standing S T) (ended : TurnEnd) → preparation m e.machine h ≡ Ok look → asked ≡ after_look_up e
-      → rule_answer m asked.machine h look ≡ Err why → f ≡ after_turn asked (stopped_at asked.machine h why) → ended ≡ ends.Stopped why
+  pub refused_step : (look : Look) (why : Stop) (f : Standing S T) (ended : TurnEnd) → preparation m e.machine h ≡ Ok look
+      → rule_answer m e.machine h look ≡ Err why → f ≡ after_asked e (stopped_at e.machine h why) → ended ≡ ends.Stopped why
       → step eq m e feed h ≡ record { standing = f; feed = feed; ended = ended }
-  refused_step look why asked f ended looked asked_is =
-      subst (λ (x : Standing S T). rule_answer m x.machine h look ≡ Err why → f ≡ after_turn x (stopped_at x.machine h why) → ended ≡ ends.Stopped why
-      → step eq m e feed h ≡ record { standing = f; feed = feed; ended = ended }) (sym asked_is)
-      (λ ruled f_is ended_is. told (step eq m e feed h) (after_turn (after_look_up e) (stopped_at e.machine h why)) f feed feed (ends.Stopped why) ended
+  refused_step look why f ended looked ruled f_is ended_is =
+      told (step eq m e feed h) (after_asked e (stopped_at e.machine h why)) f feed feed (ends.Stopped why) ended
       (by_turn after_rule (settlement m e.machine feed h (Err why))
       (accounted_missed eq m e.machine h e.account look plain looked)
       (turn_refused m e.machine feed h look why (ready_parts e h ready).1 looked ruled))
-      f_is refl ended_is)
+      f_is refl ended_is
 
   -- the rule allowed
   allowed_step : (look : Look) (outs : Outs T) (turned : Turned S T) (f : Standing S T) (fed : Tape) (ended : TurnEnd)
       → preparation m e.machine h ≡ Ok look → rule_answer m e.machine h look ≡ Ok outs → allowed_turn m e.machine feed h look outs ≡ turned
-      → f ≡ after_turn (after_look_up e) turned.machine → fed ≡ turned.feed → ended ≡ turned.ended
+      → f ≡ after_asked e turned.machine → fed ≡ turned.feed → ended ≡ turned.ended
       → step eq m e feed h ≡ record { standing = f; feed = fed; ended = ended }
   allowed_step look outs turned f fed ended looked ruled turned_is f_is fed_is ended_is =
-      told (step eq m e feed h) (after_turn (after_look_up e) turned.machine) f turned.feed fed turned.ended ended
+      told (step eq m e feed h) (after_asked e turned.machine) f turned.feed fed turned.ended ended
       (by_turn after_rule turned
       (accounted_missed eq m e.machine h e.account look plain looked)
       (turn_ruled m e.machine feed h look outs (ready_parts e h ready).1 looked ruled ∙ turned_is))
       f_is fed_is ended_is
 
-  pub service_step : (look : Look) (outs : Outs T) (asked f : Standing S T) (ended : TurnEnd) → preparation m e.machine h ≡ Ok look → asked ≡ after_look_up e
-      → rule_answer m asked.machine h look ≡ Ok outs → EndsService m asked h look outs ended f
+  pub service_step : (look : Look) (outs : Outs T) (f : Standing S T) (ended : TurnEnd) → preparation m e.machine h ≡ Ok look
+      → rule_answer m e.machine h look ≡ Ok outs → EndsService m e h look outs ended f
       → step eq m e feed h ≡ record { standing = f; feed = feed; ended = ended }
-  service_step look outs asked f ended looked asked_is =
-      subst (λ (x : Standing S T). rule_answer m x.machine h look ≡ Ok outs → EndsService m x h look outs ended f → step eq m e feed h ≡ record { standing = f; feed = feed; ended = ended }) (sym asked_is)
-      (λ ruled served. allowed_step look outs (record { machine = f.machine; feed = feed; ended = ended }) f feed ended looked ruled (served.turned feed) served.standing refl refl)
+  service_step look outs f ended looked ruled served =
+      allowed_step look outs (record { machine = f.machine; feed = feed; ended = ended }) f feed ended looked ruled (served.turned feed) served.standing refl refl
 
-  pub effect_step : (look : Look) (outs : Outs T) (asked f : Standing S T) (fed : Tape) (ended : TurnEnd) → preparation m e.machine h ≡ Ok look → asked ≡ after_look_up e
-      → rule_answer m asked.machine h look ≡ Ok outs → is_call look.group ≡ false
-      → f ≡ after_turn asked (turn_effect m asked.machine feed h look outs None).machine
-      → fed ≡ (turn_effect m asked.machine feed h look outs None).feed → ended ≡ (turn_effect m asked.machine feed h look outs None).ended
+  pub effect_step : (look : Look) (outs : Outs T) (f : Standing S T) (fed : Tape) (ended : TurnEnd) → preparation m e.machine h ≡ Ok look
+      → rule_answer m e.machine h look ≡ Ok outs → is_call look.group ≡ false
+      → f ≡ after_asked e (turn_effect m e.machine feed h look outs None).machine
+      → fed ≡ (turn_effect m e.machine feed h look outs None).feed → ended ≡ (turn_effect m e.machine feed h look outs None).ended
       → step eq m e feed h ≡ record { standing = f; feed = fed; ended = ended }
-  effect_step look outs asked f fed ended looked asked_is =
-      subst (λ (x : Standing S T). rule_answer m x.machine h look ≡ Ok outs → is_call look.group ≡ false
-      → f ≡ after_turn x (turn_effect m x.machine feed h look outs None).machine
-      → fed ≡ (turn_effect m x.machine feed h look outs None).feed → ended ≡ (turn_effect m x.machine feed h look outs None).ended
-      → step eq m e feed h ≡ record { standing = f; feed = fed; ended = ended }) (sym asked_is)
-      (λ ruled own. allowed_step look outs (turn_effect m e.machine feed h look outs None) f fed ended looked ruled (own_turn m e.machine h look outs feed own))
+  effect_step look outs f fed ended looked ruled own =
+      allowed_step look outs (turn_effect m e.machine feed h look outs None) f fed ended looked ruled (own_turn m e.machine h look outs feed own)
 
   -- memory ran out in a service that nothing refuses
-  pub gives_up : (look : Look) (outs : Outs T) (asked f : Standing S T) → preparation m e.machine h ≡ Ok look → asked ≡ after_look_up e → rule_answer m asked.machine h look ≡ Ok outs
-      → is_call look.group ≡ true → IsOk (service_on m asked.machine h look outs) → f ≡ given_up asked → GivesUp eq m e feed h f feed
-  gives_up look outs asked f looked asked_is =
-      subst (λ (x : Standing S T). rule_answer m x.machine h look ≡ Ok outs → is_call look.group ≡ true → IsOk (service_on m x.machine h look outs) → f ≡ given_up x → GivesUp eq m e feed h f feed) (sym asked_is)
-      (λ ruled call given f_is.
+  pub gives_up : (look : Look) (outs : Outs T) (f : Standing S T) → preparation m e.machine h ≡ Ok look → rule_answer m e.machine h look ≡ Ok outs
+      → is_call look.group ≡ true → IsOk (service_on m e.machine h look outs) → f ≡ given_up (after_look_up e) → GivesUp eq m e feed h f feed
+  gives_up look outs f looked ruled call given f_is =
       let there = call_job m e.machine h look outs looked ruled call given in
       let counted = rule_counted_missed eq m e.machine h e.account look plain looked in
       let missed : Account T = record e.account { misses = next_count e.account.misses } in
@@ -145,10 +136,4 @@ module _ {S T : Type 0} (eq : T → T → Bool) (m : PolicyModel T S) (e : Stand
           fits = ap (λ a. is_over (seeing eq (first_written there.0) a)) counted ∙ seeing_never_over eq missed still (first_written there.0);
           left = ap wanting (sym counted);
         });
-      }))
-
-  pub unrefused : (look : Look) (outs : Outs T) (asked : Standing S T) → preparation m e.machine h ≡ Ok look → asked ≡ after_look_up e → rule_answer m asked.machine h look ≡ Ok outs
-      → is_call look.group ≡ true → IsOk (service_on m asked.machine h look outs) → is_served m e.machine h ≡ true
-  unrefused look outs asked looked asked_is =
-      subst (λ (x : Standing S T). rule_answer m x.machine h look ≡ Ok outs → is_call look.group ≡ true → IsOk (service_on m x.machine h look outs) → is_served m e.machine h ≡ true) (sym asked_is)
-      (call_served m e.machine h look outs looked)
+      })

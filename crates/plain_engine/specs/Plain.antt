@@ -1,5 +1,5 @@
 -- The engine that asks its policy at every turn, and keeps no rules.
-use Rattle.std.specs.Prelude.{◌≡◌, ℕ, List, Option, Some, None, Ok}
+use Rattle.std.specs.Prelude.{◌≡◌, ℕ, ◌+◌, ◌-◌, ◌^◌, min, List, Option, Some, None, Ok}
 use Rattle.policy_trait.specs.Model.{PolicyModel}
 use Rattle.shared_terms.specs.Steps.{◌>>=◌}
 use Rattle.policy_trait.specs.declared.rules.Outs.{Outs}
@@ -12,16 +12,24 @@ use Rattle.shared_terms.specs.Counts.{next_count}
 use Rattle.engine_trait.specs.Machine.{CoreState, IsMachine, Machine, fresh_core}
 use Rattle.engine_trait.specs.Standing.{Standing}
 use Rattle.engine_trait.specs.Turn.{Turned, turn_effect, turn_job, settlement}
-use Rattle.engine_trait.specs.declared.ends.Counts.{Counts}
 use Rattle.engine_trait.specs.declared.ends.Halt.{Halt}
 use Rattle.engine_trait.specs.declared.ends.Halt.TheVariants as halt
 use Rattle.engine_trait.specs.declared.ends.TurnEnd.{TurnEnd}
 
--- the machine and the account of an engine of these parts
-abbrev pub engine_of : {S T : Type 0} → S → CoreState T → Counts → Option Halt → Standing S T
-engine_of policy core counts halted = record {
+-- a count that stands still at the largest value of a `u64`
+abbrev pub capped : ℕ → ℕ
+capped n = min n (2 ^ 64 - 1)
+
+-- the look-up of the turn in which memory ran out, which has no end
+abbrev pub unended : Option Halt → ℕ
+unended None = 0
+unended (Some _) = 1
+
+-- the machine and the account of an engine of these parts, where so many turns looked their rule up and ended, and so many were stopped before that
+abbrev pub engine_of : {S T : Type 0} → S → CoreState T → ℕ → ℕ → Option Halt → Standing S T
+engine_of policy core asked unasked halted = record {
   machine = record { policy = policy; core = core };
-  account = record plain_account { turns = counts.turns; hits = counts.hits; misses = counts.misses; halt = halted };
+  account = record plain_account { turns = capped (asked + unasked); misses = capped (asked + unended halted); halt = halted };
 }
 
 -- a sound machine, and the account of an engine that keeps no rules
@@ -45,6 +53,10 @@ after_look_up e = record e { account = record e.account { misses = next_count e.
 abbrev pub after_turn : {S T : Type 0} → Standing S T → Machine S T → Standing S T
 after_turn e machine = record { machine = machine; account = record e.account { turns = next_count e.account.turns } }
 
+-- the same of a turn that looked its rule up
+abbrev pub after_asked : {S T : Type 0} → Standing S T → Machine S T → Standing S T
+after_asked e machine = after_turn (after_look_up e) machine
+
 -- the engine stopped since memory ran out
 abbrev pub given_up : {S T : Type 0} → Standing S T → Standing S T
 given_up e = record e { account = record e.account { halt = Some halt.Memory } }
@@ -53,7 +65,7 @@ given_up e = record e { account = record e.account { halt = Some halt.Memory } }
 abbrev pub allowed_turn : {S T : Type 0} → PolicyModel T S → Machine S T → Tape → ℕ → Look → Outs T → Turned S T
 allowed_turn m s feed h look outs = settlement m s feed h (turn_job m s h look outs >>= λ job. Ok (turn_effect m s feed h look outs job))
 
--- a call of a policy's service that the rule allowed ended as defined, and the turn counts
+-- a call of a policy's service that the rule allowed ended as defined, and the look-up and the turn count
 pub record EndsService {S T : Type 0} (m : PolicyModel T S) (e : Standing S T) (h : ℕ) (look : Look) (outs : Outs T) (ended : TurnEnd) (f : Standing S T) : Type 0 where
   pub turned : (feed : Tape) → allowed_turn m e.machine feed h look outs ≡ record { machine = f.machine; feed = feed; ended = ended }
-  pub standing : f ≡ after_turn e f.machine
+  pub standing : f ≡ after_asked e f.machine

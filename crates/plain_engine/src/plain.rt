@@ -13,7 +13,7 @@ ghost use Rattle.engine_trait.specs.Machine.{IsMachine, hart_at, stop_at};
 ghost use Rattle.engine_trait.specs.Standing.{GivesUp, IsFailure, StopsOnly, Unchanged, is_ready, step};
 ghost use Rattle.engine_trait.specs.Turn.{rule_answer, turn_effect, is_offered, is_served, preparation, service_on, stopped_at};
 ghost use Rattle.turn_steps.specs.Looks.{is_call};
-ghost use Rattle.plain_engine.specs.Plain.{EndsService, after_look_up, after_turn, given_up, machine_of, standing_of};
+ghost use Rattle.plain_engine.specs.Plain.{EndsService, after_asked, after_look_up, after_turn, given_up, machine_of, standing_of};
 
 use engine_trait::{Core, Counts, Engine, Feed, Halt, Stop, TurnEnd};
 use monitor_calls::{Job, ServeEnd, serve};
@@ -31,7 +31,9 @@ pub struct Plain<P: Policy> {
     alloc: Global,
     policy: P,
     core: Core<P::Tag>,
-    counts: Counts,
+    // Turns that ended once their rule was looked up, and those that a check stopped before that.
+    asked: u64,
+    unasked: u64,
     halt: Option<Halt>,
 }
 
@@ -41,9 +43,9 @@ impl<P: Policy> Model for Plain<P> {
 
     ghost Value = { Standing P P.Tag };
 
-    ghost view = { λ p. engine_of p.policy p.core p.counts p.halt };
+    ghost view = { λ p. engine_of p.policy p.core p.asked p.unasked p.halt };
 
-    ghost invariant = { λ p. IsPlain P.model (engine_of p.policy p.core p.counts p.halt) };
+    ghost invariant = { λ p. IsPlain P.model (engine_of p.policy p.core p.asked p.unasked p.halt) };
 }
 
 impl<P: Policy> Plain<P> {
@@ -56,11 +58,8 @@ impl<P: Policy> Plain<P> {
             alloc,
             policy,
             core: Core::new(ram, harts),
-            counts: Counts {
-                turns: 0,
-                hits: 0,
-                misses: 0,
-            },
+            asked: 0,
+            unasked: 0,
             halt: None,
         }
     }
@@ -70,6 +69,7 @@ impl<P: Policy> Plain<P> {
     fn is_ready(&self, h: u32) -> bool
         requires { h < length self.now.machine.core.harts }
         ensures ready { result ≡ is_ready self.now h }
+        ensures running { IsTrue result → self.now.account.halt ≡ None }
         ensures uncached { IsUncached self.now.account }
     {
         self.halt.is_none() && self.core.stop(h).is_none()
@@ -121,28 +121,40 @@ impl<P: Policy> Plain<P> {
         }
     }
 
-    /// Counts the look-up of a rule.
-    #[inline(always)]
-    fn look_up(&mut self)
-        ensures { self.new ≡ after_look_up self.old }
-    {
-        self.counts.misses = self.counts.misses.saturating_add(1);
-    }
-
-    /// Counts a turn that stopped hart `h`.
-    fn stop_hart(&mut self, h: u32, why: Stop) -> TurnEnd
+    /// Counts a turn that a check stopped, and stops hart `h`.
+    fn stop_unasked(&mut self, h: u32, why: Stop) -> TurnEnd
         requires { h < length self.old.machine.core.harts }
         ensures standing { self.new ≡ after_turn self.old (stopped_at self.old.machine h why) }
         ensures end { result ≡ TurnEnd.Stopped why }
     {
         self.core.stop_hart(h, why);
-        self.counts.turns = self.counts.turns.saturating_add(1);
+        self.unasked = self.unasked.saturating_add(1);
         TurnEnd::Stopped(why)
     }
 
-    /// Stops the engine as a whole, since memory ran out.
+    /// Counts a turn that looked its rule up, and its look-up.
+    #[inline(always)]
+    fn count_asked(&mut self)
+        ensures { self.new ≡ after_asked self.old self.old.machine }
+    {
+        self.asked = self.asked.saturating_add(1);
+    }
+
+    /// Counts a turn that was stopped once its rule was looked up, and stops hart `h`.
+    fn stop_asked(&mut self, h: u32, why: Stop) -> TurnEnd
+        requires { h < length self.old.machine.core.harts }
+        ensures standing { self.new ≡ after_asked self.old (stopped_at self.old.machine h why) }
+        ensures end { result ≡ TurnEnd.Stopped why }
+    {
+        self.core.stop_hart(h, why);
+        self.count_asked();
+        TurnEnd::Stopped(why)
+    }
+
+    /// Stops the engine as a whole, since memory ran out in a turn that looked its rule up.
     fn give_up(&mut self) -> TurnEnd
-        ensures standing { self.new ≡ given_up self.old }
+        requires { self.old.account.halt ≡ None }
+        ensures standing { self.new ≡ given_up (after_look_up self.old) }
         ensures end { result ≡ TurnEnd.Memory }
     {
         self.halt = Some(Halt::Memory);
@@ -155,7 +167,7 @@ impl<P: Policy> Plain<P> {
         requires hart { h < length self.old.machine.core.harts }
         requires own { is_call look.now.group ≡ false }
         requires sound { IsSound (ram_bytes self.old.machine.core.ram) look.now.effect }
-        ensures standing { self.new ≡ after_turn self.old
+        ensures standing { self.new ≡ after_asked self.old
             (turn_effect P.model self.old.machine feed.old h look.now outs None).machine }
         ensures feed { feed.new
             ≡ (turn_effect P.model self.old.machine feed.old h look.now outs None).feed }
@@ -166,7 +178,7 @@ impl<P: Policy> Plain<P> {
         ensures bytes { ram_bytes self.new.machine.core.ram ≡ ram_bytes self.old.machine.core.ram }
     {
         let end = self.core.effect(h, feed, look, outs);
-        self.counts.turns = self.counts.turns.saturating_add(1);
+        self.count_asked();
         end
     }
 
@@ -204,10 +216,12 @@ impl<P: Policy> Plain<P> {
         requires places { All (λ word. IsPlace (ram_bytes self.old.machine.core.ram) word.0)
             job.now.words.items }
         requires aligned { look.now.effect.next % 4 ≡ 0 }
+        requires running { self.old.account.halt ≡ None }
         ensures served { result ≢ TurnEnd.Memory
-            → self.new ≡ after_turn self.old (turn_effect P.model self.old.machine (tape_of []) h
+            → self.new ≡ after_asked self.old (turn_effect P.model self.old.machine (tape_of []) h
             look.now outs (Some (job_by job.now.plan job.now.words.items))).machine }
-        ensures memory { result ≡ TurnEnd.Memory → self.new ≡ given_up self.old }
+        ensures memory { result ≡ TurnEnd.Memory
+            → self.new ≡ given_up (after_look_up self.old) }
         ensures end { result ≢ TurnEnd.Memory → result ≡ TurnEnd.Ran None }
         ensures harts { length self.new.machine.core.harts ≡ length self.old.machine.core.harts }
         ensures bytes { ram_bytes self.new.machine.core.ram ≡ ram_bytes self.old.machine.core.ram }
@@ -217,7 +231,7 @@ impl<P: Policy> Plain<P> {
         }
         self.core
             .serve(h, &job.words, job.plan.answer, look.effect.next, outs.pc);
-        self.counts.turns = self.counts.turns.saturating_add(1);
+        self.count_asked();
         TurnEnd::Ran(None)
     }
 
@@ -229,9 +243,11 @@ impl<P: Policy> Plain<P> {
         requires call { is_call look.now.group ≡ true }
         requires known { IsTrue (P.model.knows self.old.machine.policy look.now.service) }
         requires aligned { look.now.effect.next % 4 ≡ 0 }
+        requires running { self.old.account.halt ≡ None }
         ensures served { result ≢ TurnEnd.Memory
             → EndsService P.model self.old h look.now outs result self.new }
-        ensures memory { result ≡ TurnEnd.Memory → self.new ≡ given_up self.old }
+        ensures memory { result ≡ TurnEnd.Memory
+            → self.new ≡ given_up (after_look_up self.old) }
         ensures unrefused { result ≡ TurnEnd.Memory
             → IsOk (service_on P.model self.old.machine h look.now outs) }
         ensures busy { result ≢ TurnEnd.Idle }
@@ -245,9 +261,9 @@ impl<P: Policy> Plain<P> {
             Ok(job) => self.carry_out(h, look, outs, &job),
             Err(ServeEnd::Refused(refused)) => {
                 let why = self.core.violation(h, refused);
-                self.stop_hart(h, why)
+                self.stop_asked(h, why)
             }
-            Err(ServeEnd::Spent) => self.stop_hart(h, Stop::Fault(Fault::Spent(look.service))),
+            Err(ServeEnd::Spent) => self.stop_asked(h, Stop::Fault(Fault::Spent(look.service))),
             Err(ServeEnd::Memory) => self.give_up(),
         }
     }
@@ -281,12 +297,11 @@ impl<P: Policy> Engine for Plain<P> {
         }
         let look = match self.prepare(h) {
             Ok(look) => look,
-            Err(why) => return self.stop_hart(h, why),
+            Err(why) => return self.stop_unasked(h, why),
         };
-        self.look_up();
         let outs = match self.ask(h, &look) {
             Ok(outs) => outs,
-            Err(why) => return self.stop_hart(h, why),
+            Err(why) => return self.stop_asked(h, why),
         };
         if is_call(look.group) {
             return self.service(h, &look, outs);
@@ -343,6 +358,11 @@ impl<P: Policy> Engine for Plain<P> {
     }
 
     fn counts(&self) -> Counts {
-        self.counts
+        let unended = u64::from(self.halt.is_some());
+        Counts {
+            turns: self.asked.saturating_add(self.unasked),
+            hits: 0,
+            misses: self.asked.saturating_add(unended),
+        }
     }
 }

@@ -1,10 +1,10 @@
 -- The front before a list of rules: what its slots and its log say of the list.
-use Rattle.std.proofs.Common.{◌≡◌, ℕ, zero, suc, ◌+◌, ◌-◌, ◌<◌, ◌≤◌, Bool, true, false, cond, ◌⊎◌, inl, inr, List, [], ◌∷◌, ◌++◌, IfSome, length, take, drop, slice_get, slice_index, slice_index_or, slice_set, Option, Some, None, option_map, refl, sym, ap, ◌∙◌, subst, arith}
+use Rattle.std.proofs.Common.{◌≡◌, ℕ, zero, suc, ◌+◌, ◌-◌, ◌<◌, ◌≤◌, Bool, true, false, cond, ◌⊎◌, inl, inr, List, [], ◌∷◌, ◌++◌, IfSome, length, take, slice_get, slice_set, Option, Some, None, option_map, refl, sym, ap, ◌∙◌, subst, arith}
 use Rattle.std.specs.Map.{lookup, lookup_entry, remove_entry}
 use Rattle.std.specs.Option.{option_map_or, unwrap_or}
 use Rattle.std.proofs.lemmas.Bool.{cases_eq, false_from_ne_true, false≢true}
-use Rattle.std.proofs.lemmas.List.{drop_more, get_or-drop, get_or-set_other, get_or-set_same, length-drop, length-set}
-use Rattle.std.proofs.lemmas.Option.{get_or_from_slice_get, none-some, slice_get_past, slice_get_within, slice_get-get_or}
+use Rattle.std.proofs.lemmas.List.{get_or-set_other, get_or-set_same, length-set}
+use Rattle.std.proofs.lemmas.Option.{none-some, slice_get_past}
 use Rattle.lru.specs.LruCache.{IsValid, last_entry, lru_cache, promoted, put_entries}
 use Rattle.lru.proofs.CallerLemmas.{Contains-lookup_entry}
 use Rattle.lru.proofs.Pairs.{lookup-lookup_entry}
@@ -24,11 +24,11 @@ found_touched : (key : Key) (slot : Slot) (rules : Rules) → lookup (key_eq key
 found_touched key None rules = refl
 found_touched key (Some rule) rules = found_promoted key rule.0 rules
 
-touched_stays : (slot : Slot) (rules : Rules) → touched slot (touched slot rules) ≡ touched slot rules
+pub touched_stays : (slot : Slot) (rules : Rules) → touched slot (touched slot rules) ≡ touched slot rules
 touched_stays None rules = refl
 touched_stays (Some rule) rules = promoted_stays rule.0 rules
 
-last_touched : (slot between : Slot) (rules : Rules) → touched slot (touched between rules) ≡ touched slot (touched between (touched slot rules))
+pub last_touched : (slot between : Slot) (rules : Rules) → touched slot (touched between rules) ≡ touched slot (touched between (touched slot rules))
 last_touched None between rules = refl
 last_touched (Some rule) None rules = sym (promoted_stays rule.0 rules)
 last_touched (Some rule) (Some other) rules = last_counts rule.0 other.0 rules
@@ -65,46 +65,6 @@ module _ (slots : List Slot) where
       → replayed slots (log ++ number ∷ []) rules ≡ touched (slot_at slots number) (replayed slots log rules)
   replayed_push [] number rules = refl
   replayed_push (first ∷ log) number rules = replayed_push log number (touched (slot_at slots first) rules)
-
-  -- lists that a slot's rule makes the same are the same after any log that has the slot
-  same_once_replayed : (number : ℕ) (log : List ℕ) (place : ℕ) → slice_get log place ≡ Some number
-      → (one other : Rules) → touched (slot_at slots number) one ≡ touched (slot_at slots number) other
-      → replayed slots log one ≡ replayed slots log other
-  same_once_replayed number [] place has one other same = absurd cc
-  same_once_replayed number (first ∷ log) zero has one other same =
-      let is : first ≡ number = cc in
-      ap (replayed slots log) (subst (λ n. touched (slot_at slots n) one ≡ touched (slot_at slots n) other) (sym is) same)
-  same_once_replayed number (first ∷ log) (suc place) has one other same =
-      let slot = slot_at slots number in
-      let between = slot_at slots first in
-      same_once_replayed number log place has (touched between one) (touched between other) (
-      last_touched slot between one ∙ ap (λ rules. touched slot (touched between rules)) same ∙ sym (last_touched slot between other)
-      )
-
-  -- what comes again may be passed over
-  pub passed_over : (number : ℕ) (log : List ℕ) (place : ℕ) → slice_get log place ≡ Some number
-      → (rules : Rules) → replayed slots log rules ≡ replayed slots (number ∷ log) rules
-  passed_over number log place has rules =
-      same_once_replayed number log place has rules (touched (slot_at slots number) rules) (sym (touched_stays (slot_at slots number) rules))
-
--- ---- a place of a log
-
-dropped_get : {X : Type 0} (xs : List X) (n place : ℕ) (x : X) → n ≤ place → slice_get xs place ≡ Some x → slice_get (drop n xs) (place - n) ≡ Some x
-dropped_get xs n place x after is =
-    let within = slice_get_within xs place x is in
-    let less : place - n < length (drop n xs) = omega (arith, length-drop n xs) in
-    let back : n + (place - n) ≡ place = omega arith in
-    slice_get-get_or (drop n xs) (place - n) x less
-    ∙ ap Some (get_or-drop n xs (place - n) x ∙ ap (λ i. slice_index_or xs i x) back ∙ get_or_from_slice_get xs place x x is)
-
--- a place of the log is passed over where its number comes again
-pub passed_at : (slots : List Slot) (log : List ℕ) (place later : ℕ) (rules : Rules) → place < length log → place < later
-    → slice_get log later ≡ Some (slice_index log place)
-    → replayed slots (drop (place + 1) log) rules ≡ replayed slots (drop place log) rules
-passed_at slots log place later rules within after again =
-    passed_over slots (slice_index log place) (drop (place + 1) log) (later - (place + 1))
-    (dropped_get log (place + 1) later (slice_index log place) (omega arith) again) rules
-    ∙ ap (λ rest. replayed slots rest rules) (sym (drop_more log place 0 within))
 
 -- ---- slots before a list
 

@@ -1,5 +1,5 @@
 -- A front before the list of rules: its slots, and the list as it stands once it has caught up with the log.
-use Rattle.std.specs.Prelude.{◌≡◌, ℕ, ◌+◌, ◌-◌, ◌*◌, ◌/◌, ◌%◌, Bool, false, List, [], ◌∷◌, length, Option, Some, None, if◌then◌else◌, slice_index_or, slice_set}
+use Rattle.std.specs.Prelude.{◌≡◌, ℕ, suc, ◌+◌, ◌-◌, ◌*◌, ◌/◌, ◌%◌, Bool, false, List, [], ◌∷◌, length, Option, Some, None, if◌then◌else◌, slice_get, slice_index_or, slice_set}
 use Rattle.std.specs.Map.{lookup}
 use Rattle.lru.specs.LruCache.{promoted}
 use Rattle.policy_trait.specs.declared.rules.Outs.{Outs}
@@ -44,6 +44,15 @@ touched (Some rule) rules = promoted (key_eq rule.0) rules
 abbrev pub replayed : List Slot → List ℕ → Rules → Rules
 replayed slots [] rules = rules
 replayed slots (number ∷ log) rules = replayed slots log (touched (slot_at slots number) rules)
+
+-- the list once the rules of these slots went to the front, the first one last
+abbrev pub brought_up : List Slot → List ℕ → Rules → Rules
+brought_up slots [] rules = rules
+brought_up slots (number ∷ numbers) rules = touched (slot_at slots number) (brought_up slots numbers rules)
+
+-- a number that isn't 0 is the place of its own number in a list, from 1 on
+abbrev pub AreNoted : List ℕ → List ℕ → Type 0
+AreNoted numbers places = (number place : ℕ) → slice_index_or places number 0 ≡ suc place → slice_get numbers place ≡ Some number
 
 -- ---- the slots after a call
 

@@ -1,11 +1,12 @@
 //! `FrontedRules`: the rules by recency, behind a front that answers most look-ups and doesn't touch the list.
 
-ghost use Rattle.std.specs.Prelude.{◌≡◌, ◌+◌, ◌-◌, ◌<◌, ◌≤◌, [], drop, length, IfOk, IfSome, IsOk, IsSome, IsTrue, OnErr, OnOk, Some, slice_get};
+ghost use Rattle.std.specs.Prelude.{◌≡◌, ◌+◌, ◌-◌, ◌<◌, ◌≤◌, List, [], length, IfOk, IfSome, IsOk, IsSome, IsTrue, OnErr, OnOk, Some, slice_get};
 ghost use Rattle.std.specs.Map.{lookup};
 ghost use Rattle.std.specs.NonZero.{non_zero_usize_get};
 ghost use Rattle.arrayvec.specs.ArrayVec.{array_vec_len};
 ghost use Rattle.lru.specs.LruCache.{IsValid, lru_cache, promoted, put_entries};
-ghost use Rattle.rule_cache.specs.Fronts.{AreEmpty, emptied, filled, has_key, replayed, rule_with, slot_at, slot_of, touched, without_key};
+ghost use Rattle.rule_cache.specs.Fronts.{AreEmpty, AreNoted, Slot as AnySlot, brought_up, emptied, filled, has_key, replayed, rule_with, slot_at, slot_of, touched, without_key};
+ghost use Rattle.rule_cache.specs.Stores.{Rules};
 ghost use Rattle.rule_cache.specs.Keys.{key_eq};
 ghost use Rattle.rule_cache.specs.declared.key.Key.{Key as StoreKey};
 
@@ -27,7 +28,7 @@ const SPREAD: u64 = 40_503;
 // A rule, if one stands there.
 type Slot = Option<(Key, OutWords)>;
 
-// The numbers of the slots in which rules were found since the list last caught up.
+// Numbers of slots: those in which rules were found since the list last caught up, in their order.
 type Log = ArrayVec<u8, LOG>;
 
 /// The rules by recency, behind a front of slots, one of which each key belongs to.
@@ -296,62 +297,52 @@ fn catch_up(rules: &mut LruCache<Key, OutWords>, slots: &[Slot], log: &mut Log)
     if log.is_empty() {
         return;
     }
-    replay(rules, slots, log.as_slice());
+    let numbers = last_first(log.as_slice());
+    bring_up(rules, slots, numbers.as_slice());
     log.clear();
 }
 
-// Moves the rules of the log's slots to the front, in the log's order.
-fn replay(rules: &mut LruCache<Key, OutWords>, slots: &[Slot], log: &[u8])
-    requires slots { length slots.now ≡ 256 }
-    requires log { length log.now ≤ 1024 }
-    ensures { rules.new
-        ≡ lru_cache (replayed slots.now log.now rules.old.entries) rules.old.cap }
-{
-    let lasts = last_places(log);
-    for place in 0..log.len() {
-        let last = lasts[log[place] as usize];
-        replay_at(rules, slots, log, place, last as usize);
-    }
-}
-
-// The last place of each number in the log. A proof needs none of it: `replay_at` tests what it is told.
-fn last_places(log: &[u8]) -> [u16; SLOTS]
+// The numbers of a log, each once, the one that was logged last first.
+#[tactic(auto, using(crate::proofs::LogLemmas::one_more))]
+fn last_first(log: &[u8]) -> Log
     requires { length log.now ≤ 1024 }
+    ensures { (slots : List AnySlot) (rules : Rules)
+        → brought_up slots result.items rules ≡ replayed slots log.now rules }
 {
+    let mut numbers = ArrayVec::new();
     let mut places = [0; SLOTS];
-    for (place, number) in log.iter().enumerate() {
-        places[*number as usize] = place as u16;
+    for place in (0..log.len()).rev() {
+        note(&mut numbers, &mut places, log[place]);
     }
-    places
+    numbers
 }
 
-// Moves the rule of one place of the log. It is passed over where its slot comes again, at the later place: the last time
-// alone counts.
-fn replay_at(
-    rules: &mut LruCache<Key, OutWords>,
-    slots: &[Slot],
-    log: &[u8],
-    place: usize,
-    later: usize,
-)
-    requires slots { length slots.now ≡ 256 }
-    requires place { place < length log.now }
-    ensures replayed { replayed slots.now (drop (place + 1) log.now) rules.new.entries
-        ≡ replayed slots.now (drop place log.now) rules.old.entries }
-    ensures capacity { rules.new.cap ≡ rules.old.cap }
+// Notes a number that isn't noted yet, and its place in the list, from 1 on.
+fn note(numbers: &mut Log, places: &mut [u16; SLOTS], number: u8)
+    requires room { length numbers.old.items < 1024 }
+    requires places { AreNoted numbers.old.items places.old }
+    ensures noted { (slots : List AnySlot) (rules : Rules)
+        → brought_up slots numbers.new.items rules
+        ≡ brought_up slots numbers.old.items (touched (slot_at slots number) rules) }
+    ensures length { length numbers.new.items ≤ length numbers.old.items + 1 }
+    ensures places { AreNoted numbers.new.items places.new }
 {
-    let number = log[place];
-    if comes_again(log, number, place, later) {
+    if places[number as usize] != 0 {
         return;
     }
-    touch(rules, &slots[number as usize]);
+    numbers.push(number);
+    places[number as usize] = numbers.len() as u16;
 }
 
-// Whether the log has the number at a place past another.
-fn comes_again(log: &[u8], number: u8, place: usize, later: usize) -> bool
-    ensures { IsTrue result → (place < later) × (slice_get log.now later ≡ Some number) }
+// Moves the rules of these slots to the front, the first one last.
+fn bring_up(rules: &mut LruCache<Key, OutWords>, slots: &[Slot], numbers: &[u8])
+    requires { length slots.now ≡ 256 }
+    ensures { rules.new
+        ≡ lru_cache (brought_up slots.now numbers.now rules.old.entries) rules.old.cap }
 {
-    place < later && log.get(later).copied() == Some(number)
+    for place in (0..numbers.len()).rev() {
+        touch(rules, &slots[numbers[place] as usize]);
+    }
 }
 
 // Moves the slot's rule to the front of the list.
