@@ -114,6 +114,10 @@ module _ {S T : Type 0} (eq : T → T → Bool) (m : PolicyModel T S) (e : Stand
   unfolding step
   step_stays_idle is = idle_by (is_ready e h) (is_over (account_after_turn eq m e.machine h e.account)) refl is
 
+  -- the step of a hart that is ready is not idle
+  pub ready_busy : is_ready e h ≡ true → (step eq m e feed h).ended ≢ ends.Idle
+  ready_busy ready is = false≢true (sym (step_stays_idle is).waits ∙ ready)
+
   memory_by : (ready over : Bool) → is_ready e h ≡ ready → (step_by eq m e feed h ready over).ended ≢ ends.Memory
   memory_by false over waits is = false≢true (ap is_want is)
   memory_by true true ready is = false≢true (ap is_want is)

@@ -5,7 +5,7 @@ ghost use Rattle.tag_memory.specs.Hart.{reg_tag, reg_value};
 ghost use Rattle.tag_memory.specs.Ram.{ram_bytes, ram_tag, ram_word};
 ghost use Rattle.engine_trait.specs.Machine.{IsMachine, hart_at, stop_at};
 ghost use Rattle.engine_trait.specs.Accounts.{counts_of, is_over};
-ghost use Rattle.engine_trait.specs.Standing.{GivesUp, IsFailure, StopsOnly, Unchanged, step};
+ghost use Rattle.engine_trait.specs.Standing.{GivesUp, IsFailure, StopsOnly, Unchanged, is_ready, step};
 
 use crate::ends::{Counts, Halt, LoadEnd, TurnEnd};
 use policy_trait::Policy;
@@ -33,6 +33,25 @@ pub trait Engine {
             → StopsOnly (standing self.old) feed.old h why (standing self.new) feed.new }
         ensures idle { result ≡ TurnEnd.Idle
             → Unchanged (standing self.old) feed.old (standing self.new) feed.new }
+        ensures harts { length (standing self.new).machine.core.harts
+            ≡ length (standing self.old).machine.core.harts }
+        ensures ram { ram_bytes (standing self.new).machine.core.ram
+            ≡ ram_bytes (standing self.old).machine.core.ram };
+
+    /// The turn of a hart that is ready: neither it nor the engine has stopped. Who knows that asks for it so, since it isn't looked at
+    /// again.
+    fn ready_turn(&mut self, h: u32, feed: &mut Feed) -> TurnEnd
+        requires hart { h < length (standing self.old).machine.core.harts }
+        requires ready { is_ready (standing self.old) h ≡ true }
+        ensures step { result ≢ TurnEnd.Memory
+            → step Self.P.Tag.eq Self.P.model (standing self.old) feed.old h
+            ≡ record { standing = standing self.new; feed = feed.new; ended = result } }
+        ensures memory { result ≡ TurnEnd.Memory
+            → GivesUp Self.P.Tag.eq Self.P.model (standing self.old) feed.old h
+            (standing self.new) feed.new }
+        ensures failure { (why : Stop) → IsFailure why → result ≡ TurnEnd.Stopped why
+            → StopsOnly (standing self.old) feed.old h why (standing self.new) feed.new }
+        ensures busy { result ≢ TurnEnd.Idle }
         ensures harts { length (standing self.new).machine.core.harts
             ≡ length (standing self.old).machine.core.harts }
         ensures ram { ram_bytes (standing self.new).machine.core.ram

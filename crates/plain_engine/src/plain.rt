@@ -295,6 +295,30 @@ impl<P: Policy> Engine for Plain<P> {
         if !self.is_ready(h) {
             return TurnEnd::Idle;
         }
+        self.ready_turn(h, feed)
+    }
+
+    #[inline(always)]
+    #[tactic(auto)]
+    fn ready_turn(&mut self, h: u32, feed: &mut Feed) -> TurnEnd
+        requires hart { h < length self.old.machine.core.harts }
+        requires ready { is_ready self.old h ≡ true }
+        ensures step { result ≢ TurnEnd.Memory
+            → step P.Tag.eq P.model self.old feed.old h
+            ≡ record { standing = self.new; feed = feed.new; ended = result } }
+        ensures memory { result ≡ TurnEnd.Memory
+            → GivesUp P.Tag.eq P.model self.old feed.old h self.new feed.new }
+        ensures failure { (why : Stop) → IsFailure why → result ≡ TurnEnd.Stopped why
+            → StopsOnly self.old feed.old h why self.new feed.new }
+        ensures busy { result ≢ TurnEnd.Idle }
+        ensures harts { length self.new.machine.core.harts ≡ length self.old.machine.core.harts }
+        ensures ram { ram_bytes self.new.machine.core.ram ≡ ram_bytes self.old.machine.core.ram }
+        // It never runs out of tag numbers, and of memory only in a policy's service that nothing refuses.
+        ensures words { result ≢ TurnEnd.TagsOut }
+        ensures served { result ≡ TurnEnd.Memory → is_served P.model self.old.machine h ≡ true }
+    {
+        // Serves the proof alone: no rules are kept.
+        let _ready = self.is_ready(h);
         let look = match self.prepare(h) {
             Ok(look) => look,
             Err(why) => return self.stop_unasked(h, why),

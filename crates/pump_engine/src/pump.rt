@@ -420,6 +420,34 @@ impl<P: Policy, T: TagTable<Tag = P::Tag>, C: RuleStore> Engine for Pump<P, T, C
         if !self.is_ready(h) {
             return TurnEnd::Idle;
         }
+        self.ready_turn(h, feed)
+    }
+
+    #[inline(always)]
+    #[tactic(auto)]
+    fn ready_turn(&mut self, h: u32, feed: &mut Feed) -> TurnEnd
+        requires hart { h < length (standing_by_words P.model self.old).machine.core.harts }
+        requires ready { is_ready (standing_by_words P.model self.old) h ≡ true }
+        ensures step { result ≢ TurnEnd.Memory
+            → step P.Tag.eq P.model (standing_by_words P.model self.old) feed.old h
+            ≡ record { standing = standing_by_words P.model self.new; feed = feed.new; ended = result } }
+        ensures memory { result ≡ TurnEnd.Memory
+            → GivesUp P.Tag.eq P.model (standing_by_words P.model self.old) feed.old h
+            (standing_by_words P.model self.new) feed.new }
+        ensures failure { (why : Stop) → IsFailure why → result ≡ TurnEnd.Stopped why
+            → StopsOnly (standing_by_words P.model self.old) feed.old h why
+            (standing_by_words P.model self.new) feed.new }
+        ensures busy { result ≢ TurnEnd.Idle }
+        ensures harts { length (standing_by_words P.model self.new).machine.core.harts
+            ≡ length (standing_by_words P.model self.old).machine.core.harts }
+        ensures ram { ram_bytes (standing_by_words P.model self.new).machine.core.ram
+            ≡ ram_bytes (standing_by_words P.model self.old).machine.core.ram }
+        // A turn whose rule is kept takes no memory, but for a service of the policy that nothing refuses.
+        ensures kept { result ≡ TurnEnd.Memory
+            → takes_memory P.Tag.eq P.model (standing_by_words P.model self.old) h ≡ true }
+    {
+        // Serves the proof alone: no more tags have words than may.
+        let _ready = self.is_ready(h);
         let look = match self.prepare(h) {
             Ok(look) => look,
             Err(why) => return self.stop_hart(h, why),

@@ -7,44 +7,35 @@ ghost use Rattle.pump_words.specs.Words.{sign_extended, signed, unsigned, shifte
 pub fn sign8(word: u32) -> u32
     ensures { result ≡ sign_extended 8 word }
 {
-    let low = word & 0xFF;
-    if low < 0x80 { low } else { 0xFFFF_FF00 + low }
+    sra(word << 24, 24)
 }
 
 /// The low 16 bits of `word`, with bit 15 copied into all bits above.
 pub fn sign16(word: u32) -> u32
     ensures { result ≡ sign_extended 16 word }
 {
-    let low = word & 0xFFFF;
-    if low < 0x8000 { low } else { 0xFFFF_0000 + low }
+    sra(word << 16, 16)
 }
 
 /// The low 12 bits of `word`, with bit 11 copied into all bits above.
 pub fn sign12(word: u32) -> u32
     ensures { result ≡ sign_extended 12 word }
 {
-    let low = word & 0xFFF;
-    if low < 0x800 { low } else { 0xFFFF_F000 + low }
+    sra(word << 20, 20)
 }
 
 /// The low 13 bits of `word`, with bit 12 copied into all bits above.
 pub fn sign13(word: u32) -> u32
     ensures { result ≡ sign_extended 13 word }
 {
-    let low = word & 0x1FFF;
-    if low < 0x1000 { low } else { 0xFFFF_E000 + low }
+    sra(word << 19, 19)
 }
 
 /// The low 21 bits of `word`, with bit 20 copied into all bits above.
 pub fn sign21(word: u32) -> u32
     ensures { result ≡ sign_extended 21 word }
 {
-    let low = word & 0x1F_FFFF;
-    if low < 0x10_0000 {
-        low
-    } else {
-        0xFFE0_0000 + low
-    }
+    sra(word << 11, 11)
 }
 
 /// `word` as a signed number over 2 ^ `count`, rounded down, where `count` counts modulo 32: the

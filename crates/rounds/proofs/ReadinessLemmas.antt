@@ -5,7 +5,7 @@ use Rattle.std.proofs.lemmas.Bool.Decides.{nat_tests}
 use Rattle.std.proofs.lemmas.List.FromFn.{get_or-map-range_with_len, length-map-range_with_len}
 use Rattle.turn_steps.specs.declared.stop.Stop.{Stop}
 use Rattle.engine_trait.specs.Machine.{CoreState, has_no_stop, is_ready_in, stop_at}
-use Rattle.engine_trait.specs.Standing.{Standing, is_running}
+use Rattle.engine_trait.specs.Standing.{Standing, is_ready, is_running}
 use Rattle.rounds.specs.Course.{first_ready, found_or_first, hart_stops, next_hart, next_turn, order_in, unless_stopped}
 
 never_both : (x : Bool) → (x && false) ≡ false
@@ -43,42 +43,53 @@ module _ {T : Type 0} (core : CoreState T) (h : ℕ) where
       rw (stopped_in why stopped)
       (ap (first_ready core (h + 1)) (let e : suc n - 1 ≡ n = omega arith in e))
 
--- ---- what is next is there
+-- ---- what is next is ready
 
 module _ {T : Type 0} (core : CoreState T) where
-  abbrev IsThere : ℕ → Type 0
-  IsThere h = h < length core.harts
+  abbrev IsReady : ℕ → Type 0
+  IsReady h = is_ready_in core h ≡ true
 
-  ready_there : (h : ℕ) → is_ready_in core h ≡ true → IsThere h
+  found_ready : (ready : Bool) (from h : ℕ) (rest : Option ℕ) → is_ready_in core from ≡ ready → (if ready then Some from else rest) ≡ Some h
+      → (rest ≡ Some h → IsReady h) → IsReady h
+  found_ready true from h rest is found others = subst IsReady (let e : from ≡ h = cc in e) is
+  found_ready false from h rest is found others = others found
+
+  first_is_ready : (from n h : ℕ) → first_ready core from n ≡ Some h → IsReady h
+  unfolding first_ready
+  first_is_ready from zero h found = absurd cc
+  first_is_ready from (suc n) h found = found_ready (is_ready_in core from) from h (first_ready core (from + 1) n) refl found (first_is_ready (from + 1) n h)
+
+  either_ready : (found first : Option ℕ) (h : ℕ) → found_or_first found first ≡ Some h → (found ≡ Some h → IsReady h) → (first ≡ Some h → IsReady h) → IsReady h
+  either_ready (Some k) first h is now later = now is
+  either_ready None first h is now later = later is
+
+  next_hart_ready : (from h : ℕ) → next_hart core from ≡ Some h → IsReady h
+  unfolding next_hart
+  next_hart_ready from h is =
+      either_ready (first_ready core from (length core.harts - from)) (first_ready core 0 (length core.harts)) h is
+      (first_is_ready from (length core.harts - from) h) (first_is_ready 0 (length core.harts) h)
+
+  ready_there : (h : ℕ) → IsReady h → h < length core.harts
   ready_there h ready = grind (arith, nat_tests)
 
-  found_there : (ready : Bool) (from h : ℕ) (rest : Option ℕ) → is_ready_in core from ≡ ready → (if ready then Some from else rest) ≡ Some h
-      → (rest ≡ Some h → IsThere h) → IsThere h
-  found_there true from h rest is found others = subst IsThere (let e : from ≡ h = cc in e) (ready_there from is)
-  found_there false from h rest is found others = others found
-
-  first_there : (from n h : ℕ) → first_ready core from n ≡ Some h → IsThere h
-  unfolding first_ready
-  first_there from zero h found = absurd cc
-  first_there from (suc n) h found = found_there (is_ready_in core from) from h (first_ready core (from + 1) n) refl found (first_there (from + 1) n h)
-
-  either_there : (found first : Option ℕ) (h : ℕ) → found_or_first found first ≡ Some h → (found ≡ Some h → IsThere h) → (first ≡ Some h → IsThere h) → IsThere h
-  either_there (Some k) first h is now later = now is
-  either_there None first h is now later = later is
-
-  next_hart_there : (from h : ℕ) → next_hart core from ≡ Some h → IsThere h
-  unfolding next_hart
-  next_hart_there from h is =
-      either_there (first_ready core from (length core.harts - from)) (first_ready core 0 (length core.harts)) h is
-      (first_there from (length core.harts - from) h) (first_there 0 (length core.harts) h)
-
-if_running : (running : Bool) (next : Option ℕ) (h : ℕ) → (if running then next else None) ≡ Some h → next ≡ Some h
-if_running true next h is = is
+if_running : (running : Bool) (next : Option ℕ) (h : ℕ) → (if running then next else None) ≡ Some h → (running ≡ true) × (next ≡ Some h)
+if_running true next h is = (refl, is)
 if_running false next h is = absurd cc
 
-pub next_there : {S T : Type 0} (e : Standing S T) (from h : ℕ) → next_turn e from ≡ Some h → h < length e.machine.core.harts
-unfolding next_turn
-next_there e from h is = next_hart_there e.machine.core from h (if_running (is_running e.account.halt) (next_hart e.machine.core from) h is)
+module _ {S T : Type 0} (e : Standing S T) (from h : ℕ) where
+  next_parts : next_turn e from ≡ Some h → (is_running e.account.halt ≡ true) × (is_ready_in e.machine.core h ≡ true)
+  unfolding next_turn
+  next_parts is =
+      let there = if_running (is_running e.account.halt) (next_hart e.machine.core from) h is in
+      (there.0, next_hart_ready e.machine.core from h there.1)
+
+  pub next_ready : next_turn e from ≡ Some h → is_ready e h ≡ true
+  next_ready is =
+      let there = next_parts is in
+      (λ j. there.0 j && there.1 j)
+
+  pub next_there : next_turn e from ≡ Some h → h < length e.machine.core.harts
+  next_there is = ready_there e.machine.core h (next_parts is).1
 
 -- ---- the order of turns
 

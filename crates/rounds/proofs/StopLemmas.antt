@@ -1,6 +1,6 @@
--- A turn that stops no hart leaves who is ready.
-use Rattle.std.proofs.Common.{◌≡◌, ℕ, Bool, true, false, List, length, Option, Some, None, Result, Ok, Err, refl, ap, sym, ◌∙◌}
-use Rattle.std.proofs.lemmas.List.{length-set}
+-- A turn that stops no hart leaves who is ready, and one that stops its hart leaves why.
+use Rattle.std.proofs.Common.{◌≡◌, ℕ, ◌<◌, Bool, true, false, List, length, Option, Some, None, Result, Ok, Err, refl, ap, sym, ◌∙◌, arith}
+use Rattle.std.proofs.lemmas.List.{get_or-set_same, length-set}
 use Rattle.policy_trait.specs.Model.{PolicyModel}
 use Rattle.shared_terms.specs.Steps.{◌>>=◌}
 use Rattle.policy_trait.specs.declared.rules.Outs.{Outs}
@@ -12,9 +12,12 @@ use Rattle.turn_steps.specs.declared.effects.Done.{Done}
 use Rattle.turn_steps.specs.declared.effects.Done.TheVariants as done
 use Rattle.turn_steps.specs.declared.look.Look.{Look}
 use Rattle.turn_steps.specs.declared.stop.Stop.{Stop}
+use Rattle.turn_steps.specs.declared.stop.Stop.TheVariants as stop
 use Rattle.engine_trait.specs.Accounts.{account_after_turn, is_over}
-use Rattle.engine_trait.specs.Machine.{CoreState, Machine, is_ready_in}
-use Rattle.engine_trait.specs.Standing.{Standing, is_ready, step, step_by}
+use Rattle.engine_trait.specs.Machine.{CoreState, IsMachine, Machine, is_ready_in, stop_at, stopping}
+use Rattle.engine_trait.specs.Standing.{Standing, Stepped, is_ready, step, step_by}
+use Rattle.engine_trait.specs.declared.ends.TurnEnd.{TurnEnd}
+use Rattle.engine_trait.specs.declared.ends.TurnEnd.TheVariants as ends
 use Rattle.engine_trait.specs.Turn.{Turned, rule_answer, attempt, carried_at, core_effected, core_ended, core_served, turn_effect, end_of, turn_job, preparation, settlement, turn_by, turn_of}
 use Rattle.engine_trait.proofs.TurnLemmas.{allowed_turn, planned_turn}
 use Rattle.rounds.specs.Course.{is_stop, order_in}
@@ -91,3 +94,72 @@ module _ {S T : Type 0} (eq : T → T → Bool) (m : PolicyModel T S) (e : Stand
       kept
       ∙ sym (order_same e.machine.core (step eq m e feed h).standing.machine.core stays.stops stays.count)
       ∙ sym (ap (λ (g : Standing S T). order_in g.machine.core) is)
+
+-- ---- the stop of a turn that stopped its hart
+
+-- the stop stands in the core
+stop_stands : {T : Type 0} (core : CoreState T) (h : ℕ) (why : Stop) → h < length core.stops → stop_at (stopping core h why) h ≡ Some why
+stop_stands core h why there = get_or-set_same core.stops h (Some why) None there
+
+module _ {T : Type 0} (core : CoreState T) (h : ℕ) (there : h < length core.stops) where
+  ended_tells : (carried : Carried T) (end : Done) (why : Stop) → end_of end ≡ ends.Stopped why → stop_at (core_ended core h carried end) h ≡ Some why
+  ended_tells carried (done.Stepped byte) why is = absurd (cc is)
+  ended_tells carried done.Broke why is = absurd (cc is)
+  ended_tells carried (done.Exited code) why is =
+      let same : stop.Exit code ≡ why = cc is in
+      stop_stands core h (stop.Exit code) there ∙ ap Some same
+
+module _ {S T : Type 0} (m : PolicyModel T S) (s : Machine S T) (feed : Tape) (h : ℕ) (there : h < length s.core.stops) where
+  abbrev TellsStop : Turned S T → Type 0
+  TellsStop turned = (why : Stop) → turned.ended ≡ ends.Stopped why → stop_at turned.machine.core h ≡ Some why
+
+  own_tells : (look : Look) (outs : Outs T) → TellsStop (turn_effect m s feed h look outs None)
+  unfolding core_effected
+  own_tells look outs why is = ended_tells s.core h there (carried_at s.core feed h look outs) (carried_at s.core feed h look outs).done why is
+
+  effect_tells : (look : Look) (outs : Outs T) (job : Option (Job T)) → TellsStop (turn_effect m s feed h look outs job)
+  effect_tells look outs (Some job) why is = absurd (cc is)
+  effect_tells look outs None why is = own_tells look outs why is
+
+  steps_tell : {A : Type 0} (first : Result A Stop) (rest : A → Result (Turned S T) Stop)
+      → ((x : A) → TellsStop (settlement m s feed h (rest x))) → TellsStop (settlement m s feed h (first >>= rest))
+  steps_tell (Ok x) rest each why is = each x why is
+  steps_tell (Err refused) rest each why is =
+      let same : refused ≡ why = cc is in
+      stop_stands s.core h refused there ∙ ap Some same
+
+  attempt_tells : TellsStop (settlement m s feed h (attempt m s feed h))
+  unfolding attempt
+  attempt_tells =
+      steps_tell (preparation m s h) (allowed_turn m s feed h) λ look.
+      steps_tell (rule_answer m s h look) (planned_turn m s feed h look) λ outs.
+      steps_tell (turn_job m s h look outs) (λ job. Ok (turn_effect m s feed h look outs job)) (effect_tells look outs)
+
+  turn_if_tells : (ready : Bool) → TellsStop (turn_by m s feed h ready)
+  turn_if_tells true why is = attempt_tells why is
+  turn_if_tells false why is = absurd (cc is)
+
+  turn_tells : TellsStop (turn_of m s feed h)
+  unfolding turn_of
+  turn_tells why is = turn_if_tells (is_ready_in s.core h) why is
+
+module _ {S T : Type 0} (eq : T → T → Bool) (m : PolicyModel T S) (e : Standing S T) (feed : Tape) (h : ℕ) where
+  step_if_tells : h < length e.machine.core.stops → (ready over : Bool) (why : Stop) → (step_by eq m e feed h ready over).ended ≡ ends.Stopped why
+      → stop_at (step_by eq m e feed h ready over).standing.machine.core h ≡ Some why
+  step_if_tells there false over why is = absurd (cc is)
+  step_if_tells there true true why is = absurd (cc is)
+  step_if_tells there true false why is = turn_tells m e.machine feed h there why is
+
+  step_tells : h < length e.machine.core.stops → (why : Stop) → (step eq m e feed h).ended ≡ ends.Stopped why
+      → stop_at (step eq m e feed h).standing.machine.core h ≡ Some why
+  unfolding step
+  step_tells there why is = step_if_tells there (is_ready e h) (is_over (account_after_turn eq m e.machine h e.account)) why is
+
+  -- where the hart stopped in this step, its stop is that which the step ended with
+  pub stop_left : IsMachine m e.machine → h < length e.machine.core.harts → (f : Standing S T) (fed : Tape) (ended : TurnEnd)
+      → step eq m e feed h ≡ record { standing = f; feed = fed; ended = ended } → (why : Stop) → ended ≡ ends.Stopped why → stop_at f.machine.core h ≡ Some why
+  stop_left machine here f fed ended is why stopped =
+      let few = machine.core.few in
+      let stops = machine.core.stops in
+      let there : h < length e.machine.core.stops = omega (arith, few, stops, here) in
+      ap (λ (g : Stepped S T). stop_at g.standing.machine.core h) (sym is) ∙ step_tells there why (ap (λ (g : Stepped S T). g.ended) is ∙ stopped)

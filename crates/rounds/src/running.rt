@@ -1,8 +1,8 @@
 //! The loop of rounds.
 
-ghost use Rattle.std.specs.Prelude.{◌≡◌, ◌≢◌, ◌<◌, Err, None, Some, IfOk, OnOk, length};
+ghost use Rattle.std.specs.Prelude.{◌≡◌, ◌≢◌, ◌<◌, Err, None, Some, IfOk, OnOk, length, true};
 ghost use Rattle.host_io.specs.Pieces.{Puts, PutsFirst};
-ghost use Rattle.engine_trait.specs.Standing.{step};
+ghost use Rattle.engine_trait.specs.Standing.{is_ready, step};
 ghost use Rattle.rounds.specs.Course.{rounds};
 ghost use Rattle.rounds.specs.Cuts.{RoundsCause};
 ghost use Rattle.rounds.specs.Shown.{pieces_of, shown_by};
@@ -21,7 +21,7 @@ pub enum RoundsEnd {
     Engine,
 }
 
-/// One turn of a hart, and what it shows. The answer is how the turn ended.
+/// One turn of a hart that is ready, and what it shows. The answer is how the turn ended.
 #[inline(always)]
 fn make_turn<E: Engine, K: Sink, L: Sink>(
     engine: &mut E,
@@ -30,7 +30,8 @@ fn make_turn<E: Engine, K: Sink, L: Sink>(
     out: &mut K,
     err: &mut L,
 ) -> Result<TurnEnd, RoundsEnd>
-    requires { h < length (E.standing engine.old).machine.core.harts }
+    requires hart { h < length (E.standing engine.old).machine.core.harts }
+    requires ready { is_ready (E.standing engine.old) h ≡ true }
     ensures ended { IfOk result (λ end.
         end ≡ (step E.P.Tag.eq E.P.model (E.standing engine.old) feed.old h).ended) }
     ensures standing { OnOk result (E.standing engine.new
@@ -53,11 +54,13 @@ fn make_turn<E: Engine, K: Sink, L: Sink>(
     ensures runs_on { (end : PutEnd) → result ≡ Err (RoundsEnd.Put end)
         → (E.standing engine.new).account.halt ≡ None }
 {
-    let end = engine.turn(h, feed);
+    // Serves the proof alone: the machine is sound, and so has a place for the hart's stop.
+    let _harts = engine.harts();
+    let end = engine.ready_turn(h, feed);
     if let TurnEnd::Memory = end {
         return Err(RoundsEnd::Engine);
     }
-    match tell(h, end, out, err) {
+    match tell(engine, h, end, out, err) {
         Ok(()) => Ok(end),
         Err(cause) => Err(RoundsEnd::Put(cause)),
     }

@@ -1,27 +1,33 @@
 //! What a turn shows.
 
-ghost use Rattle.std.specs.Prelude.{◌≡◌, ◌≢◌, true, Err, OnErr, OnOk};
+ghost use Rattle.std.specs.Prelude.{◌≡◌, ◌≢◌, ◌<◌, true, Err, OnErr, OnOk, Some, length};
 ghost use Rattle.host_io.specs.Causes.{PutCause};
 ghost use Rattle.host_io.specs.Prefixes.{TakesAll, TakesPrefix};
 ghost use Rattle.host_io.specs.Pieces.{Puts, PutsFirst};
 ghost use Rattle.host_io.specs.TwoSinks.{PutsCause};
 ghost use Rattle.engine_trait.specs.EngineLaws.{is_made};
+ghost use Rattle.engine_trait.specs.Machine.{stop_at};
 ghost use Rattle.tag_text.specs.Texts.{stop_line};
 ghost use Rattle.rounds.specs.Shown.{shown_by};
 
-use engine_trait::{Stop, TurnEnd};
+use engine_trait::{Engine, Stop, TurnEnd};
 use host_io::{PutEnd, Sink};
 use pump_words::Line;
 use tag_text::write_stop_line;
 
-/// Tells what a turn of hart `h` that ended so shows.
+/// Tells what a turn of hart `h` that ended so shows. The stop is the one that the engine has for the hart since then: the turn's end
+/// has it too, but is read nowhere else, so that no turn has to carry it.
 #[inline(always)]
-pub(crate) fn tell<K: Sink, L: Sink>(
+pub(crate) fn tell<E: Engine, K: Sink, L: Sink>(
+    engine: &E,
     h: u32,
     end: TurnEnd,
     out: &mut K,
     err: &mut L,
 ) -> Result<(), PutEnd>
+    requires hart { h < length (E.standing engine.now).machine.core.harts }
+    requires stop { (why : Stop) → end ≡ TurnEnd.Stopped why
+        → stop_at (E.standing engine.now).machine.core h ≡ Some why }
     ensures puts { Puts (record { out = K.taken out.old; err = L.taken err.old })
         (record { out = K.taken out.new; err = L.taken err.new }) (shown_by h end) result }
     ensures whole { result ≢ Err PutEnd.Failed
@@ -34,7 +40,10 @@ pub(crate) fn tell<K: Sink, L: Sink>(
 {
     match end {
         TurnEnd::Ran(Some(byte)) => out.put(&[byte]),
-        TurnEnd::Stopped(why) => put_stop(h, why, err),
+        TurnEnd::Stopped(_) => match engine.stop(h) {
+            Some(why) => put_stop(h, why, err),
+            None => Ok(()),
+        },
         _ => Ok(()),
     }
 }

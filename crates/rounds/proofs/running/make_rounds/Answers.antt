@@ -1,7 +1,7 @@
 use Rattle.std.proofs.Common.{Err, arith, refl, ap, subst, sym, ◌∙◌, ◌≡◌, ◌+◌, ◌-◌, ◌<◌, ℕ}
 use Rattle.std.proofs.lemmas.Result.{err_from_is_err_and}
 use Rattle.rounds.specs.Course.{is_stop, rounds}
-use Rattle.rounds.proofs.ReadinessLemmas.{next_there}
+use Rattle.rounds.proofs.ReadinessLemmas.{next_ready, next_there}
 use Rattle.rounds.proofs.StopLemmas.{order_stays}
 use Rattle.rounds.proofs.TurnLemmas.{left_begins, left_ends, left_goes_on, left_is_cut, left_is_cut_between, rounds-none, rounds-over, same_err}
 use Rattle.rounds.proofs.running.make_rounds.Goals as goal
@@ -53,8 +53,11 @@ next_after-next-requires-clause-kept g c = λ goes_on.
     order_stays g.E.P.Tag.PartialEq.eq g.E.P.Policy.model (g.E.Engine.standing c.loop.engine) c.loop.feed c.in-Some.h c.loop.order.items (g.E.Engine.standing c.make_turn.new.engine)
     c.loop.invariant.order c.in_ok-end.ensures.standing (sym (ap is_stop c.in_ok-end.ensures.ended) ∙ goes_on)
 
-pub make_turn-requires : goal.make_turn-requires
-make_turn-requires g c = next_there (g.E.Engine.standing c.loop.engine) c.loop.invariant.from c.in-Some.h (sym c.loop.invariant.next ∙ c.in-Some.is)
+pub make_turn-requires-clause-hart : goal.make_turn-requires-clause-hart
+make_turn-requires-clause-hart g c = next_there (g.E.Engine.standing c.loop.engine) c.loop.invariant.from c.in-Some.h (sym c.loop.invariant.next ∙ c.in-Some.is)
+
+pub make_turn-requires-clause-ready : goal.make_turn-requires-clause-ready
+make_turn-requires-clause-ready g c = next_ready (g.E.Engine.standing c.loop.engine) c.loop.invariant.from c.in-Some.h (sym c.loop.invariant.next ∙ c.in-Some.is)
 
 pub loop-preserved : goal.loop-preserved
 loop-preserved g c = record {
