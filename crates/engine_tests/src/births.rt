@@ -1,7 +1,8 @@
 //! The words and tags of a start, as the lists of an image say them.
 
-use image_format::read_image;
+use image_format::{Image, read_image};
 use policy_trait::{Birth, CompartmentSet};
+use std::alloc::Global;
 use std::test::Fail;
 use tag_loader::{BirthWalk, birth};
 
@@ -41,44 +42,116 @@ const LISTED: &[u32] = &[
     0,
 ];
 
-/// An address, the owner there, the sets of those that are let in and let write, whether it is code, its label, and whether
-/// it lies in the heap region.
-const BIRTHS: &[(u32, u32, u32, u32, bool, Option<u32>, bool)] = &[
-    (0, 1, 2, 4, true, None, false),
-    (4, 31, 0, 0, true, Some(1), false),
-    (8, 31, 0, 0, false, Some(2), false),
-    (12, 31, 0, 0, false, None, false),
-    (16, 0, 0, 0, false, None, false),
-    (28, 0, 0, 0, false, None, false),
-    (44, 0, 0, 0, false, None, true),
-    (48, 0, 0, 0, false, None, false),
+/// What the lists say of the word at an address.
+struct BirthRow {
+    address: u32,
+    owner: u32,
+    /// The sets of the compartments that are let in and let write.
+    into: u32,
+    write: u32,
+    code: bool,
+    label: Option<u32>,
+    heap: bool,
+}
+
+/// The word at 16, which is in no list.
+const UNLISTED: BirthRow = BirthRow {
+    address: 16,
+    owner: 0,
+    into: 0,
+    write: 0,
+    code: false,
+    label: None,
+    heap: false,
+};
+
+const BIRTHS: &[BirthRow] = &[
+    BirthRow {
+        address: 0,
+        owner: 1,
+        into: 2,
+        write: 4,
+        code: true,
+        ..UNLISTED
+    },
+    BirthRow {
+        address: 4,
+        owner: 31,
+        code: true,
+        label: Some(1),
+        ..UNLISTED
+    },
+    BirthRow {
+        address: 8,
+        owner: 31,
+        label: Some(2),
+        ..UNLISTED
+    },
+    BirthRow {
+        address: 12,
+        owner: 31,
+        ..UNLISTED
+    },
+    UNLISTED,
+    BirthRow {
+        address: 28,
+        ..UNLISTED
+    },
+    BirthRow {
+        address: 44,
+        heap: true,
+        ..UNLISTED
+    },
+    BirthRow {
+        address: 48,
+        ..UNLISTED
+    },
 ];
 
-#[test]
-fn births_are_what_the_lists_say(rt: HostRuntime) -> Result<(), Fail> {
-    let mut bytes = Vec::new(rt.alloc());
+/// The birth that a row says.
+fn birth_in(row: &BirthRow) -> Birth {
+    Birth {
+        owner: row.owner,
+        into: CompartmentSet::of_bits(row.into),
+        write: CompartmentSet::of_bits(row.write),
+        code: row.code,
+        label: row.label,
+        heap: row.heap,
+    }
+}
+
+/// The image of the file with every list.
+fn listed_image(alloc: Global) -> Result<Image, Fail> {
+    let mut bytes = Vec::new(alloc);
     for word in LISTED {
         bytes.extend_from_slice(&word.to_le_bytes())?;
     }
-    let image = read_image(rt.alloc(), &bytes).ok().ok_or("no image")?;
-    for &(address, owner, into, write, code, label, heap) in BIRTHS {
-        let expected = Birth {
-            owner,
-            into: CompartmentSet::of_bits(into),
-            write: CompartmentSet::of_bits(write),
-            code,
-            label,
-            heap,
-        };
-        assert!(rt; birth(&image, address) == expected, "at {address}");
+    Ok(read_image(alloc, &bytes).ok().ok_or("no image")?)
+}
+
+/// Whether the image says of each row's word what the row does.
+fn are_births_told(image: &Image) -> bool {
+    BIRTHS
+        .iter()
+        .all(|row| birth(image, row.address) == birth_in(row))
+}
+
+/// Whether a walk through the image, which passes over some words, says the same.
+fn are_births_met(image: &Image) -> bool {
+    let ram = image.ram();
+    let mut births = BirthWalk::new(image);
+    for row in BIRTHS {
+        if row.address >= ram || births.words_from(row.address / 4).birth != birth_in(row) {
+            return false;
+        }
     }
-    // a walk through the same file, which passes over some words
-    let mut births = BirthWalk::new(&image);
-    for &(address, ..) in BIRTHS {
-        assert!(rt;
-            births.run_at(address).value == birth(&image, address),
-            "at {address}"
-        );
-    }
+    true
+}
+
+#[test]
+fn births_are_what_the_lists_say(rt: HostRuntime) -> Result<(), Fail> {
+    let image = listed_image(rt.alloc())?;
+    assert!(rt; are_births_told(&image));
+    assert!(rt; are_births_met(&image));
     Ok(())
 }

@@ -1,5 +1,6 @@
 -- A walk through the lists of an image: what it leaves behind, and how far it sees.
-use Rattle.std.specs.Prelude.{ℕ, ◌+◌, ◌^◌, nat_lt, min, if◌then◌else◌}
+use Rattle.std.specs.Prelude.{ℕ, ◌+◌, ◌*◌, ◌^◌, nat_lt, min, if◌then◌else◌}
+use Rattle.std.specs.Int.{div_ceil}
 use Rattle.image_format.specs.Picture.{Picture}
 use Rattle.tag_loader.specs.Sorted.{first_end, label_first, label_past, owned_first, owned_past, range_first, range_past, rows_past}
 
@@ -23,3 +24,7 @@ birth_end g address =
     let code = first_end range_first range_past address g.code in
     let labelled = first_end label_first label_past address g.labels in
     min (min (min owned code) labelled) (heap_end g address)
+
+-- the number of the first word behind those from word n on of which the image says the same: at most that of memory's words
+unfoldable pub words_end : Picture → ℕ → ℕ
+words_end g n = div_ceil (min (birth_end (from_on g (4 * n)) (4 * n)) g.ram) 4

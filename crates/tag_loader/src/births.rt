@@ -1,10 +1,10 @@
 //! What an image says of its words.
 
-ghost use Rattle.std.specs.Prelude.{◌≡◌, ℕ, ◌<◌, ◌≤◌};
+ghost use Rattle.std.specs.Prelude.{◌≡◌, ℕ, ◌*◌, ◌<◌, ◌≤◌};
 ghost use Rattle.std.specs.List.{find};
 ghost use Rattle.std.specs.Option.{is_some};
 ghost use Rattle.tag_loader.specs.Births.{birth_by, birth_of, id_of, is_labelled_by, is_owned_by, lies_in, lies_in_heap};
-ghost use Rattle.tag_loader.specs.Walks.{birth_end, from_on, heap_end};
+ghost use Rattle.tag_loader.specs.Walks.{birth_end, from_on, heap_end, words_end};
 
 use crate::sorted::{NO_END, Run, row_at};
 use crate::walks::Walk;
@@ -106,7 +106,16 @@ fn label_at(image: &Image, address: u32) -> Option<Label>
     row_at(image.labels(), address)
 }
 
-/// An image that is asked for the births at one address after another, each no lower than the one before: it goes through
+/// Words, one behind another, of which an image says the same.
+#[derive(Clone, Copy)]
+pub struct WordRun {
+    /// What it says of each of them.
+    pub birth: Birth,
+    /// The number of the first word behind them.
+    pub end: u32,
+}
+
+/// An image that is asked for the births of one run of words after another, each no lower than the one before: it goes through
 /// each list once. Contracts see it as the image with the rows that its lists still have.
 #[derive(Drop)]
 pub struct BirthWalk<'a> {
@@ -141,9 +150,31 @@ impl<'a> BirthWalk<'a> {
         }
     }
 
+    /// The words from word `n` on of which the image says the same, up to where a row or the heap region begins or ends, or
+    /// memory does. What is left says the same as before of each address from theirs on.
+    pub fn words_from(&mut self, n: u32) -> WordRun
+        requires { 4 * n < self.old.ram }
+        ensures told { (k : ℕ) → n ≤ k → k < result.end →
+            birth_of self.old (4 * k) ≡ result.birth }
+        ensures some { n < result.end }
+        ensures end { result.end ≡ words_end self.old n }
+        ensures within { 4 * result.end ≤ self.old.ram }
+        ensures left { self.new ≡ from_on self.old (4 * n) }
+        ensures ram { self.new.ram ≡ self.old.ram }
+        ensures later { (at : ℕ) → 4 * n ≤ at → birth_of self.new at ≡ birth_of self.old at }
+    {
+        let ram = self.image.ram();
+        let run = self.run_at(4 * n);
+        let end = run.end.min(u64::from(ram)).div_ceil(4);
+        WordRun {
+            birth: run.value,
+            end: end as u32,
+        }
+    }
+
     /// What the image says of the word at `address`, and up to where it says so. What is left says the same as before of each
     /// address from this one on.
-    pub fn run_at(&mut self, address: u32) -> Run<Birth>
+    fn run_at(&mut self, address: u32) -> Run<Birth>
         ensures told { (at : ℕ) → address ≤ at → at < result.end →
             birth_of self.old at ≡ result.value }
         ensures some { address < result.end }

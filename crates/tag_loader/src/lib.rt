@@ -9,8 +9,7 @@ mod sorted;
 mod start;
 mod walks;
 
-pub use births::{BirthWalk, birth};
+pub use births::{BirthWalk, WordRun, birth};
 pub use law::{memory_law, values_law};
-pub use parts::words_of;
-pub use sorted::Run;
+pub use parts::{harts_of, words_of};
 pub use start::start_under;

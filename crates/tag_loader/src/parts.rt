@@ -42,17 +42,16 @@ pub(crate) fn tags_of<P: Policy>(
     let mut tags = Vec::with_capacity(alloc, count as usize)?;
     let mut n = 0;
     while n < count {
-        let run = births.run_at(4 * n);
-        let end = run.end.min(u64::from(image.ram())).div_ceil(4);
-        tags.resize(end as usize, policy.start_word(&run.value))?;
-        n = end as u32;
+        let run = births.words_from(n);
+        tags.resize(run.end as usize, policy.start_word(&run.birth))?;
+        n = run.end;
     }
     Ok(tags)
 }
 
-/// The harts at the start.
+/// The harts at the start. The only error is running out of memory.
 #[tactic(auto, unfolding(crate::specs::Start::start_harts))]
-pub(crate) fn harts_of<P: Policy>(
+pub fn harts_of<P: Policy>(
     alloc: Global,
     policy: &P,
     image: &Image,

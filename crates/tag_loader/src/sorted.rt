@@ -84,11 +84,11 @@ pub(crate) fn row_at<R: Placed>(rows: &[R], address: u32) -> Option<R>
 
 /// What is so from an address on, up to another.
 #[derive(Clone, Copy)]
-pub struct Run<T> {
+pub(crate) struct Run<T> {
     /// What is so of each of these addresses.
-    pub value: T,
+    pub(crate) value: T,
     /// The first address of which it need not be so; 2^32 where it is so of all.
-    pub end: u64,
+    pub(crate) end: u64,
 }
 
 /// The `end` of what is so of all addresses.

@@ -1,17 +1,14 @@
 -- Words of a table and what they mean, as tags come to the table.
-use Rattle.std.proofs.Common.{◌≡◌, ℕ, zero, suc, ◌+◌, ◌-◌, ◌*◌, ◌%◌, ◌<◌, ◌≤◌, ◌⊎◌, inl, inr, min, Bool, List, [], ◌∷◌, ◌++◌, get_or, length, map, take, Some, slice_get, slice_index_or, refl, sym, ap, subst, ◌∙◌, arith}
+use Rattle.std.proofs.Common.{◌≡◌, ℕ, zero, suc, ◌+◌, ◌-◌, ◌<◌, ◌≤◌, ◌⊎◌, inl, inr, Bool, List, [], ◌∷◌, ◌++◌, get_or, length, map, take, Some, slice_get, slice_index_or, refl, sym, ap, subst, ◌∙◌, arith}
 use Rattle.std.specs.Cmp.{IsEquivalence}
-use Rattle.std.specs.Int.{div_ceil}
 use Rattle.std.specs.List.{range_with_len}
 use Rattle.std.proofs.lemmas.Bool.{cases_lt}
-use Rattle.std.proofs.lemmas.Grind.{div_ceil_times}
-use Rattle.std.proofs.lemmas.List.{map-append}
-use Rattle.std.proofs.lemmas.Simd.{map-map}
+use Rattle.std.proofs.lemmas.List.{map-append, take_more}
 use Rattle.tag_memory.specs.Hart.{HartState, fresh_hart}
 use Rattle.tag_memory.specs.Maps.{hart_by}
 use Rattle.engine_trait.specs.Accounts.{with_tag, with_tags}
 use Rattle.tag_intern.specs.Table.{Extends}
-use Rattle.tag_intern.proofs.ComingLemmas.{read_more, tags_over, with_tags-append, with_twice}
+use Rattle.tag_intern.proofs.ComingLemmas.{tags_over, with_tags-append, with_twice}
 use Rattle.engine_trait.proofs.MapLemmas.{harts_on}
 use Rattle.tag_intern.proofs.TableLemmas.{grown_word}
 use Rattle.word_loader.specs.Named.{AreHartsOf, AreWordsOf, Named}
@@ -30,13 +27,6 @@ module _ {T : Type 0} where
     abbrev kept : Named a → Named b
     kept n = record { word = n.word; tag = n.tag; has = grown_word a b grows n.word n.tag n.has }
 
-    pub words_grow : (means : List T) (words : List ℕ) → AreWordsOf a means words → AreWordsOf b means words
-    words_grow means words are = record {
-      named = map kept are.named;
-      written = are.written ∙ sym (map-map word_of kept are.named);
-      meant = are.meant ∙ sym (map-map tag_of kept are.named);
-    }
-
     pub harts_grow : (means : List (HartState T)) (harts : List (HartState ℕ)) → AreHartsOf a means harts → AreHartsOf b means harts
     harts_grow means harts are = record {
       named = map (hart_by kept) are.named;
@@ -45,6 +35,10 @@ module _ {T : Type 0} where
     }
 
   -- ---- one more hart
+
+  -- a hart as it is at the start, with that plain tag
+  abbrev pub IsFresh : T → HartState T → Type 0
+  IsFresh plain hart = hart ≡ fresh_hart hart.pc hart.pc_tag plain
 
   module _ (tags : List T) (means : List (HartState T)) (harts : List (HartState ℕ)) (are : AreHartsOf tags means harts)
       (entry word : ℕ) (tag plain : T) (has : slice_get tags word ≡ Some tag) (zero_is : slice_get tags 0 ≡ Some plain) where
@@ -75,18 +69,19 @@ module _ {T : Type 0} where
       }
 
 -- ---- the next hart comes
-module _ {T : Type 0} (start : ℕ → HartState T) (entries : List ℕ) (k : ℕ) (lt : k < length entries) (tags : List T) (harts : List (HartState ℕ))
-    (are : AreHartsOf tags (map start (take k entries)) harts) where
-  pub hart_came : (word : ℕ) (tag plain : T) → slice_get tags word ≡ Some tag → slice_get tags 0 ≡ Some plain
-      → start (get_or entries k 0) ≡ fresh_hart (get_or entries k 0) tag plain
-      → (hart : HartState ℕ) → hart ≡ fresh_hart (get_or entries k 0) word 0 → (pushed : List (HartState ℕ)) → pushed ≡ harts ++ hart ∷ []
-      → AreHartsOf tags (map start (take (k + 1) entries)) pushed
-  hart_came word tag plain has zero_is starts hart hart_is pushed pushed_is =
-      let more = hart_pushed tags (map start (take k entries)) harts are (get_or entries k 0) word tag plain has zero_is in
+
+module _ {T : Type 0} (starts : List (HartState T)) (k : ℕ) (lt : k < length starts) (tags : List T) (harts : List (HartState ℕ))
+    (are : AreHartsOf tags (take k starts) harts) where
+  pub hart_came : (start : HartState T) (plain : T) → start ≡ get_or starts k start → IsFresh plain start
+      → (word : ℕ) → slice_get tags word ≡ Some start.pc_tag → slice_get tags 0 ≡ Some plain
+      → (hart : HartState ℕ) → hart ≡ fresh_hart start.pc word 0 → (pushed : List (HartState ℕ)) → pushed ≡ harts ++ hart ∷ []
+      → AreHartsOf tags (take (k + 1) starts) pushed
+  hart_came start plain is fresh word has zero_is hart hart_is pushed pushed_is =
+      let more = hart_pushed tags (take k starts) harts are start.pc word start.pc_tag plain has zero_is in
       record {
         named = more.named;
         written = pushed_is ∙ ap (λ (h : HartState ℕ). harts ++ h ∷ []) hart_is ∙ more.written;
-        meant = read_more start entries k 0 lt ∙ ap (λ (h : HartState T). map start (take k entries) ++ h ∷ []) starts ∙ more.meant;
+        meant = take_more starts k start lt ∙ ap (λ (h : HartState T). take k starts ++ h ∷ []) (sym is ∙ fresh) ∙ more.meant;
       }
 
 -- ---- a run of words with one tag
@@ -178,23 +173,8 @@ module _ {T : Type 0} (eq : T → T → Bool) (plain : T) (pcs tags : List T) (b
       → limit < length (with_tags eq [] (plain ∷ (pcs ++ tags)))
   tags_out limit now next e f over = subst (λ seen. limit < length seen) (tags_come now next e f) over
 
--- ---- a run of words of which an image says the same
+-- ---- the words of a run go to the end of those before
 
-pub record IsRunEnd (n past ram end : ℕ) : Type 0 where
-  pub some : n < end
-  pub most : 4 * end ≤ ram
-  pub low : (k : ℕ) → k < end → 4 * k < past
-
-pub run_end_is : (n past ram end : ℕ) → 4 * n < past → 4 * n < ram → ram % 4 ≡ 0 → end ≡ div_ceil (min past ram) 4 → IsRunEnd n past ram end
-run_end_is n past ram end before within aligned is =
-    let times = div_ceil_times (min past ram) 4 (omega arith) in
-    record {
-      some = omega (arith, before, within, is, times.0);
-      most = omega (arith, aligned, is, times.1);
-      low = λ k lt. omega (arith, lt, is, times.1);
-    }
-
--- the words of a run go to the end of those before
 module _ {T : Type 0} (f : ℕ → T) (old new : List T) (grows : Extends old new) (words filled : List ℕ) (n end word : ℕ) (tag : T)
     (made : (k d : ℕ) → k < n → slice_get old (slice_index_or words k d) ≡ Some (f k))
     (kept : (k d : ℕ) → k < end → k < length words → slice_index_or filled k d ≡ slice_index_or words k d)

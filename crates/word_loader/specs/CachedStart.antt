@@ -5,14 +5,10 @@ use Rattle.policy_trait.specs.Model.{PolicyModel}
 use Rattle.tag_memory.specs.Hart.{HartState}
 use Rattle.engine_trait.specs.Accounts.{Account, plain_account, with_tags}
 use Rattle.engine_trait.specs.Standing.{Standing}
-use Rattle.tag_loader.specs.Births.{birth_of}
 use Rattle.tag_loader.specs.Start.{start_harts, start_machine, start_tags}
 
 module _ {S T : Type 0} (m : PolicyModel T S) (policy : S) (g : Picture) where
-  -- the tag of an entry's pc
-  abbrev pub start_pc_tag : ℕ → T
-  start_pc_tag entry = m.start_pc policy (birth_of g entry)
-
+  -- the tag of each hart's pc
   abbrev pub pc_tags : List T
   pc_tags = map (λ (hart : HartState T). hart.pc_tag) (start_harts m policy g)
 

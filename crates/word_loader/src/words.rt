@@ -11,7 +11,7 @@ use image_format::Image;
 use policy_trait::Policy;
 use std::alloc::Global;
 use tag_intern::{InternEnd, TagTable};
-use tag_loader::{BirthWalk, birth};
+use tag_loader::{BirthWalk, harts_of};
 use tag_memory::Hart;
 
 /// The harts at the start. The tag of each one's pc gets a word; its registers have word 0, which is that of the plain tag.
@@ -34,12 +34,15 @@ pub(crate) fn word_harts<P: Policy, T: TagTable<Tag = P::Tag>>(
         < length (with_tags P.Tag.eq (T.state table.old).tags
         (pc_tags P.model policy.now image.now)) }
 {
-    let Ok(mut harts) = Vec::with_capacity(alloc, image.entries().len()) else {
+    let Ok(starts) = harts_of(alloc, policy, image) else {
         return Err(InternEnd::Memory);
     };
-    for entry in image.entries() {
-        let pc_tag = table.intern(policy.start_pc(&birth(image, *entry)))?;
-        let Ok(hart) = Hart::new(alloc, *entry, pc_tag, 0) else {
+    let Ok(mut harts) = Vec::with_capacity(alloc, starts.len()) else {
+        return Err(InternEnd::Memory);
+    };
+    for start in &starts {
+        let pc_tag = table.intern(start.pc_tag())?;
+        let Ok(hart) = Hart::new(alloc, start.pc(), pc_tag, 0) else {
             return Err(InternEnd::Memory);
         };
         let Ok(()) = harts.push(hart) else {
@@ -77,13 +80,12 @@ pub(crate) fn word_tags<P: Policy, T: TagTable<Tag = P::Tag>>(
     };
     let mut n = 0;
     while n < count {
-        let run = births.run_at(4 * n);
-        let end = run.end.min(u64::from(image.ram())).div_ceil(4);
-        let word = table.intern(policy.start_word(&run.value))?;
-        let Ok(()) = words.resize(end as usize, word) else {
+        let run = births.words_from(n);
+        let word = table.intern(policy.start_word(&run.birth))?;
+        let Ok(()) = words.resize(run.end as usize, word) else {
             return Err(InternEnd::Memory);
         };
-        n = end as u32;
+        n = run.end;
     }
     Ok(words)
 }

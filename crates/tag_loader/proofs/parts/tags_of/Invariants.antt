@@ -8,6 +8,7 @@ invariant-loop-n g l = record {
   made : (k : ℕ) (d : _) → k < l.n → slice_index_or l.tags.items k d ≡ start_tag g.P.Policy.model l.policy l.image k;
   size : length l.tags.items ≡ l.n;
   most : l.n ≤ l.count;
+  ram : l.births.ram ≡ l.image.ram;
   rest : (at : ℕ) → 4 * l.n ≤ at → birth_of l.births at ≡ birth_of l.image at;
 }
 

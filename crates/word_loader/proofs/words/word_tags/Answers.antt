@@ -1,5 +1,4 @@
-use Rattle.std.proofs.Common.{rules, arith, ◌≡◌, ◌+◌, ◌*◌, ◌/◌, ◌%◌, ◌<◌, ◌∙◌, Some, ap, length, map, min, refl, subst}
-use Rattle.std.specs.Int.{div_ceil}
+use Rattle.std.proofs.Common.{rules, arith, ◌≡◌, ◌+◌, ◌/◌, ◌<◌, ◌≤◌, ◌∙◌, Some, ap, length, map, refl, subst}
 use Rattle.std.specs.List.{range_with_len}
 use Rattle.std.proofs.lemmas.Result.{err_from_is_err_and}
 use Rattle.engine_trait.specs.Accounts.{with_tags}
@@ -8,7 +7,7 @@ use Rattle.tag_intern.proofs.TableLemmas.{extends_on, extends_same}
 use Rattle.word_loader.specs.Named.{AreWordsOf}
 use Rattle.tag_loader.specs.Start.{start_tag, start_tags}
 use Rattle.tag_intern.proofs.ComingLemmas.{passed_on}
-use Rattle.word_loader.proofs.NamedLemmas.{run_end_is, run_made, run_over, run_seen, words_made}
+use Rattle.word_loader.proofs.NamedLemmas.{run_made, run_over, run_seen, words_made}
 use Rattle.word_loader.proofs.StartLemmas.{run_tag}
 use Rattle.word_loader.proofs.words.word_tags.Goals as goal
 
@@ -20,20 +19,17 @@ returns-in_err-word-clause-full g c e =
     let f = start_tag model c.args.policy.now c.args.image.now in
     let before = (g.T.TagTable.state c.args.table.now).tags in
     let now = g.T.TagTable.state c.loop-n.table in
-    let run = c.run_at-run.result in
+    let run = c.words_from-run.result in
     let ram = c.args.image.now.ram in
     let n = c.loop-n.n in
-    let inside : 4 * n < ram = omega (arith, c.loop-n-test.true, c.ram-count.ensures.value) in
-    let aligned = subst (λ bytes. bytes % 4 ≡ 0) c.ram-count.ensures.value c.ram-count.ensures.aligned in
-    let end_is = c.div_ceil-end.ensures ∙ ap (λ bytes. div_ceil bytes 4) (c.min.ensures ∙ ap (min run.end) (c.from.ensures ∙ c.ram.ensures.value)) in
-    let at = run_end_is n run.end ram c.div_ceil-end.result c.run_at-run.ensures.some inside aligned end_is in
-    let same = run_tag model c.args.policy.now c.args.image.now c.loop-n.births n run.end c.div_ceil-end.result run.value c.start_word.result
-    c.loop-n.invariant.rest c.run_at-run.ensures.told at.low c.start_word.ensures in
+    let most : run.end ≤ ram / 4 = omega (arith, c.words_from-run.ensures.within, c.loop-n.invariant.ram) in
+    let same = run_tag model c.args.policy.now c.args.image.now c.loop-n.births n run.end run.birth c.start_word.result
+    c.loop-n.invariant.rest c.words_from-run.ensures.told c.start_word.ensures in
     let end = err_from_is_err_and c.from_residual.result c.from_residual.ensures.1 in
     let told = passed_on c.from_residual.result end.0 c.in_err-word.field-0.0 intern_end.Full end.1 end.2 e in
     subst (λ limit. limit < length (with_tags eq before (map f (range_with_len 0 (ram / 4))))) c.loop-n.invariant.limit
-    (run_over f eq g.met.P.Tag.Eq.laws c.start_word.result before now.tags n c.div_ceil-end.result at.some c.loop-n.invariant.seen same now.limit (ram / 4)
-    (let most = at.most in omega (arith, most)) (c.in_err-word.ensures.over.0 told))
+    (run_over f eq g.met.P.Tag.Eq.laws c.start_word.result before now.tags n run.end c.words_from-run.ensures.some c.loop-n.invariant.seen same now.limit (ram / 4) most
+    (c.in_err-word.ensures.over.0 told))
 
 pub returns-in_default-resize-clause-extends : goal.returns-in_default-resize-clause-extends
 returns-in_default-resize-clause-extends g c =
@@ -48,6 +44,7 @@ loop-n-init g c = record {
   made = λ k d lt. absurd (omega (arith, lt));
   size = ap length c.in-Ok.ensures.items;
   most = omega arith;
+  ram = search rules;
   rest = λ at least. search rules;
 }
 
@@ -59,29 +56,23 @@ loop-n-preserved g c =
     let before = (g.T.TagTable.state c.args.table.now).tags in
     let old = (g.T.TagTable.state c.loop-n.table).tags in
     let new = (g.T.TagTable.state c.intern.new.self).tags in
-    let run = c.run_at-run.result in
-    let ram = c.args.image.now.ram in
+    let run = c.words_from-run.result in
     let n = c.loop-n.n in
-    let past = c.div_ceil-end.result in
-    let inside : 4 * n < ram = omega (arith, c.loop-n-test.true, c.ram-count.ensures.value) in
-    let aligned = subst (λ bytes. bytes % 4 ≡ 0) c.ram-count.ensures.value c.ram-count.ensures.aligned in
-    let end_is = c.div_ceil-end.ensures ∙ ap (λ bytes. div_ceil bytes 4) (c.min.ensures ∙ ap (min run.end) (c.from.ensures ∙ c.ram.ensures.value)) in
-    let at = run_end_is n run.end ram past c.run_at-run.ensures.some inside aligned end_is in
-    let some = at.some in
-    let most = at.most in
-    let same = run_tag model c.args.policy.now c.args.image.now c.loop-n.births n run.end past run.value c.start_word.result
-    c.loop-n.invariant.rest c.run_at-run.ensures.told at.low c.start_word.ensures in
+    let some = c.words_from-run.ensures.some in
+    let same = run_tag model c.args.policy.now c.args.image.now c.loop-n.births n run.end run.birth c.start_word.result
+    c.loop-n.invariant.rest c.words_from-run.ensures.told c.start_word.ensures in
     record {
-      seen = run_seen f eq g.met.P.Tag.Eq.laws c.start_word.result before old n past some c.loop-n.invariant.seen same new (λ j. (c.in_ok-word.ensures.grown j).tags);
+      seen = run_seen f eq g.met.P.Tag.Eq.laws c.start_word.result before old n run.end some c.loop-n.invariant.seen same new (λ j. (c.in_ok-word.ensures.grown j).tags);
       limit = search rules;
       extends = extends_on before old new c.loop-n.invariant.extends c.intern.ensures.extends;
-      made = run_made f old new c.intern.ensures.extends c.loop-n.words.items c.resize.new.self.items n past c.in_ok-word.word c.start_word.result
+      made = run_made f old new c.intern.ensures.extends c.loop-n.words.items c.resize.new.self.items n run.end c.in_ok-word.word c.start_word.result
           c.loop-n.invariant.made (λ k d lt below. c.in-Ok-resize.ensures.by_index.0 k d lt (omega (arith, below, c.loop-n.words.ok)))
           (λ k d least lt. c.in-Ok-resize.ensures.by_index.1 k d refl (omega (arith, least, c.loop-n.words.ok)) lt)
           c.in_ok-word.ensures.word same c.loop-n.invariant.size;
       size = search rules;
-      most = omega (arith, most, c.ram-count.ensures.value);
-      rest = λ at least. c.run_at-run.ensures.later at (omega (arith, least, some)) ∙ c.loop-n.invariant.rest at (omega (arith, least, some));
+      most = omega (arith, c.words_from-run.ensures.within, c.loop-n.invariant.ram, c.ram-count.ensures.value);
+      ram = c.words_from-run.ensures.ram ∙ c.loop-n.invariant.ram;
+      rest = λ at least. c.words_from-run.ensures.later at (omega (arith, least, some)) ∙ c.loop-n.invariant.rest at (omega (arith, least, some));
     }
 
 pub returns-clause-seen : goal.returns-clause-seen

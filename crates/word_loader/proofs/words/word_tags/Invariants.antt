@@ -18,6 +18,7 @@ invariant-loop-n g l =
       made : (k d : ℕ) → k < l.n → slice_get now.tags (slice_index_or l.words.items k d) ≡ Some (tag k);
       size : length l.words.items ≡ l.n;
       most : l.n ≤ l.count;
+      ram : l.births.ram ≡ l.image.ram;
       rest : (at : ℕ) → 4 * l.n ≤ at → birth_of l.births at ≡ birth_of l.image at;
     }
 
