@@ -1,5 +1,6 @@
 -- Bytes on a sink: prefixes of what is put, on the way to all of it.
-use Rattle.std.proofs.Common.{◌≡◌, ℕ, List, [], ◌++◌, Option, Some, None, IfSome, refl, ap, sym, ◌∙◌, append-nil, append_assoc}
+use Rattle.std.proofs.Common.{◌≡◌, ℕ, List, [], ◌++◌, take, drop, Option, Some, None, IfSome, refl, ap, sym, ◌∙◌, append-nil, append_assoc}
+use Rattle.std.proofs.lemmas.List.{take-append-drop}
 use Rattle.std.specs.Io.KnownBytes.{append_known}
 use Rattle.host_io.specs.Prefixes.{SoFar, TakesAll, TakesPrefix}
 
@@ -26,6 +27,18 @@ pub all_is_prefix : (old new : Option (List ℕ)) (bytes : List ℕ) → TakesAl
     TakesPrefix old new bytes
 all_is_prefix old new bytes all =
     ([], record { prefix = bytes; taken = all; complete = append-nil bytes })
+
+-- its first bytes are one
+pub takes_first : (old new bytes : List ℕ) (count : ℕ) → new ≡ old ++ take count bytes →
+    TakesPrefix (Some old) (Some new) bytes
+takes_first old new bytes count first = (
+  drop count bytes,
+  record {
+    prefix = take count bytes;
+    taken = ap Some first;
+    complete = take-append-drop count bytes;
+  },
+)
 
 -- nothing yet
 pub begins : (start : Option (List ℕ)) (whole : List ℕ) → SoFar start start whole whole

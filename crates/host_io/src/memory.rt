@@ -1,7 +1,6 @@
 //! The environment in memory: with calls that are to fail, and without any fault.
 
 mod call_plan;
-mod fault_plan;
 mod held_files;
 pub mod mem_files;
 pub mod mem_sink;

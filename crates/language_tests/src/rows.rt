@@ -39,6 +39,7 @@ const REFUSED: &[(&str, &str)] = &[
     ("row a\nstatus 2\nstatus 2\n", "3: given twice"),
     ("row a\ninput b\nsession\n    > c\n", "3: given twice"),
     ("row a\nfile b text c\nfile b text c\n", "3: given twice"),
+    ("row a\nfail-puts 1 0\ntorn-puts 0 2\n", "3: given twice"),
     (
         "row a\nstatus 2\nend\n",
         "3: the row has no words or no status",
@@ -71,6 +72,8 @@ const REFUSED: &[(&str, &str)] = &[
     ("row a\nstatus 256\n", "2: a bad number"),
     ("row a\nleft x\n", "2: a bad number"),
     ("row a\ncaches\n", "2: a bad number"),
+    ("row a\npieces 0\n", "2: a bad number"),
+    ("row a\ntorn-tells 0\n", "2: a bad number"),
     ("row a\nfile b hex 5\n", "2: bad hexadecimal"),
     (
         "row a\nfile b hex\n    00 # five\n    0x\n",
@@ -116,10 +119,12 @@ file other text
     b
 file third hex 00 fF
 input \\{3*41}\\\\
-pieces 1 2
+pieces 2
 fail-reads 3
 fail-files 4
 fail-puts 5
+torn-puts 9 1
+torn-tells 0 6
 fail-tells 6
 out
     c
@@ -159,11 +164,11 @@ fn is_called(row: &Row) -> bool {
 fn is_given(row: &Row) -> bool {
     let (input, failing) = (&row.input, &row.failing);
     input.bytes.as_slice() == b"AAA\\".as_slice()
-        && input.pieces.as_slice() == [1, 2].as_slice()
+        && input.piece.get() == 2
         && failing.reads.as_slice() == [3].as_slice()
         && failing.files.as_slice() == [4].as_slice()
-        && failing.puts.as_slice() == [5].as_slice()
-        && failing.tells.as_slice() == [6].as_slice()
+        && failing.puts.as_slice() == [(5, 0), (9, 1)].as_slice()
+        && failing.tells.as_slice() == [(0, 6), (6, 0)].as_slice()
 }
 
 /// Whether what is due is what the text has, but for files.

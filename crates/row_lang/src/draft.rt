@@ -8,6 +8,7 @@ use crate::errors::{RowsEnd, Wrong};
 use crate::rows::{Due, Failing, File, Input, Row};
 use crate::texts::{append_line, text_of};
 use std::alloc::Global;
+use std::num::NonZeroUsize;
 
 /// A row with what was told of it so far, and the keys that told it.
 #[derive(Drop)]
@@ -42,16 +43,62 @@ fn take_file(
     add_file(files, entry, file)
 }
 
-/// Takes the numbers of calls that fail.
+/// Adds a put that fails, with how many bytes it takes. It is refused if a put before has its number.
+fn add_put(
+    puts: &mut Vec<(u64, usize)>,
+    entry: &Entry<'_>,
+    number: u64,
+    count: u64,
+) -> Result<(), RowsEnd> {
+    if puts.iter().any(|put| put.0 == number) {
+        return Err(entry.refused(Wrong::Twice));
+    }
+    puts.push((number, count as usize))?;
+    Ok(())
+}
+
+/// Takes the numbers of puts that fail and take nothing.
+fn take_failing_puts(
+    alloc: Global,
+    puts: &mut Vec<(u64, usize)>,
+    entry: &Entry<'_>,
+) -> Result<(), RowsEnd> {
+    for number in &numbers_of(alloc, entry)? {
+        add_put(puts, entry, *number, 0)?;
+    }
+    Ok(())
+}
+
+/// Takes the number of a put that fails, and how many bytes it takes.
+fn take_torn_put(
+    alloc: Global,
+    puts: &mut Vec<(u64, usize)>,
+    entry: &Entry<'_>,
+) -> Result<(), RowsEnd> {
+    match numbers_of(alloc, entry)?.as_slice() {
+        [number, count] => add_put(puts, entry, *number, *count),
+        _ => Err(entry.refused(Wrong::Number)),
+    }
+}
+
+/// Takes calls that fail.
 fn take_failing(alloc: Global, failing: &mut Failing, entry: &Entry<'_>) -> Result<(), RowsEnd> {
     match entry.key {
         "fail-reads" => failing.reads = numbers_of(alloc, entry)?,
         "fail-files" => failing.files = numbers_of(alloc, entry)?,
-        "fail-puts" => failing.puts = numbers_of(alloc, entry)?,
-        "fail-tells" => failing.tells = numbers_of(alloc, entry)?,
+        "fail-puts" => take_failing_puts(alloc, &mut failing.puts, entry)?,
+        "fail-tells" => take_failing_puts(alloc, &mut failing.tells, entry)?,
+        "torn-puts" => take_torn_put(alloc, &mut failing.puts, entry)?,
+        "torn-tells" => take_torn_put(alloc, &mut failing.tells, entry)?,
         _ => return Err(entry.refused(Wrong::Key)),
     }
     Ok(())
+}
+
+/// The most bytes that a read gives, on its key's line.
+fn piece_of(entry: &Entry<'_>) -> Result<NonZeroUsize, RowsEnd> {
+    let number = number_of(entry)?;
+    NonZeroUsize::new(number as usize).ok_or(entry.refused(Wrong::Number))
 }
 
 /// A status on its key's line.
@@ -96,7 +143,7 @@ impl<'a> Draft<'a> {
                 files: Vec::new(alloc),
                 input: Input {
                     bytes: Vec::new(alloc),
-                    pieces: Vec::new(alloc),
+                    piece: NonZeroUsize::MAX,
                 },
                 failing: Failing {
                     reads: Vec::new(alloc),
@@ -153,7 +200,7 @@ impl<'a> Draft<'a> {
             "words" => self.row.calls = calls_of(alloc, entry)?,
             "caches" => self.row.caches = numbers_of(alloc, entry)?,
             "input" => self.row.input.bytes = text_of(alloc, entry, entry.value)?,
-            "pieces" => self.row.input.pieces = numbers_of(alloc, entry)?,
+            "pieces" => self.row.input.piece = piece_of(entry)?,
             "out" | "err" | "status" | "left" => take_due(alloc, &mut self.row.due, entry)?,
             _ => take_failing(alloc, &mut self.row.failing, entry)?,
         }

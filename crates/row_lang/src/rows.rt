@@ -1,5 +1,7 @@
 //! A row: what a call of the program is given, and what is due of it.
 
+use std::num::NonZeroUsize;
+
 /// What a file holds, or is to hold.
 #[derive(Drop)]
 pub enum Content {
@@ -27,11 +29,11 @@ pub struct File {
 pub struct Input {
     /// All of its bytes.
     pub bytes: Vec<u8>,
-    /// The most bytes that each read gives, the last for all further ones. Where there is none, a read gives all that it asks for.
-    pub pieces: Vec<u64>,
+    /// The most bytes that a read gives.
+    pub piece: NonZeroUsize,
 }
 
-/// The numbers, counted from 0, of the calls that fail.
+/// The numbers, counted from 0, of the calls that fail; of puts each with how many bytes of its piece it takes.
 #[derive(Drop)]
 pub struct Failing {
     /// Of the reads of the input.
@@ -39,9 +41,9 @@ pub struct Failing {
     /// Of the loads and saves of files, counted together.
     pub files: Vec<u64>,
     /// Of the puts on standard output.
-    pub puts: Vec<u64>,
+    pub puts: Vec<(u64, usize)>,
     /// Of the puts on standard error.
-    pub tells: Vec<u64>,
+    pub tells: Vec<(u64, usize)>,
 }
 
 /// What is due of a call.

@@ -2,7 +2,6 @@
 
 ghost use Rattle.std.specs.Prelude.{◌≡◌, ◌↔◌, IfOk, IsSome, length, vec_len};
 
-use crate::pieces::PiecedSource;
 use crate::stops::{Fault, Stop};
 use asm_emit::assemble_source;
 use host_io::{Files, LoadFile, MemFiles, MemSink, MemSource};
@@ -134,11 +133,11 @@ fn all_held<F: Files>(
 }
 
 /// How many bytes of the input are left, where a row asks it.
-fn left_of(row: &Row, input: &PiecedSource<MemSource>) -> Option<u64>
+fn left_of(row: &Row, input: &MemSource) -> Option<u64>
     ensures { IsSome result ↔ IsSome row.now.due.left }
 {
     match row.due.left {
-        Some(_) => Some(input.source().left().len() as u64),
+        Some(_) => Some(input.left().len() as u64),
         None => None,
     }
 }
@@ -147,22 +146,22 @@ fn left_of(row: &Row, input: &PiecedSource<MemSource>) -> Option<u64>
 #[derive(Drop)]
 struct Environment {
     files: MemFiles,
-    input: PiecedSource<MemSource>,
+    input: MemSource,
     out: MemSink,
     err: MemSink,
 }
 
 /// The input that a row tells.
-fn input_of(alloc: Global, row: &Row) -> Result<PiecedSource<MemSource>, AllocError> {
+fn input_of(alloc: Global, row: &Row) -> Result<MemSource, AllocError> {
     let bytes = row.input.bytes.to_vec(alloc)?;
-    let source = MemSource::new(bytes, row.failing.reads.to_vec(alloc)?);
-    Ok(PiecedSource::new(source, row.input.pieces.to_vec(alloc)?))
+    let fails = row.failing.reads.to_vec(alloc)?;
+    Ok(MemSource::in_pieces(bytes, row.input.piece.get(), fails))
 }
 
 /// What a row tells, before its call.
 fn environment_of(alloc: Global, row: &Row, files: MemFiles) -> Result<Environment, AllocError> {
-    let out = MemSink::new(alloc, row.failing.puts.to_vec(alloc)?);
-    let err = MemSink::new(alloc, row.failing.tells.to_vec(alloc)?);
+    let out = MemSink::torn(alloc, row.failing.puts.to_vec(alloc)?);
+    let err = MemSink::torn(alloc, row.failing.tells.to_vec(alloc)?);
     let input = input_of(alloc, row)?;
     Ok(Environment {
         files,

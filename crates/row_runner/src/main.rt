@@ -7,7 +7,6 @@
 #![tactic(auto)]
 
 mod calls;
-mod pieces;
 mod runs;
 mod stops;
 mod tellings;

@@ -1,41 +1,66 @@
-//! A source in memory whose chosen reads fail.
+//! A source in memory, in pieces, whose chosen reads fail.
 
-ghost use Rattle.std.specs.Prelude.{◌≡◌, ◌≢◌, ◌↔◌, ◌<◌, ◌++◌, min, length, take, drop, IsTrue, Some, Ok, IsErr, IfOk, OnErr};
+ghost use Rattle.std.specs.Prelude.{◌≡◌, ◌≢◌, ◌↔◌, ◌-◌, ◌^◌, ◌<◌, ◌≤◌, ◌++◌, min, length, take, drop, IsTrue, Some, Ok, IsErr, IfOk, OnErr};
 ghost use Rattle.host_io.specs.Causes.{ReadCause};
 ghost use Rattle.host_io.specs.FaultPlan.{fresh_plan, fails_next, plan_after};
 ghost use Rattle.host_io.specs.Memory.{IsNumberedRead};
 ghost use Rattle.host_io.specs.Supply.{Open, left_in, is_closed, closed-left};
 
-use super::fault_plan::FaultPlan;
+use super::call_plan::CallPlan;
 use super::sure_source::SureSource;
 use crate::{Failed, Source};
 use std::marker::Model;
 
-/// A source over bytes in memory. Its reads into buffers that have room, up to the one that tells
-/// the end, are numbered from 0, and those of the given numbers fail.
+/// A source over bytes in memory, which come in pieces of at most so many bytes. Its reads into
+/// buffers that have room, up to the one that tells the end, are numbered from 0, and those of the
+/// given numbers fail.
 #[derive(Drop)]
 pub struct MemSource {
     source: SureSource,
-    plan: FaultPlan,
+    piece: usize,
+    calls: CallPlan,
+    faults: u64,
 }
 
 impl Model for MemSource {
+    ghost use Rattle.std.specs.Prelude.{◌≤◌};
     ghost use Rattle.host_io.specs.Memory.{PlannedSource};
 
     ghost Value = { PlannedSource };
 
-    ghost view = { λ s. record { supply = s.source; plan = s.plan } };
+    ghost view = { λ s. record {
+      supply = s.source;
+      piece = s.piece;
+      plan = record { calls = s.calls; faults = s.faults };
+    } };
+
+    ghost invariant = { λ s. 1 ≤ s.piece };
 }
 
 impl MemSource {
-    /// A source that has these bytes to give, and whose reads of the numbers `fails` are to fail.
+    /// A source that has these bytes to give, as many at a time as are asked for, and whose reads of
+    /// the numbers `fails` are to fail.
     pub fn new(bytes: Vec<u8>, fails: Vec<u64>) -> MemSource
         ensures supply { result.supply ≡ Open bytes.items }
+        ensures piece { result.piece ≡ 2 ^ 64 - 1 }
+        ensures plan { result.plan ≡ fresh_plan fails.items }
+    {
+        MemSource::in_pieces(bytes, usize::MAX, fails)
+    }
+
+    /// A source that has these bytes to give, at most `piece` of them at each read, and whose reads
+    /// of the numbers `fails` are to fail.
+    pub fn in_pieces(bytes: Vec<u8>, piece: usize, fails: Vec<u64>) -> MemSource
+        requires { 1 ≤ piece }
+        ensures supply { result.supply ≡ Open bytes.items }
+        ensures piece { result.piece ≡ piece }
         ensures plan { result.plan ≡ fresh_plan fails.items }
     {
         MemSource {
             source: SureSource::new(bytes),
-            plan: FaultPlan::new(fails),
+            piece,
+            calls: CallPlan::new(fails),
+            faults: 0,
         }
     }
 
@@ -57,14 +82,14 @@ impl MemSource {
     pub fn next_call(&self) -> u64
         ensures { result ≡ self.now.plan.calls.next }
     {
-        self.plan.next_call()
+        self.calls.next_call()
     }
 
-    /// How many reads failed so far.
+    /// How many reads failed so far. The count stands still at 2^64 - 1.
     pub fn faults(&self) -> u64
         ensures { result ≡ self.now.plan.faults }
     {
-        self.plan.faults()
+        self.faults
     }
 }
 
@@ -78,10 +103,10 @@ impl Source for MemSource {
     ghost closed_at_end = { λ source. closed-left source.supply };
 
     fn read(&mut self, buffer: &mut [u8]) -> Result<usize, Failed>
-        // As many first bytes as there is room for are moved, and the other places of the buffer
-        // stay.
-        ensures count { IfOk result (λ n.
-            n ≡ min (length buffer.old) (length (left_in self.old.supply))) }
+        // The first bytes left are moved, as many as there is room for and a piece may have, and the
+        // other places of the buffer stay.
+        ensures count { IfOk result (λ n. n ≡
+            min (min (length buffer.old) self.old.piece) (length (left_in self.old.supply))) }
         ensures moved { IfOk result (λ n.
             left_in self.old.supply ≡ take n buffer.new ++ left_in self.new.supply) }
         ensures others { IfOk result (λ n. drop n buffer.new ≡ drop n buffer.old) }
@@ -105,11 +130,16 @@ impl Source for MemSource {
         ensures kept { OnErr result (self.new.supply ≡ self.old.supply) }
         ensures untouched { OnErr result (buffer.new ≡ buffer.old) }
         ensures cause { ReadCause self.old.plan.faults self.new.plan.faults result }
+
+        // The pieces stay as long.
+        ensures piece { self.new.piece ≡ self.old.piece }
     {
         let numbered = !buffer.is_empty() && !self.source.is_closed();
-        if numbered && self.plan.take_call() {
+        if numbered && self.calls.take_call() {
+            self.faults = self.faults.saturating_add(1);
             return Err(Failed);
         }
-        self.source.read(buffer)
+        let room = buffer.len().min(self.piece);
+        self.source.read(&mut buffer[..room])
     }
 }
