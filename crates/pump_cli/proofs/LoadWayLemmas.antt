@@ -53,7 +53,7 @@ module _ {I : Type 0} (task : LoadTask) (before after : Environment I) where
   work_ends (early_end.Cut why) A result refused of_file memory ends out out_faults read write input_faults held calls input left =
       subst (λ (done : Result Status Cut). HeadlineOf (load task) (status_in done) before after) (sym ends.ends)
       (subst (λ (cause : Cut). HeadlineOf (load task) (status_of_cut cause) before after) (sym (memory why refl))
-      (file_cut (load task) before after cut.Memory
+      (file_cut (load task) before after cut.Memory (λ e. let h : statuses.Memory ≡ statuses.InputFailed = e in cc)
       (none_called statuses.Memory before after held (Some (load task)) (source_read (source_of_workload task.count)) refl refl (λ all. absurd all) calls
       (λ i. record { read = read i; write = write i; input = input_faults i; puts = record { out = out_faults i; err = ends.faults i } }))
       (λ i. record { out = out i; err = ends.err i }) input left))

@@ -9,7 +9,7 @@ use Rattle.host_io.proofs.PieceLemmas.{prefix_of_more_puts, puts_then_all, puts_
 use Rattle.shell_turns.specs.Cuts.{PutsOut}
 use Rattle.shell_script.specs.Shell.{ShellFaults}
 use Rattle.pump_shell.specs.Ends.{SessionCause}
-use Rattle.pump_shell.specs.Told.{Told, start_of_setup, told_of}
+use Rattle.pump_shell.specs.Told.{RepliesSoFarOf, Told, start_of_setup, told_of}
 use Rattle.pump_shell.specs.declared.ends.SessionCut.{SessionCut}
 use Rattle.pump_shell.specs.declared.ends.SessionCut.TheVariants as session_cut
 use Rattle.pump_shell.specs.declared.ends.SessionEnd.{SessionEnd}
@@ -19,7 +19,7 @@ use Rattle.pump_line.specs.Task.{ShellTask}
 use Rattle.pump_cli.specs.Codes.{IsOfSession}
 use Rattle.pump_cli.specs.Cuts.{cut_of_session}
 use Rattle.pump_cli.specs.Early.{SessionFaultBy}
-use Rattle.pump_cli.specs.Facts.{Does, IsLongInput, PutsFaultBy}
+use Rattle.pump_cli.specs.Facts.{Does, IsLongInput, PutsFaultBy, RepliedBefore}
 use Rattle.pump_cli.specs.Program.{basis_of, is_over_at_start, outcome_of_end, outcome_of_lines, outcome_of_no_start, outcome_of_told, setup_of}
 use Rattle.pump_cli.specs.Reading.{input_limit}
 use Rattle.pump_cli.specs.declared.cut.Cut.{Cut}
@@ -39,6 +39,9 @@ session_ok end = Ok end
 
 abbrev pub session_err : SessionCut → Result SessionEnd SessionCut
 session_err end = Err end
+
+abbrev pub cut_short : Cut → Result Status Cut
+cut_short why = Err why
 
 -- ---- what was put
 
@@ -113,6 +116,36 @@ module _ (task : ShellTask) (basis : Basis) (basis_is : basis ≡ basis_of task.
           → IfSome known (λ bytes. (told_of (setup_of task) picture 16777216 bytes).end ≡ session_end.InputEnd → closed)
       by None is = tt
       by (Some bytes) is = λ ended. closes (is ∙ ap (λ (told : Told). told.end) (told_is bytes) ∙ ended)
+
+  -- a read of the input failed
+  pub session_replied : (left_now other : Option (List ℕ)) → RepliesSoFarOf (setup_on task basis) picture 16777216 left left_now old new
+      → RepliedBefore task picture left left_now (sinks old other) (sinks new other)
+  unfolding input_limit PutsOut
+  session_replied left_now other replied =
+      let so_far = subst (λ (on : Basis). RepliesSoFarOf (setup_on task on) picture 16777216 left left_now old new) basis_is replied in
+      record {
+        read = so_far.read;
+        moved = so_far.moved;
+        within = so_far.within;
+        goes_on = so_far.goes_on;
+        replies = so_far.replies other;
+      }
+
+-- the answers in which a read of the input failed
+read_failed : (end : SessionCut) → cut_of_session end ≡ cut.InputFailed → end ≡ session_cut.ReadFailed
+read_failed session_cut.ReadFailed failed = refl
+read_failed session_cut.PutFailed failed = absurd (let h : cut.PutFailed ≡ cut.InputFailed = failed in cc)
+read_failed session_cut.Memory failed = absurd (let h : cut.Memory ≡ cut.InputFailed = failed in cc)
+
+pub session_read_failed : (end : SessionCut) (why : Cut) → why ≡ cut_of_session end → cut_short why ≡ cut_short cut.InputFailed
+    → session_err end ≡ session_err session_cut.ReadFailed
+session_read_failed end why is failed =
+    let input : why ≡ cut.InputFailed = cc in
+    ap session_err (read_failed end (sym is ∙ input))
+
+-- what comes after the replies reads nothing
+pub no_read_after : (before now : PutFaults) (result : Result Status Cut) → PutsFaultBy before now result → result ≡ Err cut.InputFailed → ⊥
+no_read_after before now result faults failed = subst (PutsFaultBy before now) failed faults
 
 -- a start that is out of tag numbers ends the session, whatever its input
 module _ (old new err_old err_new : Option (List ℕ)) (silent : new ≡ old) where

@@ -11,7 +11,7 @@ use Rattle.pump_line.specs.Task.{ShellTask, shell}
 use Rattle.pump_cli.specs.Calls.{FaultBy}
 use Rattle.pump_cli.specs.Codes.{IsBeforeInput, IsOfRefusal, IsOfSession, IsSilent, status_of_cut}
 use Rattle.pump_cli.specs.Early.{SessionFaultBy}
-use Rattle.pump_cli.specs.Facts.{Does, IsLongInput, Executed, status_in}
+use Rattle.pump_cli.specs.Facts.{Does, IsLongInput, Executed, RepliedBefore, status_in}
 use Rattle.pump_cli.specs.Program.{is_over_at_start, outcome_of_lines, outcome_of_no_start, setup_of}
 use Rattle.pump_cli.specs.Reading.{image_read, input_limit}
 use Rattle.pump_cli.specs.Theorem.{HeadlineOf}
@@ -124,20 +124,40 @@ module _ {I : Type 0} (task : ShellTask) (before after : Environment I) where
   session_fault (Err cut.PutFailed) read write fault kind = record { read = read; write = write; input = fault.0; puts = fault.1 }
   session_fault (Err cut.Memory) read write fault kind = λ i. record { read = read i; write = write i; input = fault.0 i; puts = fault.1 i }
 
-  -- what the definition says of its start and of its end
-  executed_facts : (picture : Picture) (result : Result Status Cut) → (result ≡ Ok statuses.TagsOut → is_over_at_start task picture ≡ true)
+  abbrev Replied : Picture → Type 0
+  Replied picture = RepliedBefore task picture before.left after.left before.taken after.taken
+
+  -- only a cut at the input is told by its status
+  input_cut : (why : Cut) → status_of_cut why ≡ statuses.InputFailed → why ≡ cut.InputFailed
+  input_cut cut.ReadFailed e = absurd (let h : statuses.ReadFailed ≡ statuses.InputFailed = e in cc)
+  input_cut cut.WriteFailed e = absurd (let h : statuses.WriteFailed ≡ statuses.InputFailed = e in cc)
+  input_cut cut.InputFailed e = refl
+  input_cut cut.PutFailed e = absurd (let h : statuses.PutFailed ≡ statuses.InputFailed = e in cc)
+  input_cut cut.Memory e = absurd (let h : statuses.Memory ≡ statuses.InputFailed = e in cc)
+
+  -- what the definition says of its start, of its lines and of its end
+  executed_facts : (picture : Picture) (result : Result Status Cut) → IfOk result IsOfSession → (result ≡ Ok statuses.TagsOut → is_over_at_start task picture ≡ true)
       → (is_over_at_start task picture ≡ true → after.input ≡ before.input)
       → OnOk result (IfSome before.left (λ input. (told_of (setup_of task) picture input_limit input).end ≡ session_end.InputEnd → IsTrue after.closed))
-      → Executed task picture (status_in result) before after
-  executed_facts picture (Ok status) out unread closed = record { tags_out = λ e. out (ap ended e); unread = unread; whole = λ done. closed }
+      → (result ≡ Err cut.InputFailed → Replied picture) → Executed task picture (status_in result) before after
+  executed_facts picture (Ok status) kind out unread closed replied = record {
+    tags_out = λ e. out (ap ended e);
+    unread = unread;
+    whole = λ done. closed;
+    replied = λ e. absurd (subst IsOfSession e kind);
+  }
     where
       ended : Status → Result Status Cut
       ended s = Ok s
-  executed_facts picture (Err broken) out unread closed = record {
+  executed_facts picture (Err broken) kind out unread closed replied = record {
     tags_out = λ e. absurd (cut_not broken statuses.TagsOut e tt);
     unread = unread;
     whole = λ e. absurd (cut_not broken statuses.Done e tt);
+    replied = λ e. replied (ap cut_short (input_cut broken e));
   }
+    where
+      cut_short : Cut → Result Status Cut
+      cut_short why = Err why
 
   -- the lines are executed
   pub executed : (picture : Picture) (result : Result Status Cut) → IfSome (before.held task.image) (λ bytes. image_read bytes ≡ Ok picture)
@@ -149,9 +169,9 @@ module _ {I : Type 0} (task : ShellTask) (before after : Environment I) where
       → (is_over_at_start task picture ≡ true → Does outcome_of_no_start before.taken after.taken result)
       → (is_over_at_start task picture ≡ true → after.input ≡ before.input)
       → OnOk result (IfSome before.left (λ input. (told_of (setup_of task) picture input_limit input).end ≡ session_end.InputEnd → IsTrue after.closed))
-      → LosesPrefix before.left after.left (input_limit + 4096)
+      → LosesPrefix before.left after.left (input_limit + 4096) → (result ≡ Err cut.InputFailed → Replied picture)
       → after.held ≡ before.held → after.calls ≡ next_count before.calls → HeadlineOf (shell task) (status_in result) before after
-  executed picture result is does read write fault kind long out no_start unread closed moved held calls =
+  executed picture result is does read write fault kind long out no_start unread closed moved replied held calls =
       let side : OfSession task before after (status_in result) = session_side result fault kind long (λ e. unread (out e)) in
       answers _ (Some (shell task)) result before after
       (due_by_lines (λ outcome. Does outcome before.taken after.taken result) task (before.held task.image) before.left picture is does no_start)
@@ -159,5 +179,5 @@ module _ {I : Type 0} (task : ShellTask) (before after : Environment I) where
       (λ words. absurd (side.words words)) (λ silent. absurd (side.silent silent)) (λ refused. absurd (side.refusal refused))
       (facts_asked (shell task) (status_in result) before after (λ e. absurd (side.bad e)) (λ e. absurd (side.source e))
       (λ e. if_some_all (before.held task.image) _ (λ bytes. if_some_each before.left _ _ (λ lines past. inr past) (side.long e)))
-      (some_session task picture (status_in result) before after is (executed_facts picture result out unread closed))
+      (some_session task picture (status_in result) before after is (executed_facts picture result kind out unread closed replied))
       picture is moved side.unread (λ all. absurd all))

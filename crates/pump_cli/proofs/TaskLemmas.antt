@@ -222,24 +222,27 @@ pub record Side (task : Task) (status : Status) (BadImage BadSource TooLong : Ty
 
 -- ---- sessions
 
--- a session that did not come to its end did not read the input either
+-- a session that did not come to its end, nor to a read that failed, did not read the input either
 unexecuted : {I : Type 0} (task : ShellTask) (read : Result Picture Refusal) (status : Status) (before after : Environment I)
-    → (status ≡ statuses.TagsOut → ⊥) → (status ≡ statuses.Done → ⊥) → after.input ≡ before.input → ExecutedIn task read status before after
-unexecuted task (Ok picture) status before after not_out not_done input = record {
+    → (status ≡ statuses.TagsOut → ⊥) → (status ≡ statuses.Done → ⊥) → (status ≡ statuses.InputFailed → ⊥) → after.input ≡ before.input
+    → ExecutedIn task read status before after
+unexecuted task (Ok picture) status before after not_out not_done not_input input = record {
   tags_out = λ out. absurd (not_out out);
   unread = λ over. input;
   whole = λ done. absurd (not_done done);
+  replied = λ failed. absurd (not_input failed);
 }
-unexecuted task (Err refusal) status before after not_out not_done input = tt
+unexecuted task (Err refusal) status before after not_out not_done not_input input = tt
 
 pub no_session : {I : Type 0} (task : Task) (status : Status) (before after : Environment I)
-    → (status ≡ statuses.TagsOut → ⊥) → (status ≡ statuses.Done → ⊥) → after.input ≡ before.input → SessionFacts task status before after
-no_session (run task) status before after not_out not_done input = tt
-no_session (shell task) status before after not_out not_done input =
-    each (before.held task.image) _ (λ bytes. unexecuted task (image_read bytes) status before after not_out not_done input)
-no_session (assemble task) status before after not_out not_done input = tt
-no_session (disassemble task) status before after not_out not_done input = tt
-no_session (load task) status before after not_out not_done input = tt
+    → (status ≡ statuses.TagsOut → ⊥) → (status ≡ statuses.Done → ⊥) → (status ≡ statuses.InputFailed → ⊥) → after.input ≡ before.input
+    → SessionFacts task status before after
+no_session (run task) status before after not_out not_done not_input input = tt
+no_session (shell task) status before after not_out not_done not_input input =
+    each (before.held task.image) _ (λ bytes. unexecuted task (image_read bytes) status before after not_out not_done not_input input)
+no_session (assemble task) status before after not_out not_done not_input input = tt
+no_session (disassemble task) status before after not_out not_done not_input input = tt
+no_session (load task) status before after not_out not_done not_input input = tt
 
 -- one whose image was taken
 pub some_session : {I : Type 0} (task : ShellTask) (picture : Picture) (status : Status) (before after : Environment I)
@@ -344,6 +347,6 @@ facts_none task before = record {
   whole = λ all. absurd (not_all_read task all);
   session =
       no_session task statuses.Memory before before (λ e. let h : statuses.Memory ≡ statuses.TagsOut = e in cc)
-      (λ e. let h : statuses.Memory ≡ statuses.Done = e in cc) refl;
+      (λ e. let h : statuses.Memory ≡ statuses.Done = e in cc) (λ e. let h : statuses.Memory ≡ statuses.InputFailed = e in cc) refl;
   moved = loses_nothing before.left (input_limit + 4096);
 }

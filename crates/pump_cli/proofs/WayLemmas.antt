@@ -22,6 +22,7 @@ use Rattle.pump_cli.specs.declared.reading.EarlyEnd.TheVariants as early_end
 use Rattle.pump_cli.specs.declared.refusal.Refusal.{Refusal}
 use Rattle.pump_cli.specs.declared.refusal.Refusal.TheVariants as refusals
 use Rattle.pump_cli.specs.declared.status.Status.{Status}
+use Rattle.pump_cli.specs.declared.status.Status.TheVariants as statuses
 use Rattle.pump_cli.proofs.AnswerLemmas.{answers, does_nothing, puts_fault, refusal_ends, refusal_quiet, run_ends, run_quiet}
 use Rattle.pump_cli.proofs.CallLemmas.{Called, count_after_load, first_file, load_broken, refused_called}
 use Rattle.pump_cli.proofs.TaskLemmas.{Side, due_by_file, facts_unasked, no_image, no_session, no_source, too_long}
@@ -77,26 +78,28 @@ module _ {I : Type 0} (task : Task) (before after : Environment I) where
       let side : SideOf (status_in result) =
       refusal_ends SideOf refusal before.faults.puts after.faults.puts result faults ends
       (file_refusal refusal of_file is) (of_cut task (BadFile task before) (BadText task before) (LongFile task before) cut.PutFailed) (of_cut task (BadFile task before) (BadText task before) (LongFile task before) cut.Memory) in
+      let not_silent : (asked : Option Task) → IsSilent asked (status_in result) → ⊥ =
+      λ asked. refusal_ends (λ (ended : Status). IsSilent asked ended → ⊥) refusal before.faults.puts after.faults.puts result faults ends (refusal_is_told asked refusal) (λ no. no) (λ no. no) in
       answers _ (Some task) result before after
       (due_by_file (λ outcome. Does outcome before.taken after.taken result) task (content_of task before.held) before.left refusal is does)
       (refused_called (status_in result) before after held task refusal is (told_as refusal before.faults.puts after.faults.puts result faults ends) calls
       (puts_fault None before.faults after.faults result faults read write input_faults (refusal_quiet None before.faults after.faults refusal result ends)))
       (λ words. absurd (side.words words))
-      (λ silent. absurd (refusal_ends (λ (ended : Status). IsSilent (Some task) ended → ⊥) refusal before.faults.puts after.faults.puts result faults ends (refusal_is_told (Some task) refusal) (λ no. no) (λ no. no) silent))
+      (λ silent. absurd (not_silent (Some task) silent))
       (λ refused. out)
       (facts_unasked task (status_in result) before after side.bad side.source side.long
-      (no_session task (status_in result) before after side.not_out side.not_done input) input left side.not_run)
+      (no_session task (status_in result) before after side.not_out side.not_done (λ e. not_silent None (subst (IsSilent None) (sym e) tt)) input) input left side.not_run)
 
   -- it can't be had
-  pub file_cut : (cut : Cut) → Called (Some task) (status_of_cut cut) before after → after.taken ≡ before.taken
+  pub file_cut : (cut : Cut) → (status_of_cut cut ≡ statuses.InputFailed → ⊥) → Called (Some task) (status_of_cut cut) before after → after.taken ≡ before.taken
       → after.input ≡ before.input → after.left ≡ before.left → HeadlineOf task (status_of_cut cut) before after
-  file_cut cut called taken input left =
+  file_cut cut not_input called taken input left =
       let side : SideOf (status_of_cut cut) = of_cut task (BadFile task before) (BadText task before) (LongFile task before) cut in
       answers _ (Some task) (Err cut) before after
       (if_some_all _ _ (λ outcome. subst (λ (now : Taken). Does outcome before.taken now (Err cut)) (sym taken) (does_nothing outcome before.taken cut)))
       called (λ words. absurd (side.words words)) (λ silent. taken) (λ refused. ap (λ (now : Taken). now.out) taken)
       (facts_unasked task (status_of_cut cut) before after side.bad side.source side.long
-      (no_session task (status_of_cut cut) before after side.not_out side.not_done input) input left side.not_run)
+      (no_session task (status_of_cut cut) before after side.not_out side.not_done not_input input) input left side.not_run)
 
   -- the load of its file is cut short
   module _ (name : List ℕ) (loads : first_file task ≡ Some name) where
@@ -130,7 +133,7 @@ module _ {I : Type 0} (task : Task) (before after : Environment I) where
         ends.status rose write input_faults out held calls input left
     file_ends (early_end.Cut cut) A result refused of_file rose write ends out out_faults input_faults held calls input left =
         subst (λ (done : Result Status Cut). HeadlineOf task (status_in done) before after) (sym ends.ends)
-        (file_cut cut
+        (file_cut cut (λ e. file_not_all cut A rose (subst MakesAll (sym e) tt))
         (load_broken (status_of_cut cut) before after held task name loads (file_not_all cut A rose) calls
         (file_fault cut A rose write (λ i. record { out = out_faults i; err = ends.faults i }) input_faults))
         (λ i. record { out = out i; err = ends.err i }) input left)

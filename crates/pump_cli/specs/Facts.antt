@@ -1,5 +1,6 @@
 -- What a call did to the environment, by its status.
-use Rattle.std.specs.Prelude.{◌≡◌, ℕ, zero, suc, ◌+◌, ◌-◌, ◌^◌, ◌<◌, ◌⊎◌, true, List, length, Option, Some, None, Result, Ok, Err, IfOk, IfSome, IsErr, IsTrue}
+use Rattle.std.specs.Prelude.{◌≡◌, ℕ, zero, suc, ◌+◌, ◌-◌, ◌^◌, ◌<◌, ◌≤◌, ◌⊎◌, true, false, List, length, Option, Some, None, Result, Ok, Err, IfOk, IfSome, IsErr, IsTrue}
+use Rattle.std.specs.Io.KnownBytes.{prepend_known}
 use Rattle.shared_terms.specs.Counts.{next_count}
 use Rattle.host_io.specs.Prefixes.{LosesPrefix}
 use Rattle.host_io.specs.Environment.{Faults, Environment}
@@ -8,6 +9,7 @@ use Rattle.host_io.specs.TwoSinks.{OneRose, PutFaults}
 use Rattle.image_format.specs.Picture.{Picture}
 use Rattle.image_format.specs.Reading.{image_of}
 use Rattle.asm_emit.specs.Assembled.{image_of_source}
+use Rattle.shell_script.specs.Shell.{lines_in}
 use Rattle.pump_shell.specs.Told.{told_of}
 use Rattle.pump_shell.specs.declared.ends.SessionEnd.TheVariants.{InputEnd}
 use Rattle.pump_line.specs.Task.{ShellTask, Task, assemble, disassemble, load, run, shell}
@@ -15,11 +17,12 @@ use Rattle.pump_cli.specs.Codes.{IsBeforeInput, ReadsAll, status_of_cut}
 use Rattle.pump_cli.specs.Endings.{Outcome}
 use Rattle.pump_cli.specs.Program.{is_over_at_start, setup_of}
 use Rattle.pump_cli.specs.Reading.{content_of, content_read, file_limit, image_read, input_limit}
+use Rattle.pump_cli.specs.Sessions.{session_after}
 use Rattle.pump_cli.specs.declared.refusal.Refusal.{Refusal}
 use Rattle.pump_cli.specs.declared.cut.Cut.{Cut}
 use Rattle.pump_cli.specs.declared.cut.Cut.TheVariants as cut
 use Rattle.pump_cli.specs.declared.status.Status.{Status}
-use Rattle.pump_cli.specs.declared.status.Status.TheVariants.{BadImage, BadSource, Done, TagsOut, TooLong}
+use Rattle.pump_cli.specs.declared.status.Status.TheVariants.{BadImage, BadSource, Done, InputFailed, TagsOut, TooLong}
 
 -- all that the outcome says was put, and the status is its
 pub record Finishes (outcome : Outcome) (before after : Taken) (status : Status) : Type 0 where
@@ -64,13 +67,24 @@ IsTooLong (assemble task) bytes left = IsLongFile bytes
 IsTooLong (disassemble task) bytes left = IsLongFile bytes
 IsTooLong (load task) bytes left = IsLongFile bytes
 
--- what a session did, by what the definition says of its start and of its end
+-- A read of the input failed behind these bytes of it: each line that a newline ends among them was replied to as a whole, none of
+-- these lines was `quit`, and nothing else was put on either sink.
+pub record RepliedBefore (task : ShellTask) (picture : Picture) (left left_now : Option (List ℕ)) (before after : Taken) : Type 0 where
+  pub read : List ℕ
+  pub moved : left ≡ prepend_known read left_now
+  pub within : length read ≤ input_limit
+  pub goes_on : (session_after task picture (lines_in read)).quits ≡ false
+  pub replies : PutsAll before after (session_after task picture (lines_in read)).pieces
+
+-- what a session did, by what the definition says of its start, of its lines and of its end
 pub record Executed {I : Type 0} (task : ShellTask) (picture : Picture) (status : Status) (before after : Environment I) : Type 0 where
   -- status 7 comes of a start that is out of tag numbers, which leaves the input alone, however that is told
   pub tags_out : status ≡ TagsOut → is_over_at_start task picture ≡ true
   pub unread : is_over_at_start task picture ≡ true → after.input ≡ before.input
   -- one that ended with its input, and not with `quit`, has read it to its end
   pub whole : status ≡ Done → IfSome before.left (λ input. (told_of (setup_of task) picture input_limit input).end ≡ InputEnd → IsTrue after.closed)
+  -- a read of the input failed: each line that had ended before it was replied to, and nothing else was put
+  pub replied : status ≡ InputFailed → RepliedBefore task picture before.left after.left before.taken after.taken
 
 -- where the image is refused there is no session
 abbrev pub ExecutedIn : {I : Type 0} → ShellTask → Result Picture Refusal → Status → Environment I → Environment I → Type 0

@@ -33,7 +33,7 @@ pub record Headline {I : Type 0} (due : Option Outcome) (task : Option Task) (st
   -- Each name holds what these calls left there, and nothing is saved where memory ran out.
   pub held : HeldAfter calls.done calls.broken status before after
   pub unsaved : status ≡ Memory → after.held ≡ before.held
-  -- Why the task is refused, and what is done to the input.
+  -- Why the task is refused, what is done to the input, and what a session replied where a read of it failed.
   pub asked : TaskFacts task status before after
 
 -- of a task that the words ask for: what is due is what the task comes to, as files and input stand before the call

@@ -88,7 +88,8 @@ fn run_words<F: Files, S: Source, K: Sink, L: Sink>(
 /// the whole guarantee, fact by fact.
 ///
 /// A run whose turns are spent made as many as its limit says, and left a hart that is ready (`spent`); one that ends out of tag
-/// numbers ran out of them (`tags_out`), as does the start of a session (`Executed`, specs/Facts.antt).
+/// numbers ran out of them (`tags_out`), as does the start of a session (`Executed`, specs/Facts.antt). Where a read of a
+/// session's input fails, each line that ended before it was replied to, and nothing else was put (`replied` there).
 ///
 /// `load` makes the source of a workload itself, runs its image under every policy on no input, and tells in one line on standard
 /// output how many turns, hits and misses there were, and its status. What is due of it is that line alone, whatever files and

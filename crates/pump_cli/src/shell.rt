@@ -1,6 +1,6 @@
 //! `shell`: a session of the monitor shell over an image.
 
-ghost use Rattle.std.specs.Prelude.{◌≡◌, ℕ, List, Option, ◌+◌, ◌≤◌, IfOk, IfSome, IsTrue, Ok, OnOk, true};
+ghost use Rattle.std.specs.Prelude.{◌≡◌, ℕ, List, Option, ◌+◌, ◌≤◌, Err, IfOk, IfSome, IsTrue, Ok, OnOk, true};
 ghost use Rattle.host_io.specs.Prefixes.{LosesPrefix};
 ghost use Rattle.pump_shell.specs.Told.{told_of};
 ghost use Rattle.pump_line.specs.Task.{shell};
@@ -8,7 +8,7 @@ ghost use Rattle.pump_line.specs.Told.{shell_value};
 ghost use Rattle.pump_cli.specs.Codes.{IsOfSession};
 ghost use Rattle.pump_cli.specs.Early.{SessionFaultBy};
 ghost use Rattle.pump_cli.specs.Environments.{environment};
-ghost use Rattle.pump_cli.specs.Facts.{Does, IsLongInput, PutsFaultBy, status_in};
+ghost use Rattle.pump_cli.specs.Facts.{Does, IsLongInput, PutsFaultBy, RepliedBefore, status_in};
 ghost use Rattle.pump_cli.specs.Program.{is_over_at_start, outcome_of_end, outcome_of_lines, outcome_of_no_start, setup_of};
 ghost use Rattle.pump_cli.specs.Reading.{input_limit};
 ghost use Rattle.pump_cli.specs.Theorem.{HeadlineOf};
@@ -78,6 +78,11 @@ pub(crate) fn obey_lines<S: Source, K: Sink, L: Sink>(
         (told_of (setup_of (shell_value task.entry)) image.now input_limit bytes).end
         ≡ SessionEnd.InputEnd → IsTrue (S.closed input.new))) }
     ensures moved { LosesPrefix (S.left input.old) (S.left input.new) (input_limit + 4096) }
+    // Where a read failed, each line that ended before it was replied to, and nothing else was put.
+    ensures replied { result ≡ Err Cut.InputFailed
+        → RepliedBefore (shell_value task.entry) image.now (S.left input.old) (S.left input.new)
+        (record { out = K.taken out.old; err = L.taken err.old })
+        (record { out = K.taken out.new; err = L.taken err.new }) }
 {
     let setup = Setup {
         basis: basis_of(task.choice),

@@ -10,13 +10,15 @@ use Rattle.shell_turns.specs.declared.ends.ObeyEnd.TheVariants as obey_end
 use Rattle.shell_turns.proofs.PutLemmas.{puts_cut_with, puts_not_begun, puts_nothing, puts_with}
 use Rattle.shell_run.specs.Session.{SessionState, fresh}
 use Rattle.shell_script.specs.Scripts.{Script, followed_by, script}
-use Rattle.shell_script.specs.Shell.{ShellEnds, at_the_end, ending_so, last_in, lines_in, shell_of}
+use Rattle.shell_script.specs.Shell.{RepliesSoFar, ShellEnds, at_the_end, ending_so, last_in, lines_in, shell_of}
 use Rattle.shell_script.specs.declared.reading.ShellCut.{ShellCut}
+use Rattle.shell_script.specs.declared.reading.ShellCut.TheVariants as shell_cut
 use Rattle.shell_script.specs.declared.reading.ShellEnd.{ShellEnd}
 use Rattle.shell_script.specs.declared.reading.ShellEnd.TheVariants as shell_end
-use Rattle.pump_shell.specs.Ends.{end_of}
+use Rattle.pump_shell.specs.Ends.{cut_of, end_of}
 use Rattle.pump_shell.specs.Told.{Told, out_at_start, told_by, told_from}
 use Rattle.pump_shell.specs.declared.ends.SessionCut.{SessionCut}
+use Rattle.pump_shell.specs.declared.ends.SessionCut.TheVariants as session_cut
 use Rattle.pump_shell.specs.declared.ends.SessionEnd.{SessionEnd}
 use Rattle.pump_shell.specs.declared.ends.SessionEnd.TheVariants as session_end
 
@@ -76,6 +78,12 @@ session_ok end = Ok end
 abbrev session_err : SessionCut → Result SessionEnd SessionCut
 session_err end = Err end
 
+-- a session's read that failed is its shell's
+read_failed : (end : ShellCut) → session_err (cut_of end) ≡ session_err session_cut.ReadFailed → shell_err end ≡ shell_err shell_cut.ReadFailed
+read_failed shell_cut.ReadFailed failed = refl
+read_failed (shell_cut.Obey obey_end.WriteFault) failed = absurd (let h : session_err session_cut.PutFailed ≡ session_err session_cut.ReadFailed = failed in cc)
+read_failed (shell_cut.Obey obey_end.Memory) failed = absurd (let h : session_err session_cut.Memory ≡ session_err session_cut.ReadFailed = failed in cc)
+
 module _ {S T : Type 0} (eq : T → T → Bool) (m : PolicyModel T S) (limit : ℕ) (start : Standing S T) where
   abbrev told : List ℕ → Told
   told bytes = told_from eq m limit start bytes
@@ -126,3 +134,9 @@ module _ {S T : Type 0} (eq : T → T → Bool) (m : PolicyModel T S) (limit : �
       where
         puts_of : PutsOut old new (shell_of eq m limit s bytes).pieces (shell_err end) → PutsOut old new (shell_of eq m limit s bytes).pieces (session_err cut)
         puts_of puts = puts
+
+    pub made_replies : (left left_now old new : Option (List ℕ)) (end : ShellCut) (cut : SessionCut) → cut ≡ cut_of end
+        → (shell_err end ≡ shell_err shell_cut.ReadFailed → RepliesSoFar eq m limit s left left_now old new)
+        → session_err cut ≡ session_err session_cut.ReadFailed → RepliesSoFar eq m limit (fresh start) left left_now old new
+    made_replies left left_now old new end cut cut_is replied failed =
+        subst (λ (t : SessionState S T). RepliesSoFar eq m limit t left left_now old new) is (replied (read_failed end (ap session_err (sym cut_is) ∙ failed)))

@@ -1,5 +1,5 @@
 -- What a session over an image and an input puts, and how it ends.
-use Rattle.std.specs.Prelude.{ℕ, Bool, List, [], if◌then◌else◌}
+use Rattle.std.specs.Prelude.{ℕ, Bool, List, [], Option, if◌then◌else◌}
 use Rattle.image_format.specs.Picture.{Picture}
 use Rattle.host_io.specs.Pieces.{Piece}
 use Rattle.policy_trait.specs.Model.{PolicyModel}
@@ -8,7 +8,7 @@ use Rattle.engine_trait.specs.Accounts.{is_over}
 use Rattle.engine_trait.specs.Standing.{Standing}
 use Rattle.pump_loader.specs.ChosenLoads.{chosen_start_of}
 use Rattle.shell_run.specs.Session.{fresh}
-use Rattle.shell_script.specs.Shell.{Shell, shell_of}
+use Rattle.shell_script.specs.Shell.{RepliesSoFar, Shell, shell_of}
 use Rattle.pump_shell.specs.Ends.{end_of}
 use Rattle.pump_shell.specs.declared.ends.SessionEnd.{SessionEnd}
 use Rattle.pump_shell.specs.declared.ends.SessionEnd.TheVariants.{TagsOut}
@@ -39,3 +39,8 @@ start_of_setup setup g = chosen_start_of setup.basis setup.cache setup.tags g
 -- a session over this image and input, set up so; at most `limit` bytes of the input count
 abbrev pub told_of : Setup → Picture → ℕ → List ℕ → Told
 told_of setup g limit input = told_from all_eq all limit (start_of_setup setup g) input
+
+-- a read of the input failed in such a session: each line that ended before it was replied to, and nothing else was put
+abbrev pub RepliesSoFarOf : Setup → Picture → ℕ → Option (List ℕ) → Option (List ℕ) → Option (List ℕ) → Option (List ℕ) → Type 0
+RepliesSoFarOf setup g limit left left_now old new =
+    RepliesSoFar all_eq all limit (fresh (start_of_setup setup g)) left left_now old new

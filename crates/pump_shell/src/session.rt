@@ -1,11 +1,13 @@
 //! A session, from its setup, its image and its input.
 
-ghost use Rattle.std.specs.Prelude.{◌≡◌, ◌+◌, ◌<◌, ◌≤◌, IfOk, IfSome, IsTrue, Ok, length, true};
+ghost use Rattle.std.specs.Prelude.{◌≡◌, ◌+◌, ◌<◌, ◌≤◌, Err, IfOk, IfSome, IsTrue, Ok, length, true};
 ghost use Rattle.host_io.specs.Prefixes.{LosesPrefix};
 ghost use Rattle.engine_trait.specs.Accounts.{is_over};
 ghost use Rattle.shell_turns.specs.Cuts.{PutsOut};
+ghost use Rattle.shell_run.specs.Session.{fresh};
+ghost use Rattle.shell_script.specs.Shell.{RepliesSoFar};
 ghost use Rattle.pump_shell.specs.Ends.{NoSession, SessionCause};
-ghost use Rattle.pump_shell.specs.Told.{start_of_setup, told_from, told_of};
+ghost use Rattle.pump_shell.specs.Told.{RepliesSoFarOf, start_of_setup, told_from, told_of};
 
 use crate::ends::{SessionCut, SessionEnd};
 use crate::setup::Setup;
@@ -31,6 +33,9 @@ fn run_from<L: Loader, S: Source, K: Sink>(
         end ≡ (told_from L.E.P.Tag.eq L.E.P.model limit (L.start loader) bytes).end)) }
     ensures puts { IfSome (S.left input.old) (λ bytes. PutsOut (K.taken out.old) (K.taken out.new)
         (told_from L.E.P.Tag.eq L.E.P.model limit (L.start loader) bytes).pieces result) }
+    ensures replied { result ≡ Err SessionCut.ReadFailed
+        → RepliesSoFar L.E.P.Tag.eq L.E.P.model limit (fresh (L.start loader))
+        (S.left input.old) (S.left input.new) (K.taken out.old) (K.taken out.new) }
     ensures long { result ≡ Ok SessionEnd.TooLong
         → IfSome (S.left input.old) (λ bytes. limit < length bytes) }
     ensures out_of_tags { result ≡ Ok SessionEnd.TagsOut
@@ -75,6 +80,11 @@ pub fn run_session<S: Source, K: Sink>(
         (told_of setup image.now limit bytes).pieces result) }
     ensures long { result ≡ Ok SessionEnd.TooLong
         → IfSome (S.left input.old) (λ bytes. limit < length bytes) }
+
+    // Where a read failed, each line that ended before it was replied to, and nothing else was put.
+    ensures replied { result ≡ Err SessionCut.ReadFailed
+        → RepliesSoFarOf setup image.now limit
+        (S.left input.old) (S.left input.new) (K.taken out.old) (K.taken out.new) }
 
     // A start that is out of tag numbers leaves input and output alone, whatever the input is.
     ensures out_of_tags { result ≡ Ok SessionEnd.TagsOut

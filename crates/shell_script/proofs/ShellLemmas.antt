@@ -15,7 +15,7 @@ use Rattle.shell_turns.specs.declared.ends.ObeyEnd.{ObeyEnd}
 use Rattle.shell_turns.proofs.PutLemmas.{Ends as Putting, done, fails, puts_on}
 use Rattle.shell_run.specs.Session.{SessionState}
 use Rattle.shell_script.specs.Scripts.{Ends, Script, behind, followed_by, script}
-use Rattle.shell_script.specs.Shell.{Shell, ShellEnds, at_the_end, ending_so, last_in, lines_in, shell_of}
+use Rattle.shell_script.specs.Shell.{RepliesSoFar, Shell, ShellEnds, at_the_end, ending_so, last_in, lines_in, shell_of}
 use Rattle.shell_script.specs.declared.reading.ShellEnd.{ShellEnd}
 use Rattle.shell_script.specs.declared.reading.ShellEnd.TheVariants.{Quit, TooLong}
 use Rattle.shell_script.proofs.ScriptLemmas.{ends_on, goes_on, puts_next, quit_ends, script_more, told_first}
@@ -101,6 +101,19 @@ module _ {S T : Type 0} (eq : T → T → Bool) (m : PolicyModel T S) (limit : �
     piece_puts old mid new result puts more =
         subst (λ answers. PutsOut old new (script eq m s answers).pieces result) (sym answers_are)
         (puts_next eq m s (answers_along [] taken) now ends (answers_along begun prefix) old mid new tt result puts more)
+
+  -- a read failed behind these bytes
+  pub replies_so_far : (taken : List ℕ) (left left_now old new : Option (List ℕ)) (now : SessionState S T) → left ≡ prepend_known taken left_now
+      → length taken ≤ limit → Ends (read taken) now false → PutsOut old new (read taken).pieces done → RepliesSoFar eq m limit s left left_now old new
+  replies_so_far taken left left_now old new now moved within ends puts =
+      let is : read taken ≡ script eq m s (lines_in taken) = ap (script eq m s) (answers_of taken) in
+      record {
+        read = taken;
+        moved = moved;
+        within = within;
+        goes_on = sym (ends.quits ∙ ap (λ (all : Script S T). all.quits) is);
+        replies = subst (λ (all : Script S T). PutsOut old new all.pieces done) is puts;
+      }
 
   -- the first bytes of an input, within the limit
   module _ (taken rest : List ℕ) (within : length taken ≤ limit) where

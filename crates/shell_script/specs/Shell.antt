@@ -1,10 +1,12 @@
 -- A session over an input: its lines in their order.
-use Rattle.std.specs.Prelude.{◌≡◌, ℕ, Bool, nat_lt, List, [], ◌++◌, length, map, take, Result, Ok, Err, if◌then◌else◌}
+use Rattle.std.specs.Prelude.{◌≡◌, ℕ, ◌≤◌, Bool, false, nat_lt, List, [], ◌++◌, length, map, take, Option, Result, Ok, Err, if◌then◌else◌}
+use Rattle.std.specs.Io.KnownBytes.{prepend_known}
 use Rattle.host_io.specs.Causes.{Rose}
 use Rattle.host_io.specs.Pieces.{Piece}
 use Rattle.policy_trait.specs.Model.{PolicyModel}
 use Rattle.shell_lang.specs.Grammar.{Answer, line_answer}
 use Rattle.shell_lang.specs.Stream.{end_answer, ended_lines, onto_answers, open_line}
+use Rattle.shell_turns.specs.Cuts.{PutsOut, all_put}
 use Rattle.shell_turns.specs.declared.ends.ObeyEnd.TheVariants as obey_end
 use Rattle.shell_run.specs.Session.{SessionState}
 use Rattle.shell_script.specs.Scripts.{Script, followed_by, script}
@@ -51,6 +53,15 @@ shell_of eq m limit s input =
 pub record ShellEnds {S T : Type 0} (shell : Shell S T) (s : SessionState S T) (told : ShellEnd) : Type 0 where
   pub after : s ≡ shell.after
   pub end : told ≡ shell.end
+
+-- A read of the input failed behind these bytes of it: each line that a newline ends among them was replied to as a whole, none of
+-- these lines was `quit`, and nothing else was put.
+pub record RepliesSoFar {S T : Type 0} (eq : T → T → Bool) (m : PolicyModel T S) (limit : ℕ) (s : SessionState S T) (left left_now old new : Option (List ℕ)) : Type 0 where
+  pub read : List ℕ
+  pub moved : left ≡ prepend_known read left_now
+  pub within : length read ≤ limit
+  pub goes_on : (script eq m s (lines_in read)).quits ≡ false
+  pub replies : PutsOut old new (script eq m s (lines_in read)).pieces all_put
 
 -- counts of faults of the input and of the sink
 pub record ShellFaults : Type 0 where

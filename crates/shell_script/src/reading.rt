@@ -1,11 +1,11 @@
 //! An input that is read piece by piece, and whose lines a session executes as they come.
 
-ghost use Rattle.std.specs.Prelude.{◌≡◌, ℕ, ◌+◌, [], IfOk, IfSome, IsTrue, None, Ok};
+ghost use Rattle.std.specs.Prelude.{◌≡◌, ℕ, ◌+◌, [], Err, IfOk, IfSome, IsTrue, None, Ok};
 ghost use Rattle.host_io.specs.Prefixes.{LosesPrefix};
 ghost use Rattle.shell_lang.specs.Stream.{end_answer, onto_answers};
 ghost use Rattle.shell_turns.specs.Cuts.{PutsOut};
 ghost use Rattle.shell_script.specs.Scripts.{Ends, script};
-ghost use Rattle.shell_script.specs.Shell.{ShellCause, ShellEnds, at_the_end, shell_of};
+ghost use Rattle.shell_script.specs.Shell.{RepliesSoFar, ShellCause, ShellEnds, at_the_end, shell_of};
 
 use crate::lines::{obey_bytes, obey_rest};
 use engine_trait::Loader;
@@ -75,6 +75,11 @@ pub fn obey_input<L: Loader, S: Source, K: Sink>(
         ShellEnds (shell_of L.E.P.Tag.eq L.E.P.model limit session.old bytes) session.new end)) }
     ensures puts { IfSome (S.left input.old) (λ bytes. PutsOut (K.taken out.old) (K.taken out.new)
         (shell_of L.E.P.Tag.eq L.E.P.model limit session.old bytes).pieces result) }
+
+    // Where a read failed, each line that ended before it was replied to, and nothing else was put.
+    ensures replied { result ≡ Err ShellCut.ReadFailed
+        → RepliesSoFar L.E.P.Tag.eq L.E.P.model limit session.old
+        (S.left input.old) (S.left input.new) (K.taken out.old) (K.taken out.new) }
 
     // What was moved out of the input stood first, and it is closed where its end was met.
     ensures closed { result ≡ Ok ShellEnd.InputEnd → IsTrue (S.closed input.new) }

@@ -1,5 +1,5 @@
 use Rattle.pump_line.specs.Told.{shell_value}
-use Rattle.pump_cli.proofs.SessionLemmas.{broken_faults, ended_faults, no_start_broken, no_start_ended, over_is, past_limit, session_broken, session_closed, session_ended, session_ok, whatever}
+use Rattle.pump_cli.proofs.SessionLemmas.{broken_faults, counts, ended_faults, no_read_after, no_start_broken, no_start_ended, over_is, past_limit, session_broken, session_closed, session_ended, session_ok, session_read_failed, session_replied, whatever}
 use Rattle.std.proofs.Common.{IsTrue, ap, refl, sym, ◌∙◌}
 use Rattle.pump_cli.proofs.shell.obey_lines.Goals as goal
 
@@ -55,3 +55,12 @@ returns-in-Err-clause-no_start g c over =
 pub returns-in-Err-clause-unread : goal.returns-in-Err-clause-unread
 returns-in-Err-clause-unread g c over =
     (c.in-Err.ensures.over (over_is (shell_value c.args.task) c.basis_of.result c.args.image.now c.basis_of.ensures ∙ over)).unread
+
+pub returns-in-Ok-clause-replied : goal.returns-in-Ok-clause-replied
+returns-in-Ok-clause-replied g c failed =
+    absurd (no_read_after (counts 0 (g.L.Sink.faults c.args.err.now)) (counts 0 (g.L.Sink.faults c.end_session.new.err)) c.end_session.result (c.end_session.ensures.faults 0) failed)
+
+pub returns-in-Err-clause-replied : goal.returns-in-Err-clause-replied
+returns-in-Err-clause-replied g c failed =
+    session_replied (shell_value c.args.task) c.basis_of.result c.basis_of.ensures c.args.image.now (g.S.Source.left c.args.input.now) (g.K.Sink.taken c.args.out.now) (g.K.Sink.taken c.run_session.new.out)
+    (g.S.Source.left c.run_session.new.input) (g.L.Sink.taken c.args.err.now) (c.in-Err.ensures.replied (session_read_failed c.in-Err.cut c.from.result c.from.ensures failed))

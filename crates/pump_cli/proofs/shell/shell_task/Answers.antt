@@ -8,7 +8,7 @@ use Rattle.pump_cli.proofs.shell.shell_task.Goals as goal
 pub returns-in-Ok : goal.returns-in-Ok
 returns-in-Ok g c =
     let e = c.obey_lines.ensures in
-    executed (shell_value c.args.task) _ _ c.in-Ok.image c.obey_lines.result c.in-Ok.ensures.taken e.does c.in-Ok.ensures.faults c.in-Ok.ensures.writes e.faults e.kind e.long e.tags_out e.no_start e.unread e.closed e.moved
+    executed (shell_value c.args.task) _ _ c.in-Ok.image c.obey_lines.result c.in-Ok.ensures.taken e.does c.in-Ok.ensures.faults c.in-Ok.ensures.writes e.faults e.kind e.long e.tags_out e.no_start e.unread e.closed e.moved e.replied
     c.in-Ok.ensures.held c.in-Ok.ensures.calls
 
 pub returns-in-Err : goal.returns-in-Err

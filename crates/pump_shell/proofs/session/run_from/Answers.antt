@@ -1,6 +1,6 @@
 use Rattle.std.proofs.Common.{Err, inl, inr, refl}
 use Rattle.pump_shell.specs.declared.ends.SessionCut.TheVariants.{Memory}
-use Rattle.pump_shell.proofs.ToldLemmas.{long_told, made_cut, made_end, made_puts, over_end, over_puts, unmade_puts}
+use Rattle.pump_shell.proofs.ToldLemmas.{long_told, made_cut, made_end, made_puts, made_replies, over_end, over_puts, unmade_puts}
 use Rattle.pump_shell.proofs.session.run_from.Goals as goal
 
 pub returns-in-Err-TagsOut-clause-done : goal.returns-in-Err-TagsOut-clause-done
@@ -50,3 +50,8 @@ returns-in-Ok-obey_input-clause-over g c over = absurd (let within = c.in-Ok.ens
 
 pub returns-clause-over : goal.returns-clause-over
 returns-clause-over g c over = absurd (let within = c.in-Ok.ensures.within in cc)
+
+pub returns-clause-replied : goal.returns-clause-replied
+returns-clause-replied g c failed =
+    made_replies g.L.E.P.Tag.PartialEq.eq g.L.E.P.Policy.model c.args.limit (g.L.Loader.start c.args.loader) c.in-Ok.ensures.within c.in-Ok.session c.in-Ok.ensures.ok
+    (g.S.Source.left c.args.input.now) _ _ _ c.in-Err.cut c.from.result c.from.ensures c.in-Err.ensures.replied failed

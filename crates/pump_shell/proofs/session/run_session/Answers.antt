@@ -1,6 +1,6 @@
 use Rattle.pump_loader.specs.ChosenLoads.{start_of_chosen}
 use Rattle.pump_loader.specs.declared.chosen.ChosenLoad.TheVariants.{Asked, Kept}
-use Rattle.pump_shell.proofs.StartLemmas.{done_as_set, over_as_chosen, over_as_set, puts_as_set}
+use Rattle.pump_shell.proofs.StartLemmas.{done_as_set, over_as_chosen, over_as_set, puts_as_set, replies_as_set}
 use Rattle.pump_shell.proofs.session.run_session.Goals as goal
 
 pub returns-in-Asked-clause-done : goal.returns-in-Asked-clause-done
@@ -11,6 +11,11 @@ pub returns-in-Asked-clause-puts : goal.returns-in-Asked-clause-puts
 returns-in-Asked-clause-puts g c =
     puts_as_set c.args.setup c.args.image.now (start_of_chosen (Asked c.in-Asked.loader)) c.in-Asked.ensures.starts c.args.limit (g.S.Source.left c.args.input.now) c.run_from.result
     (g.K.Sink.taken c.args.out.now) (g.K.Sink.taken c.run_from.new.out) c.run_from.ensures.puts
+
+pub returns-in-Asked-clause-replied : goal.returns-in-Asked-clause-replied
+returns-in-Asked-clause-replied g c failed =
+    replies_as_set c.args.setup c.args.image.now (start_of_chosen (Asked c.in-Asked.loader)) c.in-Asked.ensures.starts c.args.limit (g.S.Source.left c.args.input.now) _ _ _
+    (c.run_from.ensures.replied failed)
 
 pub returns-in-Asked-clause-out_of_tags : goal.returns-in-Asked-clause-out_of_tags
 returns-in-Asked-clause-out_of_tags g c out =
@@ -28,6 +33,11 @@ pub returns-in-Kept-clause-puts : goal.returns-in-Kept-clause-puts
 returns-in-Kept-clause-puts g c =
     puts_as_set c.args.setup c.args.image.now (start_of_chosen (Kept c.in-Kept.loader)) c.in-Kept.ensures.starts c.args.limit (g.S.Source.left c.args.input.now) c.run_from-in-Kept.result
     (g.K.Sink.taken c.args.out.now) (g.K.Sink.taken c.run_from-in-Kept.new.out) c.run_from-in-Kept.ensures.puts
+
+pub returns-in-Kept-clause-replied : goal.returns-in-Kept-clause-replied
+returns-in-Kept-clause-replied g c failed =
+    replies_as_set c.args.setup c.args.image.now (start_of_chosen (Kept c.in-Kept.loader)) c.in-Kept.ensures.starts c.args.limit (g.S.Source.left c.args.input.now) _ _ _
+    (c.run_from-in-Kept.ensures.replied failed)
 
 pub returns-in-Kept-clause-out_of_tags : goal.returns-in-Kept-clause-out_of_tags
 returns-in-Kept-clause-out_of_tags g c out =

@@ -1,4 +1,4 @@
-use Rattle.std.proofs.Common.{arith, ◌≡◌, ◌≤◌, ◌+◌, ℕ, List, [], ◌++◌, Bool, true, false, drop, length, take, Option, Ok, Err, IfSome, refl, ap, sym, subst, ◌∙◌}
+use Rattle.std.proofs.Common.{arith, ◌≡◌, ◌≤◌, ◌+◌, ℕ, List, [], ◌++◌, Bool, true, false, drop, length, take, Option, Result, Ok, Err, IfSome, refl, ap, sym, subst, ◌∙◌}
 use Rattle.std.specs.Io.KnownBytes.{IsAtEnd, prepend_known}
 use Rattle.host_io.specs.Causes.{Rose}
 use Rattle.host_io.specs.Prefixes.{LosesPrefix}
@@ -17,7 +17,7 @@ use Rattle.shell_script.specs.declared.reading.ShellEnd.{ShellEnd}
 use Rattle.shell_script.specs.declared.reading.ShellEnd.TheVariants.{Quit, TooLong}
 use Rattle.shell_script.proofs.LineLemmas.{answers_of_none, line_of_none}
 use Rattle.shell_script.proofs.ScriptLemmas.{script_none}
-use Rattle.shell_script.proofs.ShellLemmas.{done_ends, done_puts, prefix_back, none_taken, ok_map, piece_ends, piece_line, piece_puts, shell_cut, shell_long, shell_quits, shell_quits_pieces, told_at_end, told_in, told_of}
+use Rattle.shell_script.proofs.ShellLemmas.{done_ends, done_puts, prefix_back, none_taken, ok_map, piece_ends, piece_line, piece_puts, replies_so_far, shell_cut, shell_long, shell_quits, shell_quits_pieces, told_at_end, told_in, told_of}
 use Rattle.shell_script.proofs.reading.obey_input.Goals as goal
 
 pub loop-session-init : goal.loop-session-init
@@ -330,6 +330,25 @@ loop-session-preserved g c =
       in_faults = c.in-Ok.ensures.cause ∙ i.in_faults;
       out_faults = c.in-Ok-false.ensures.cause ∙ i.out_faults;
     }
+
+-- ---- what was replied to before a read that failed
+
+-- a last line is obeyed without a read
+no_read_left : (out out_now : ℕ) (result : Result ShellEnd ShellCut) → ShellCause (record { input = 0; out = out }) (record { input = 0; out = out_now }) result
+    → result ≡ Err ReadFailed → ⊥
+no_read_left out out_now result cause failed =
+    let rose = subst (ShellCause (record { input = 0; out = out }) (record { input = 0; out = out_now })) failed cause in
+    omega (arith, rose.0.raised)
+
+pub returns-in-Ok-eq0-clause-replied : goal.returns-in-Ok-eq0-clause-replied
+returns-in-Ok-eq0-clause-replied g c failed =
+    absurd (no_read_left (g.K.Sink.faults c.loop-session.out) (g.K.Sink.faults c.finish.new.out) c.finish.result (c.finish.ensures.cause 0) failed)
+
+pub returns-in-Err-clause-replied : goal.returns-in-Err-clause-replied
+returns-in-Err-clause-replied g c failed =
+    let i = c.loop-session.invariant in
+    replies_so_far g.L.E.P.Tag.PartialEq.eq g.L.E.P.Policy.model c.args.limit c.args.session.now i.taken (g.S.Source.left c.args.input.now) (g.S.Source.left c.read.new.self)
+    (g.K.Sink.taken c.args.out.now) (g.K.Sink.taken c.loop-session.out) c.loop-session.session (i.moved ∙ ap (prepend_known i.taken) (sym c.in-Err.ensures.failed)) i.within i.ends i.puts
 
 -- ---- what the clauses say beside the definition
 
