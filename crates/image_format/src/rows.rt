@@ -1,21 +1,21 @@
 //! The rows of an image's lists.
 
 /// Words of the memory: the address of the first in bytes, and how many there are.
-#[derive(Clone, Copy, Debug, PartialEq, Eq)]
+#[derive(Clone, Copy)]
 pub struct WordRange {
     pub address: u32,
     pub words: u32,
 }
 
 /// The label of the word at an address.
-#[derive(Clone, Copy, Debug, PartialEq, Eq)]
+#[derive(Clone, Copy)]
 pub struct Label {
     pub address: u32,
     pub id: u32,
 }
 
 /// An allowed way from one label to another, by their ids.
-#[derive(Clone, Copy, Debug, PartialEq, Eq)]
+#[derive(Clone, Copy)]
 pub struct Edge {
     pub source: u32,
     pub target: u32,
@@ -23,7 +23,7 @@ pub struct Edge {
 
 /// Words that a compartment owns at the start, 0 to 31. Bit i of `into` lets compartment i jump to
 /// them, and bit i of `write` lets it write them.
-#[derive(Clone, Copy, Debug, PartialEq, Eq)]
+#[derive(Clone, Copy)]
 pub struct CompartmentRange {
     pub range: WordRange,
     pub owner: u32,

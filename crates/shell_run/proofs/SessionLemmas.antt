@@ -2,18 +2,51 @@
 use Rattle.std.proofs.Common.{◌≡◌, ℕ, ◌<◌, Bool, true, false, nat_lt, inl, inr, List, [], ◌∷◌, length, Option, Some, None, Result, Ok, Err, IfErr, IfSome, OnOk, if◌then◌else◌, refl, ap, sym, subst}
 use Rattle.std.proofs.lemmas.Bool.{lt-ltb}
 use Rattle.std.specs.List.{list_all}
-use Rattle.host_io.specs.Pieces.{out}
+use Rattle.host_io.specs.Pieces.{Piece, out}
 use Rattle.policy_trait.specs.Model.{PolicyModel}
 use Rattle.shell_lang.specs.declared.command.Command.{Command}
 use Rattle.shell_lang.specs.declared.command.Command.TheVariants as command
-use Rattle.shell_turns.specs.Cuts.{PutsOut, TurnsCut, cut_by}
+use Rattle.shell_turns.specs.Cuts.{ObeyCause, PutsOut, TurnsCut, cut_by}
 use Rattle.shell_turns.specs.Order.{Order, listed, only, rounds_from}
 use Rattle.shell_turns.specs.Turns.{Leaves, turns}
 use Rattle.shell_turns.specs.declared.ends.ObeyEnd.{ObeyEnd}
-use Rattle.shell_turns.proofs.PutLemmas.{gives, puts_as}
+use Rattle.shell_turns.specs.declared.ends.ObeyEnd.TheVariants as ends
+use Rattle.shell_turns.proofs.PutLemmas.{gives, puts_as, puts_not_begun, puts_nothing}
 use Rattle.shell_run.specs.Lines.{refusal_line, turns_line}
 use Rattle.shell_run.specs.Replies.{CutAs, IsCut, IsCutInCount, Reply, breaking, reply_if, clearing, is_kept, reply_to, running, silent, telling, with_break}
 use Rattle.shell_run.specs.Session.{SessionState, ending, is_hart, is_place, is_range}
+
+-- ---- commands that make no turn
+
+-- what only tells leaves the session as it was
+pub stays_checked : {S T : Type 0} (s : SessionState S T) (test : Bool) (pieces : List Piece) → s ≡ (reply_if s test (telling s pieces)).after
+stays_checked s true pieces = refl
+stays_checked s false pieces = refl
+
+module _ {S T : Type 0} (eq : T → T → Bool) (m : PolicyModel T S) (s : SessionState S T) (old new : Option (List ℕ)) where
+  -- cut short, it stands as it did
+  pub cut_unmoved : (t : SessionState S T) (told : Result (Unit {0}) ObeyEnd) → IfErr told (λ end. t ≡ s) → IfErr told (λ end. IsCut eq m s None t old new end)
+  cut_unmoved t (Ok x) same = tt
+  cut_unmoved t (Err end) same = record {
+    start = ap (λ (u : SessionState S T). u.start) same;
+    breaks = ap (λ (u : SessionState S T). u.breaks) same;
+    ended = ap (λ (u : SessionState S T). u.ended) same;
+    cut = (ap (λ (u : SessionState S T). u.standing) same, ap (λ (u : SessionState S T). u.feed) same);
+  }
+
+  pub cut_still : (told : Result (Unit {0}) ObeyEnd) → IfErr told (λ end. IsCut eq m s None s old new end)
+  cut_still (Ok x) = tt
+  cut_still (Err end) = record { start = refl; breaks = refl; ended = refl; cut = (refl, refl) }
+
+-- whatever the answer, nothing was put, and only memory ran out
+pub puts_none_told : (old : Option (List ℕ)) (told : Result (Unit {0}) ObeyEnd) → PutsOut old old [] told
+puts_none_told old (Ok x) = puts_nothing old x
+puts_none_told old (Err end) = puts_not_begun (Unit {0}) old [] end
+
+pub no_fault_told : (faults : ℕ) (told : Result (Unit {0}) ObeyEnd) → IfErr told (λ end. end ≡ ends.Memory) → ObeyCause faults faults told
+no_fault_told faults (Ok x) memory = refl
+no_fault_told faults (Err ends.Memory) memory = refl
+no_fault_told faults (Err ends.WriteFault) memory = absurd cc
 
 -- ---- turns that are cut short
 

@@ -73,7 +73,7 @@ impl<L: Loader> Session<L> {
     }
 
     /// Obeys a command, in a session that goes on.
-    #[tactic(auto, unfolding(crate::specs::Replies::reply_to), using(shell_turns::proofs::PutLemmas::puts_nothing, shell_turns::proofs::PutLemmas::puts_not_begun))]
+    #[tactic(auto, unfolding(crate::specs::Replies::reply_to), using(shell_turns::proofs::PutLemmas::puts_nothing))]
     fn answer<K: Sink>(&mut self, command: &Command, out: &mut K) -> Result<(), ObeyEnd>
         ensures after { OnOk result (self.new
             ≡ (reply_to L.E.P.Tag.eq L.E.P.model self.old command.now).after) }
