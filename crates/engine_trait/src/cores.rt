@@ -11,12 +11,13 @@ ghost use Rattle.engine_trait.specs.Standing.{IsFailure};
 ghost use Rattle.engine_trait.specs.Turn.{carried_at, core_effected, core_served, end_of, rule_inputs, violation};
 
 use crate::ends::TurnEnd;
-use policy_trait::{Answer, Args, Ins, Outs, Refused};
+use policy_trait::{Answer, Args, Ins, InsAt, Outs, Refused};
 use rv_step::Fault;
 use std::marker::Model;
 use tag_memory::{Hart, Ram};
 use turn_steps::{
-    Done, Feed, Look, Stop, answer_to, arguments_of, carry_out, inputs_of, look_ahead, write_words,
+    Done, Feed, Look, Stop, answer_to, arguments_of, carry_out, inputs_at, inputs_of, look_ahead,
+    write_words,
 };
 
 /// The most harts of a machine.
@@ -120,6 +121,17 @@ impl<T: Copy> Core<T> {
         ensures { result ≡ rule_inputs self.now h look.now }
     {
         inputs_of(&self.harts[h as usize], &self.ram, look)
+    }
+
+    /// Where the five tags of `inputs` stand.
+    #[inline(always)]
+    pub fn inputs_at(&self, h: u32, look: &Look) -> InsAt<'_, T>
+        requires hart { h < length self.now.harts }
+        requires within { (hart_at self.now h).pc + 4 ≤ ram_bytes self.now.ram }
+        requires safe { IsSound (ram_bytes self.now.ram) look.now.effect }
+        ensures { result ≡ rule_inputs self.now h look.now }
+    {
+        inputs_at(&self.harts[h as usize], &self.ram, look)
     }
 
     /// Carries out an instruction that the checks and the rule allowed.

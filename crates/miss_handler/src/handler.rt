@@ -98,6 +98,11 @@ pub fn ask<T: TagTable, C: RuleStore, R: Rules<Tag = T::Tag>>(
     if let Some(outs) = store.find(&key) {
         return Ok(outs);
     }
+    // A key of its own, or the one looked up would need a place in memory where it is kept too.
+    let key = Key {
+        group: key.group,
+        words: key.words,
+    };
     missed(tags, store, rules, key)
 }
 

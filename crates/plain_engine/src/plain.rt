@@ -105,7 +105,7 @@ impl<P: Policy> Plain<P> {
         Ok(look)
     }
 
-    /// The answer of the rule, which is asked with the tags as they stand.
+    /// The answer of the rule, which reads the tags where they stand.
     #[inline(always)]
     #[tactic(auto, unfolding(engine_trait::specs::Turn::rule_answer))]
     fn ask(&self, h: u32, look: &Look) -> Result<Outs<P::Tag>, Stop>
@@ -115,7 +115,10 @@ impl<P: Policy> Plain<P> {
         requires sound { IsSound (ram_bytes self.now.machine.core.ram) look.now.effect }
         ensures { result ≡ rule_answer P.model self.now.machine h look.now }
     {
-        match self.policy.rule(look.group, self.core.inputs(h, look)) {
+        match self
+            .policy
+            .rule_at(look.group, &self.core.inputs_at(h, look))
+        {
             Ok(outs) => Ok(outs),
             Err(refused) => Err(self.core.violation(h, refused)),
         }
@@ -229,8 +232,7 @@ impl<P: Policy> Plain<P> {
         if self.policy.commit(&job.plan).is_err() {
             return self.give_up();
         }
-        self.core
-            .serve(h, &job.words, job.plan.answer, look.effect.next, outs.pc);
+        self.core.serve(h, &job.words, job.plan.answer, look.effect.next(), outs.pc);
         self.count_asked();
         TurnEnd::Ran(None)
     }

@@ -11,15 +11,15 @@ ghost use Rattle.policy_choice.specs.Flat.{parts_of};
 use crate::basis::Basis;
 use crate::parts::{ignored_by_both, lend_to_others, show_before, word_tag};
 use crate::tag::{
-    AllTag, Comps, Flows, Heaps, Seals, comp_among, comp_plan, flow_among, flow_plan, heap_among,
-    heap_plan, seal_among, seal_plan,
+    AllTag, Comps, Flows, Heaps, Seals, comp_among, comp_inputs, comp_plan, flow_among,
+    flow_inputs, flow_plan, heap_among, heap_inputs, heap_plan, seal_among, seal_inputs, seal_plan,
 };
 use compartment_policy::Compartments;
 use flow_policy::Flow;
 use heap_policy::Heap;
 use image_format::{Edge, Image};
 use policy_product::Maybe;
-use policy_trait::{Args, Birth, Ins, Mask, Outs, Part, Plan, PlanEnd, Policy, Refused};
+use policy_trait::{Args, Birth, Ins, InsAt, Mask, Outs, Part, Plan, PlanEnd, Policy, Refused};
 use pump_words::Line;
 use rv_decode::Group;
 use sealing_policy::Sealing;
@@ -195,10 +195,20 @@ impl Policy for Together<AllTag> {
     fn rule(&self, group: Group, inputs: Ins<AllTag>) -> Result<Outs<AllTag>, Refused>
         ensures { result ≡ all.rule self.now group inputs }
     {
-        let seal = self.seal.rule(group, inputs.map(&Seals))?;
-        let comp = self.comp.rule(group, inputs.map(&Comps))?;
-        let flow = self.flow.rule(group, inputs.map(&Flows))?;
-        let heap = self.heap.rule(group, inputs.map(&Heaps))?;
+        self.rule_at(
+            group,
+            &InsAt::new(&inputs.pc, &inputs.ci, &inputs.t1, &inputs.t2, &inputs.tm),
+        )
+    }
+
+    #[inline(always)]
+    fn rule_at(&self, group: Group, inputs: &InsAt<'_, AllTag>) -> Result<Outs<AllTag>, Refused>
+        ensures { result ≡ all.rule self.now group inputs.now }
+    {
+        let seal = self.seal.rule(group, seal_inputs(inputs))?;
+        let comp = self.comp.rule(group, comp_inputs(inputs))?;
+        let flow = self.flow.rule(group, flow_inputs(inputs))?;
+        let heap = self.heap.rule(group, heap_inputs(inputs))?;
         Ok(Outs {
             pc: AllTag {
                 seal: seal.pc,

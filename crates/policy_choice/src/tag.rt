@@ -1,14 +1,14 @@
 //! The tags of all policies together.
 
 ghost use Rattle.std.specs.Prelude.{◌≡◌};
-ghost use Rattle.policy_trait.specs.Maps.{plan_by};
+ghost use Rattle.policy_trait.specs.Maps.{ins_by, plan_by};
 ghost use Rattle.policy_choice.specs.Flat.{parts_of, plan_among};
 
 use compartment_policy::CompartmentTag;
 use flow_policy::FlowTag;
 use heap_policy::HeapTag;
 use policy_product::rest_of;
-use policy_trait::{Answer, Plan, TagMap};
+use policy_trait::{Answer, Ins, InsAt, Plan, TagMap};
 use pump_words::Same;
 use sealing_policy::SealTag;
 use std::marker::Model;
@@ -80,6 +80,21 @@ impl TagMap for Seals {
     }
 }
 
+/// The component of sealing in each of the tags that stand there.
+#[inline(always)]
+pub(crate) fn seal_inputs(inputs: &InsAt<'_, AllTag>) -> Ins<Option<SealTag>>
+    ensures { result ≡ ins_by (λ tag. tag.0) inputs.now }
+{
+    let InsAt { pc, ci, t1, t2, tm } = inputs;
+    Ins {
+        pc: pc.seal,
+        ci: ci.seal,
+        t1: t1.seal,
+        t2: t2.seal,
+        tm: tm.seal,
+    }
+}
+
 /// The plan with the components of sealing.
 pub(crate) fn seal_plan(plan: &Plan<AllTag>) -> Plan<Option<SealTag>>
     ensures { result ≡ plan_by (λ tag. tag.0) plan.now }
@@ -132,6 +147,21 @@ impl TagMap for Comps {
 
     fn image(&self, tag: AllTag) -> Option<CompartmentTag> {
         tag.comp
+    }
+}
+
+/// The component of compartments in each of the tags that stand there.
+#[inline(always)]
+pub(crate) fn comp_inputs(inputs: &InsAt<'_, AllTag>) -> Ins<Option<CompartmentTag>>
+    ensures { result ≡ ins_by (λ tag. tag.1.0) inputs.now }
+{
+    let InsAt { pc, ci, t1, t2, tm } = inputs;
+    Ins {
+        pc: pc.comp,
+        ci: ci.comp,
+        t1: t1.comp,
+        t2: t2.comp,
+        tm: tm.comp,
     }
 }
 
@@ -190,6 +220,21 @@ impl TagMap for Flows {
     }
 }
 
+/// The component of control flow in each of the tags that stand there.
+#[inline(always)]
+pub(crate) fn flow_inputs(inputs: &InsAt<'_, AllTag>) -> Ins<Option<FlowTag>>
+    ensures { result ≡ ins_by (λ tag. tag.1.1.0) inputs.now }
+{
+    let InsAt { pc, ci, t1, t2, tm } = inputs;
+    Ins {
+        pc: pc.flow,
+        ci: ci.flow,
+        t1: t1.flow,
+        t2: t2.flow,
+        tm: tm.flow,
+    }
+}
+
 /// The plan with the components of control flow.
 pub(crate) fn flow_plan(plan: &Plan<AllTag>) -> Plan<Option<FlowTag>>
     ensures { result ≡ plan_by (λ tag. tag.1.1.0) plan.now }
@@ -242,6 +287,21 @@ impl TagMap for Heaps {
 
     fn image(&self, tag: AllTag) -> Option<HeapTag> {
         tag.heap
+    }
+}
+
+/// The component of heap safety in each of the tags that stand there.
+#[inline(always)]
+pub(crate) fn heap_inputs(inputs: &InsAt<'_, AllTag>) -> Ins<Option<HeapTag>>
+    ensures { result ≡ ins_by (λ tag. tag.1.1.1) inputs.now }
+{
+    let InsAt { pc, ci, t1, t2, tm } = inputs;
+    Ins {
+        pc: pc.heap,
+        ci: ci.heap,
+        t1: t1.heap,
+        t2: t2.heap,
+        tm: tm.heap,
     }
 }
 

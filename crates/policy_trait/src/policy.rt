@@ -4,7 +4,7 @@ ghost use Rattle.std.specs.Prelude.{◌≡◌, ◌+◌, ◌≤◌, ◌++◌, ℕ
 ghost use Rattle.arrayvec.specs.ArrayVec.{array_vec_len};
 
 use crate::birth::Birth;
-use crate::rules::{Ins, Mask, Outs, Part, Refused};
+use crate::rules::{Ins, InsAt, Mask, Outs, Part, Refused};
 use crate::services::{Args, Plan, PlanEnd};
 use pump_words::{Line, Same};
 use rv_decode::Group;
@@ -33,6 +33,18 @@ pub trait Policy: Drop {
     /// The rule of a group at five tags: the next tags of the pc and of the result, or the refusal.
     fn rule(&self, group: Group, inputs: Ins<Self::Tag>) -> Result<Outs<Self::Tag>, Refused>
         ensures { result ≡ model.rule self.now group inputs };
+
+    /// The rule of a group at five tags that are read where they stand: the same answer as `rule`.
+    #[inline(always)]
+    fn rule_at(
+        &self,
+        group: Group,
+        inputs: &InsAt<'_, Self::Tag>,
+    ) -> Result<Outs<Self::Tag>, Refused>
+        ensures { result ≡ model.rule self.now group inputs.now }
+    {
+        self.rule(group, inputs.read())
+    }
 
     /// Which inputs the rule of a group ignores.
     fn ignores(&self, group: Group) -> Mask

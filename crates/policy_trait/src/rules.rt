@@ -1,6 +1,9 @@
 //! What a rule is asked with, what it gives, and why a policy refuses.
 
+ghost use Rattle.std.specs.Prelude.{◌≡◌};
+
 use rv_decode::Group;
+use std::marker::Model;
 
 /// The tags that a rule is asked with: of the pc, of the instruction's word, of the two operands, and of the memory
 /// word. An operand that the instruction does not have is the policy's plain tag.
@@ -16,6 +19,64 @@ pub struct Ins<T> {
     pub t2: T,
     /// The tag of the memory word that holds the access.
     pub tm: T,
+}
+
+/// Where the five tags stand that a rule is asked with: who is asked reads no more of each than its rule looks at. Contracts see
+/// it as the `Ins` of these tags.
+#[derive(Drop)]
+pub struct InsAt<'a, T> {
+    /// Where the tag of the pc stands; the others likewise.
+    pub pc: &'a T,
+    pub ci: &'a T,
+    pub t1: &'a T,
+    pub t2: &'a T,
+    pub tm: &'a T,
+}
+
+impl<'a, T> Model for InsAt<'a, T> {
+    ghost use Rattle.policy_trait.specs.declared.rules.Ins.{Ins};
+
+    ghost Value = { Ins T };
+
+    ghost view = { λ a. record {
+      pc = a.pc.now;
+      ci = a.ci.now;
+      t1 = a.t1.now;
+      t2 = a.t2.now;
+      tm = a.tm.now;
+    } };
+}
+
+impl<'a, T> InsAt<'a, T> {
+    /// The inputs whose tags stand there.
+    #[inline(always)]
+    pub fn new(pc: &'a T, ci: &'a T, t1: &'a T, t2: &'a T, tm: &'a T) -> InsAt<'a, T>
+        ensures { result ≡ record {
+          pc = pc.now;
+          ci = ci.now;
+          t1 = t1.now;
+          t2 = t2.now;
+          tm = tm.now;
+        } }
+    {
+        InsAt { pc, ci, t1, t2, tm }
+    }
+}
+
+impl<'a, T: Copy> InsAt<'a, T> {
+    /// The tags that stand there.
+    #[inline(always)]
+    pub fn read(&self) -> Ins<T>
+        ensures { result ≡ self.now }
+    {
+        Ins {
+            pc: *self.pc,
+            ci: *self.ci,
+            t1: *self.t1,
+            t2: *self.t2,
+            tm: *self.tm,
+        }
+    }
 }
 
 /// The tags that an allowed rule gives.

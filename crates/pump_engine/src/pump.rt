@@ -229,9 +229,8 @@ impl<P: Policy, T: TagTable<Tag = P::Tag>, C: RuleStore> Pump<P, T, C> {
         ensures harts { length self.new.core.harts ≡ length self.old.core.harts }
         ensures bytes { ram_bytes self.new.core.ram ≡ ram_bytes self.old.core.ram }
     {
-        let end = self.core.effect(h, feed, look, outs);
         self.turns = self.turns.saturating_add(1);
-        end
+        self.core.effect(h, feed, look, outs)
     }
 
     /// What the words of the table stand for.
@@ -358,7 +357,13 @@ impl<P: Policy, T: TagTable<Tag = P::Tag>, C: RuleStore> Pump<P, T, C> {
             self.tags.cut(len);
             return self.give_up();
         }
-        self.core.serve(h, &written.words, written.answer, look.effect.next, outs.pc);
+        self.core.serve(
+            h,
+            &written.words,
+            written.answer,
+            look.effect.next(),
+            outs.pc,
+        );
         self.turns = self.turns.saturating_add(1);
         TurnEnd::Ran(None)
     }
@@ -457,7 +462,7 @@ impl<P: Policy, T: TagTable<Tag = P::Tag>, C: RuleStore> Engine for Pump<P, T, C
             Err(end) => return self.end_unanswered(h, end),
         };
         if is_call(look.group) {
-            return self.service(h, &look, outs);
+            return self.service(h, &look.again(), outs);
         }
         self.effect(h, feed, &look, outs)
     }

@@ -1,6 +1,6 @@
 //! What a turn shows.
 
-ghost use Rattle.std.specs.Prelude.{◌≡◌, ◌≢◌, ◌<◌, true, Err, OnErr, OnOk, Some, length};
+ghost use Rattle.std.specs.Prelude.{◌≡◌, ◌≢◌, ◌<◌, [], ◌∷◌, true, Err, OnErr, OnOk, Some, length};
 ghost use Rattle.host_io.specs.Causes.{PutCause};
 ghost use Rattle.host_io.specs.Prefixes.{TakesAll, TakesPrefix};
 ghost use Rattle.host_io.specs.Pieces.{Puts, PutsFirst};
@@ -39,13 +39,25 @@ pub(crate) fn tell<E: Engine, K: Sink, L: Sink>(
         (record { out = K.faults out.new; err = L.faults err.new }) result }
 {
     match end {
-        TurnEnd::Ran(Some(byte)) => out.put(&[byte]),
+        TurnEnd::Ran(Some(byte)) => put_byte(byte, out),
         TurnEnd::Stopped(_) => match engine.stop(h) {
             Some(why) => put_stop(h, why, err),
             None => Ok(()),
         },
         _ => Ok(()),
     }
+}
+
+/// Puts a byte. It stays a call, since few turns put one, and its place in memory would be cleared at every turn.
+#[inline(never)]
+fn put_byte<K: Sink>(byte: u8, sink: &mut K) -> Result<(), PutEnd>
+    ensures ok { OnOk result (TakesAll (K.taken sink.old) (K.taken sink.new) (byte ∷ [])) }
+    ensures failed { result ≡ Err PutEnd.Failed
+        → TakesPrefix (K.taken sink.old) (K.taken sink.new) (byte ∷ []) }
+    ensures memory { result ≡ Err PutEnd.Memory → K.taken sink.new ≡ K.taken sink.old }
+    ensures cause { PutCause (K.faults sink.old) (K.faults sink.new) result }
+{
+    sink.put(&[byte])
 }
 
 /// Puts the line of the stop of hart `h` on a sink. It stays a call, since few turns stop a hart, and the room of the line

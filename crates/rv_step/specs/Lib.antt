@@ -1,4 +1,5 @@
 pub mod Accesses
+pub mod Actions
 pub mod CheckLaws
 pub mod Checks
 pub mod Effects

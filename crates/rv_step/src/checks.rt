@@ -6,6 +6,7 @@ ghost use Rattle.rv_step.specs.Accesses.{bytes_of};
 ghost use Rattle.rv_step.specs.Checks.{access_fault, jump_fault, first_fault, GoesOnToWord, IsSafe};
 
 use crate::accesses::{Access, Width};
+use crate::actions::Action;
 use crate::effects::Effect;
 use crate::faults::Fault;
 
@@ -24,7 +25,7 @@ pub fn check(effect: &Effect, ram: u32) -> Result<(), Fault>
 }
 
 #[inline(always)]
-fn check_access(access: Access, ram: u32) -> Result<(), Fault>
+pub(crate) fn check_access(access: Access, ram: u32) -> Result<(), Fault>
     ensures { result_err result ≡ access_fault access ram }
 {
     match access {
@@ -64,6 +65,19 @@ fn check_jump(effect: &Effect) -> Result<(), Fault>
 {
     if effect.taken && effect.next % 4 != 0 {
         return Err(Fault::JumpAlign(effect.next));
+    }
+    Ok(())
+}
+
+// The fault of the jump of an effect that goes on to a word where it doesn't jump.
+#[inline(always)]
+pub(crate) fn check_next(action: &Action) -> Result<(), Fault>
+    requires { GoesOnToWord action.now }
+    ensures { result_err result ≡ jump_fault action.now }
+{
+    let next = action.next();
+    if next % 4 != 0 {
+        return Err(Fault::JumpAlign(next));
     }
     Ok(())
 }

@@ -1,10 +1,10 @@
 //! The effect of each instruction.
 
-ghost use Rattle.std.specs.Prelude.{◌≡◌, ◌%◌, Bool};
+ghost use Rattle.std.specs.Prelude.{◌≡◌, ◌%◌};
 ghost use Rattle.rv_step.specs.Checks.{GoesOnToWord};
-ghost use Rattle.rv_step.specs.Effects.{effect_of, passes, computes, jumps, branches, loads, stores};
+ghost use Rattle.rv_step.specs.Effects.{effect_of};
 
-use crate::accesses::{Access, Width};
+use crate::actions::{Action, Use};
 use crate::effects::Effect;
 use pump_words::{lt_signed, sra};
 use rv_decode::Instr;
@@ -13,128 +13,67 @@ use rv_decode::Instr;
 /// written.
 ///
 /// Sums wrap modulo 2^32. An ECALL only goes on here: what its service does is the machine's.
-#[inline(always)]
 pub fn exec(instr: &Instr, pc: u32, a: u32, b: u32) -> Effect
     ensures value { result ≡ effect_of instr.now pc a b }
     ensures onward { pc % 4 ≡ 0 → GoesOnToWord result }
 {
+    act(instr, pc, a, b).effect()
+}
+
+/// The same effect in the form that a turn carries.
+#[inline(always)]
+pub fn act(instr: &Instr, pc: u32, a: u32, b: u32) -> Action
+    ensures value { result ≡ effect_of instr.now pc a b }
+    ensures onward { pc % 4 ≡ 0 → GoesOnToWord result }
+{
+    let mut action = Action::passing(pc);
     match *instr {
-        Instr::Lui { imm, .. } => compute(pc, imm.word()),
-        Instr::Auipc { imm, .. } => compute(pc, pc.wrapping_add(imm.word())),
-        Instr::Jal { imm, .. } => jump(pc, pc.wrapping_add(imm.word())),
-        Instr::Jalr { imm, .. } => jump(pc, a.wrapping_add(imm.word()) & !1),
-        Instr::Beq { imm, .. } => branch(pc, imm.word(), a == b),
-        Instr::Bne { imm, .. } => branch(pc, imm.word(), a != b),
-        Instr::Blt { imm, .. } => branch(pc, imm.word(), lt_signed(a, b)),
-        Instr::Bge { imm, .. } => branch(pc, imm.word(), !lt_signed(a, b)),
-        Instr::Bltu { imm, .. } => branch(pc, imm.word(), a < b),
-        Instr::Bgeu { imm, .. } => branch(pc, imm.word(), a >= b),
-        Instr::Lb { imm, .. } => load(pc, a.wrapping_add(imm.word()), Width::Byte, true),
-        Instr::Lh { imm, .. } => load(pc, a.wrapping_add(imm.word()), Width::Half, true),
-        Instr::Lw { imm, .. } => load(pc, a.wrapping_add(imm.word()), Width::Full, false),
-        Instr::Lbu { imm, .. } => load(pc, a.wrapping_add(imm.word()), Width::Byte, false),
-        Instr::Lhu { imm, .. } => load(pc, a.wrapping_add(imm.word()), Width::Half, false),
-        Instr::Sb { imm, .. } => store(pc, a.wrapping_add(imm.word()), Width::Byte, b),
-        Instr::Sh { imm, .. } => store(pc, a.wrapping_add(imm.word()), Width::Half, b),
-        Instr::Sw { imm, .. } => store(pc, a.wrapping_add(imm.word()), Width::Full, b),
-        Instr::Addi { imm, .. } => compute(pc, a.wrapping_add(imm.word())),
-        Instr::Slti { imm, .. } => compute(pc, u32::from(lt_signed(a, imm.word()))),
-        Instr::Sltiu { imm, .. } => compute(pc, u32::from(a < imm.word())),
-        Instr::Xori { imm, .. } => compute(pc, a ^ imm.word()),
-        Instr::Ori { imm, .. } => compute(pc, a | imm.word()),
-        Instr::Andi { imm, .. } => compute(pc, a & imm.word()),
-        Instr::Slli { imm, .. } => compute(pc, a << imm.count()),
-        Instr::Srli { imm, .. } => compute(pc, a >> imm.count()),
-        Instr::Srai { imm, .. } => compute(pc, sra(a, imm.count())),
-        Instr::Add { .. } => compute(pc, a.wrapping_add(b)),
-        Instr::Sub { .. } => compute(pc, a.wrapping_sub(b)),
-        Instr::Sll { .. } => compute(pc, a << (b % 32)),
-        Instr::Slt { .. } => compute(pc, u32::from(lt_signed(a, b))),
-        Instr::Sltu { .. } => compute(pc, u32::from(a < b)),
-        Instr::Xor { .. } => compute(pc, a ^ b),
-        Instr::Srl { .. } => compute(pc, a >> (b % 32)),
-        Instr::Sra { .. } => compute(pc, sra(a, b)),
-        Instr::Or { .. } => compute(pc, a | b),
-        Instr::And { .. } => compute(pc, a & b),
-        Instr::Fence { .. } | Instr::Ecall | Instr::Ebreak => pass(pc),
+        Instr::Lui { imm, .. } => action.compute(imm.word()),
+        Instr::Auipc { imm, .. } => action.compute(pc.wrapping_add(imm.word())),
+        Instr::Jal { imm, .. } => action.jump_to(pc, pc.wrapping_add(imm.word())),
+        Instr::Jalr { imm, .. } => action.jump_to(pc, a.wrapping_add(imm.word()) & !1),
+        Instr::Beq { imm, .. } => action.branch(pc.wrapping_add(imm.word()), a == b),
+        Instr::Bne { imm, .. } => action.branch(pc.wrapping_add(imm.word()), a != b),
+        Instr::Blt { imm, .. } => action.branch(pc.wrapping_add(imm.word()), lt_signed(a, b)),
+        Instr::Bge { imm, .. } => action.branch(pc.wrapping_add(imm.word()), !lt_signed(a, b)),
+        Instr::Bltu { imm, .. } => action.branch(pc.wrapping_add(imm.word()), a < b),
+        Instr::Bgeu { imm, .. } => action.branch(pc.wrapping_add(imm.word()), a >= b),
+        Instr::Lb { imm, .. } => action.touch(Use::LoadByte, a.wrapping_add(imm.word()), 0),
+        Instr::Lh { imm, .. } => action.touch(Use::LoadHalf, a.wrapping_add(imm.word()), 0),
+        Instr::Lw { imm, .. } => action.touch(Use::LoadWord, a.wrapping_add(imm.word()), 0),
+        Instr::Lbu { imm, .. } => action.touch(
+            Use::LoadByteUnsigned,
+            a.wrapping_add(imm.word()),
+            0,
+        ),
+        Instr::Lhu { imm, .. } => action.touch(
+            Use::LoadHalfUnsigned,
+            a.wrapping_add(imm.word()),
+            0,
+        ),
+        Instr::Sb { imm, .. } => action.touch(Use::StoreByte, a.wrapping_add(imm.word()), b),
+        Instr::Sh { imm, .. } => action.touch(Use::StoreHalf, a.wrapping_add(imm.word()), b),
+        Instr::Sw { imm, .. } => action.touch(Use::StoreWord, a.wrapping_add(imm.word()), b),
+        Instr::Addi { imm, .. } => action.compute(a.wrapping_add(imm.word())),
+        Instr::Slti { imm, .. } => action.compute(u32::from(lt_signed(a, imm.word()))),
+        Instr::Sltiu { imm, .. } => action.compute(u32::from(a < imm.word())),
+        Instr::Xori { imm, .. } => action.compute(a ^ imm.word()),
+        Instr::Ori { imm, .. } => action.compute(a | imm.word()),
+        Instr::Andi { imm, .. } => action.compute(a & imm.word()),
+        Instr::Slli { imm, .. } => action.compute(a << imm.count()),
+        Instr::Srli { imm, .. } => action.compute(a >> imm.count()),
+        Instr::Srai { imm, .. } => action.compute(sra(a, imm.count())),
+        Instr::Add { .. } => action.compute(a.wrapping_add(b)),
+        Instr::Sub { .. } => action.compute(a.wrapping_sub(b)),
+        Instr::Sll { .. } => action.compute(a << (b % 32)),
+        Instr::Slt { .. } => action.compute(u32::from(lt_signed(a, b))),
+        Instr::Sltu { .. } => action.compute(u32::from(a < b)),
+        Instr::Xor { .. } => action.compute(a ^ b),
+        Instr::Srl { .. } => action.compute(a >> (b % 32)),
+        Instr::Sra { .. } => action.compute(sra(a, b)),
+        Instr::Or { .. } => action.compute(a | b),
+        Instr::And { .. } => action.compute(a & b),
+        Instr::Fence { .. } | Instr::Ecall | Instr::Ebreak => {}
     }
-}
-
-// Effects of each kind. They have hints alone: were they always inlined, in some forty cases, what looks ahead, and an engine's turn
-// with it, would be too large for the compiler to inline, and that costs a turn much more.
-
-// The effect of going on to the next instruction, and nothing else.
-#[inline]
-fn pass(pc: u32) -> Effect
-    ensures { result ≡ passes pc }
-{
-    Effect {
-        next: pc.wrapping_add(4),
-        value: None,
-        access: Access::None,
-        taken: false,
-    }
-}
-
-#[inline]
-fn compute(pc: u32, value: u32) -> Effect
-    ensures { result ≡ computes pc value }
-{
-    Effect {
-        value: Some(value),
-        ..pass(pc)
-    }
-}
-
-#[inline]
-fn jump(pc: u32, target: u32) -> Effect
-    ensures { result ≡ jumps pc target }
-{
-    Effect {
-        next: target,
-        value: Some(pc.wrapping_add(4)),
-        access: Access::None,
-        taken: true,
-    }
-}
-
-#[inline]
-fn branch(pc: u32, offset: u32, taken: bool) -> Effect
-    ensures { result ≡ branches pc offset taken }
-{
-    let next = if taken {
-        pc.wrapping_add(offset)
-    } else {
-        pc.wrapping_add(4)
-    };
-    Effect {
-        next,
-        value: None,
-        access: Access::None,
-        taken,
-    }
-}
-
-#[inline]
-fn load(pc: u32, addr: u32, width: Width, signed: bool) -> Effect
-    ensures { result ≡ loads pc addr width signed }
-{
-    Effect {
-        access: Access::Load {
-            addr,
-            width,
-            signed,
-        },
-        ..pass(pc)
-    }
-}
-
-#[inline]
-fn store(pc: u32, addr: u32, width: Width, value: u32) -> Effect
-    ensures { result ≡ stores pc addr width value }
-{
-    Effect {
-        access: Access::Store { addr, width, value },
-        ..pass(pc)
-    }
+    action
 }

@@ -2,13 +2,15 @@
 #![tactic(auto)]
 
 mod accesses;
+mod actions;
 mod checks;
 mod effects;
 mod executing;
 mod faults;
 
 pub use accesses::{Access, Width, loaded, stored};
+pub use actions::Action;
 pub use checks::check;
 pub use effects::Effect;
-pub use executing::exec;
+pub use executing::{act, exec};
 pub use faults::Fault;

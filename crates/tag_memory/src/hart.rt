@@ -71,6 +71,15 @@ impl<T: Copy> Hart<T> {
         self.tags[r as usize]
     }
 
+    /// Where the tag of register `r` stands, which is plain for x0.
+    #[inline(always)]
+    pub fn reg_tag_at(&self, r: u32) -> &T
+        requires { r < 32 }
+        ensures { result.now ≡ reg_tag self.now r }
+    {
+        &self.tags[r as usize]
+    }
+
     /// Writes the tag of register `r`; a write to x0 is dropped. Its value and every other tag stay.
     pub fn set_reg_tag(&mut self, r: u32, tag: T)
         requires { r < 32 }
@@ -88,6 +97,14 @@ impl<T: Copy> Hart<T> {
         self.plain
     }
 
+    /// Where the plain tag stands.
+    #[inline(always)]
+    pub fn plain_at(&self) -> &T
+        ensures { result.now ≡ self.now.plain }
+    {
+        &self.plain
+    }
+
     /// The address of the next instruction, a multiple of 4.
     pub fn pc(&self) -> u32
         ensures pc { result ≡ self.now.pc }
@@ -101,6 +118,14 @@ impl<T: Copy> Hart<T> {
         ensures { result ≡ self.now.pc_tag }
     {
         self.pc_tag
+    }
+
+    /// Where the tag of the pc stands.
+    #[inline(always)]
+    pub fn pc_tag_at(&self) -> &T
+        ensures { result.now ≡ self.now.pc_tag }
+    {
+        &self.pc_tag
     }
 
     /// Writes the pc and its tag. The registers stay.

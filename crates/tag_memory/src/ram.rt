@@ -86,6 +86,16 @@ impl<T: Copy> Ram<T> {
         self.tags[(address / 4) as usize]
     }
 
+    /// Where the tag of the word at `address` stands.
+    #[inline(always)]
+    pub fn tag_at(&self, address: u32) -> &T
+        requires aligned { address % 4 ≡ 0 }
+        requires within { address + 4 ≤ ram_bytes self.now }
+        ensures { result.now ≡ ram_tag self.now address }
+    {
+        &self.tags[(address / 4) as usize]
+    }
+
     /// Writes the tag of the word at `address`. The word and every other tag stay.
     pub fn set_tag(&mut self, address: u32, tag: T)
         requires aligned { address % 4 ≡ 0 }

@@ -14,7 +14,7 @@ use crate::look::Look;
 use crate::registers::{reg, set_reg};
 use policy_trait::Outs;
 use rv_decode::{Group, Register};
-use rv_step::{Access, loaded, stored};
+use rv_step::{Access, Action, loaded, stored};
 use tag_memory::{Hart, Ram};
 
 /// How an allowed instruction ended.
@@ -65,7 +65,7 @@ pub fn carry_out<T: Copy>(
         }
         _ => {
             step(hart, ram, look, outs);
-            store(ram, look.effect.access, outs.result);
+            store(ram, look.effect.access(), outs.result);
             Done::Stepped(None)
         }
     }
@@ -77,24 +77,27 @@ fn step<T: Copy>(hart: &mut Hart<T>, ram: &Ram<T>, look: &Look, outs: Outs<T>)
     requires { IsSound (ram_bytes ram.now) look.now.effect }
     ensures { hart.new ≡ hart_after hart.old ram.now look.now outs }
 {
-    let value = value_of(ram, look.effect.value, look.effect.access);
+    let value = value_of(ram, &look.effect);
     set_reg(hart, look.places.result, value, outs.result);
     go_on(hart, look, outs);
 }
 
 /// What goes into the result's register.
 #[inline(always)]
-fn value_of<T: Copy>(ram: &Ram<T>, value: Option<u32>, access: Access) -> u32
-    requires { EndsWithin (ram_bytes ram.now) access }
-    ensures { result ≡ result_value ram.now value access }
+fn value_of<T: Copy>(ram: &Ram<T>, effect: &Action) -> u32
+    requires { EndsWithin (ram_bytes ram.now) effect.now.access }
+    ensures { result ≡ result_value ram.now effect.now.value effect.now.access }
 {
-    match access {
+    if !effect.has_access() {
+        return effect.value();
+    }
+    match effect.access() {
         Access::Load {
             addr,
             width,
             signed,
         } => loaded(ram.word(addr - addr % 4), addr, width, signed),
-        _ => value.unwrap_or(0),
+        _ => effect.value(),
     }
 }
 
@@ -127,5 +130,5 @@ fn go_on<T: Copy>(hart: &mut Hart<T>, look: &Look, outs: Outs<T>)
     requires { look.now.effect.next % 4 ≡ 0 }
     ensures { hart.new ≡ moved_to hart.old look.now.effect.next outs.pc }
 {
-    hart.set_pc(look.effect.next, outs.pc);
+    hart.set_pc(look.effect.next(), outs.pc);
 }

@@ -15,6 +15,6 @@ pub use effects::{Done, carry_out};
 pub use feed::Feed;
 pub use law::{map_law, steps_law, values_law, words_law};
 pub use look::{Look, is_call};
-pub use looking::{checked, decoded, fetch, inputs_of, look_ahead};
+pub use looking::{checked, decoded, fetch, inputs_at, inputs_of, look_ahead};
 pub use services::{answer_to, arguments_of, write_words};
 pub use stop::Stop;

@@ -4,22 +4,39 @@ ghost use Rattle.std.specs.Prelude.{◌≡◌};
 ghost use Rattle.turn_steps.specs.Looks.{is_call};
 
 use rv_decode::{Group, Places};
-use rv_step::Effect;
+use rv_step::Action;
 
 /// What a hart is about to do, once the checks have passed. It has no tag: the rule is asked with those that stand at its
 /// places.
-#[derive(Clone, Copy)]
+#[derive(Drop)]
 pub struct Look {
     /// The word at the pc.
     pub word: u32,
     /// What its instruction computes, and its access.
-    pub effect: Effect,
+    pub effect: Action,
     /// The value of a7, the number of a service.
     pub service: u32,
     /// The operation group.
     pub group: Group,
     /// The registers of the operands and of the result, x0 for each that there is not.
     pub places: Places,
+}
+
+impl Look {
+    /// The same look once more. What is handed on by reference to a function that stays one needs a place in memory: where few turns
+    /// do that, they hand on a look of their own.
+    #[inline(always)]
+    pub fn again(&self) -> Look
+        ensures { result ≡ self.now }
+    {
+        Look {
+            word: self.word,
+            effect: self.effect.again(),
+            service: self.service,
+            group: self.group,
+            places: self.places,
+        }
+    }
 }
 
 /// Whether the group is that of an ECALL whose number is no service of the machine: a call of a policy's service.

@@ -9,10 +9,10 @@ ghost use Rattle.turn_steps.specs.Looks.{access_tag, effect_on, inputs_on};
 ghost use Rattle.turn_steps.specs.Looks.{checked_look, fetch_result, look_result, read_instr};
 
 use crate::look::Look;
-use crate::registers::{reg, reg_tag};
-use policy_trait::Ins;
+use crate::registers::{reg, reg_tag_at};
+use policy_trait::{Ins, InsAt};
 use rv_decode::{Instr, Places, Register, decode};
-use rv_step::{Access, Effect, Fault, check, exec};
+use rv_step::{Access, Action, Fault, act};
 use tag_memory::{Hart, Ram};
 
 /// The word at the pc. The only fault is that of the fetch, at a pc past the end of memory.
@@ -53,7 +53,7 @@ pub fn checked<T: Copy>(
     let group = instr.group(service);
     let places = instr.places(service);
     let effect = effect_of(hart, instr, &places);
-    check(&effect, ram.bytes())?;
+    effect.check(ram.bytes())?;
     Ok(Look {
         word,
         effect,
@@ -79,13 +79,13 @@ pub fn look_ahead<T: Copy>(hart: &Hart<T>, ram: &Ram<T>) -> Result<Look, Fault>
 
 /// What the instruction computes of its operands.
 #[inline(always)]
-fn effect_of<T: Copy>(hart: &Hart<T>, instr: &Instr, places: &Places) -> Effect
+fn effect_of<T: Copy>(hart: &Hart<T>, instr: &Instr, places: &Places) -> Action
     ensures value { result ≡ effect_on hart.now instr.now places.now }
     ensures onward { IsFalse result.taken → result.next % 4 ≡ 0 }
 {
     let first = reg(hart, places.first);
     let second = reg(hart, places.second);
-    exec(instr, hart.pc(), first, second)
+    act(instr, hart.pc(), first, second)
 }
 
 /// The five tags that the rule is asked with, as hart and memory stand: of the pc, of the word there, of the two operands,
@@ -96,23 +96,33 @@ pub fn inputs_of<T: Copy>(hart: &Hart<T>, ram: &Ram<T>, look: &Look) -> Ins<T>
     requires in_memory { EndsWithin (ram_bytes ram.now) look.now.effect.access }
     ensures { result ≡ inputs_on hart.now ram.now look.now.places look.now.effect.access }
 {
-    Ins {
-        pc: hart.pc_tag(),
-        ci: ram.tag(hart.pc()),
-        t1: reg_tag(hart, look.places.first),
-        t2: reg_tag(hart, look.places.second),
-        tm: memory_tag(ram, hart.plain(), look.effect.access),
-    }
+    inputs_at(hart, ram, look).read()
 }
 
-/// The tag of the memory word that holds the access, plain without one.
+/// Where the five tags of `inputs_of` stand.
 #[inline(always)]
-fn memory_tag<T: Copy>(ram: &Ram<T>, plain: T, access: Access) -> T
+pub fn inputs_at<'a, T: Copy>(hart: &'a Hart<T>, ram: &'a Ram<T>, look: &Look) -> InsAt<'a, T>
+    requires fetched { hart.now.pc + 4 ≤ ram_bytes ram.now }
+    requires in_memory { EndsWithin (ram_bytes ram.now) look.now.effect.access }
+    ensures { result ≡ inputs_on hart.now ram.now look.now.places look.now.effect.access }
+{
+    InsAt::new(
+        hart.pc_tag_at(),
+        ram.tag_at(hart.pc()),
+        reg_tag_at(hart, look.places.first),
+        reg_tag_at(hart, look.places.second),
+        memory_tag_at(ram, hart.plain_at(), look.effect.access()),
+    )
+}
+
+/// Where the tag of the memory word stands that holds the access; without an access, where the plain tag does.
+#[inline(always)]
+fn memory_tag_at<'a, T: Copy>(ram: &'a Ram<T>, plain: &'a T, access: Access) -> &'a T
     requires { EndsWithin (ram_bytes ram.now) access }
-    ensures { result ≡ access_tag ram.now plain access }
+    ensures { result.now ≡ access_tag ram.now plain.now access }
 {
     match access {
         Access::None => plain,
-        Access::Load { addr, .. } | Access::Store { addr, .. } => ram.tag(addr - addr % 4),
+        Access::Load { addr, .. } | Access::Store { addr, .. } => ram.tag_at(addr - addr % 4),
     }
 }

@@ -23,6 +23,14 @@ pub(crate) fn reg_tag<T: Copy>(hart: &Hart<T>, register: Register) -> T
     hart.reg_tag(u32::from(register.number()))
 }
 
+/// Where the tag of a register stands.
+#[inline(always)]
+pub(crate) fn reg_tag_at<T: Copy>(hart: &Hart<T>, register: Register) -> &T
+    ensures { result.now ≡ reg_tag hart.now register }
+{
+    hart.reg_tag_at(u32::from(register.number()))
+}
+
 /// Writes a register's value and tag. What is written to x0 is dropped.
 #[inline(always)]
 pub(crate) fn set_reg<T: Copy>(hart: &mut Hart<T>, register: Register, value: u32, tag: T)

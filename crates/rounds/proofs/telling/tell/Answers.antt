@@ -6,15 +6,15 @@ pub returns-in-Ran-Some-clause-puts : goal.returns-in-Ran-Some-clause-puts
 returns-in-Ran-Some-clause-puts g c =
     let some : c.in-Ran-Some.field-0 ≡ Some c.in-Ran-Some.byte = rw c.in-Ran-Some.is at c.in-Ran-Some.field-0-is in
     rw (c.in-Ran-Some.is, some)
-    (put_on_out (g.K.Sink.taken c.args.out.now) (g.K.Sink.taken c.put.new.self) (g.L.Sink.taken c.args.err.now) _ c.put.result
-    c.put.ensures.ok c.put.ensures.failed c.put.ensures.memory)
+    (put_on_out (g.K.Sink.taken c.args.out.now) (g.K.Sink.taken c.put_byte.new.sink) (g.L.Sink.taken c.args.err.now) _ c.put_byte.result
+    c.put_byte.ensures.ok c.put_byte.ensures.failed c.put_byte.ensures.memory)
 
 pub returns-in-Ran-Some-clause-whole : goal.returns-in-Ran-Some-clause-whole
 returns-in-Ran-Some-clause-whole g c =
     let some : c.in-Ran-Some.field-0 ≡ Some c.in-Ran-Some.byte = rw c.in-Ran-Some.is at c.in-Ran-Some.field-0-is in
     rw (c.in-Ran-Some.is, some)
-    (whole_on_out (g.K.Sink.taken c.args.out.now) (g.K.Sink.taken c.put.new.self) (g.L.Sink.taken c.args.err.now) _ c.put.result
-    c.put.ensures.ok c.put.ensures.memory)
+    (whole_on_out (g.K.Sink.taken c.args.out.now) (g.K.Sink.taken c.put_byte.new.sink) (g.L.Sink.taken c.args.err.now) _ c.put_byte.result
+    c.put_byte.ensures.ok c.put_byte.ensures.memory)
 
 pub returns-in-Some-clause-puts : goal.returns-in-Some-clause-puts
 returns-in-Some-clause-puts g c =

@@ -1,4 +1,4 @@
-use Rattle.std.proofs.Common.{◌≡◌, ◌<◌, ◌≤◌, ◌∙◌, false, All, length, ap, sym, subst, arith, rules}
+use Rattle.std.proofs.Common.{◌≡◌, ◌<◌, ◌%◌, ◌≤◌, ◌∙◌, false, All, length, ap, sym, subst, arith, rules}
 use Rattle.rv_decode.specs.declared.groups.Group.{Group}
 use Rattle.policy_trait.specs.Model.{IsGiven}
 use Rattle.tag_memory.specs.Ram.{IsPlace, ram_bytes}
@@ -71,7 +71,8 @@ invariant_of-self-2 g c =
     let noted =
     ok_at c.commit.result (c.commit.new.self ≡ g.P.Policy.model.commit c.self.inside.policy c.args.job.now.plan) c.is_err.result c.is_err.ensures.value c.if-is_err.false c.commit.ensures.ok in
     let core_is : c.serve.new.self ≡ core_served c.self.inside.core c.args.h c.in-Ok.written.words.items c.in-Ok.written.answer c.args.look.now.effect.next c.args.outs.pc =
-    c.serve.ensures.core ∙ ap (λ words. core_served c.self.inside.core c.args.h words c.in-Ok.written.answer c.args.look.now.effect.next c.args.outs.pc) c.deref.ensures.value in
+    c.serve.ensures.core ∙ ap (λ words. core_served c.self.inside.core c.args.h words c.in-Ok.written.answer c.next.result c.args.outs.pc) c.deref.ensures.value
+    ∙ ap (λ next. core_served c.self.inside.core c.args.h c.in-Ok.written.words.items c.in-Ok.written.answer next c.args.outs.pc) c.next.ensures in
     let there = subst (λ (q : PumpState g.row.P.Denot g.row.P-Tag.Denot). c.args.h < length q.core.harts) (sym c.self.view_is) c.requires.hart in
     let more = longer p.table.tags (g.T.TagTable.state c.intern_job.new.tags).tags c.intern_job.ensures.extends in
     let low = outputs.pc in
@@ -103,7 +104,8 @@ returns-clause-ends g c =
     let noted =
     ok_at c.commit.result (c.commit.new.self ≡ g.P.Policy.model.commit c.self.inside.policy c.args.job.now.plan) c.is_err.result c.is_err.ensures.value c.if-is_err.false c.commit.ensures.ok in
     let core_is : c.serve.new.self ≡ core_served c.self.inside.core c.args.h c.in-Ok.written.words.items c.in-Ok.written.answer c.args.look.now.effect.next c.args.outs.pc =
-    c.serve.ensures.core ∙ ap (λ words. core_served c.self.inside.core c.args.h words c.in-Ok.written.answer c.args.look.now.effect.next c.args.outs.pc) c.deref.ensures.value in
+    c.serve.ensures.core ∙ ap (λ words. core_served c.self.inside.core c.args.h words c.in-Ok.written.answer c.next.result c.args.outs.pc) c.deref.ensures.value
+    ∙ ap (λ next. core_served c.self.inside.core c.args.h c.in-Ok.written.words.items c.in-Ok.written.answer next c.args.outs.pc) c.next.ensures in
     let turns_are : c.saturating_add-self-inside.result ≡ next_count c.self.inside.turns = search rules in
     let left_is : pump_of c.commit.new.self c.serve.new.self (g.T.TagTable.state c.intern_job.new.tags) (g.C.RuleStore.state c.self.inside.store) c.saturating_add-self-inside.result c.self.inside.halt
     ≡ left g.P.Tag.PartialEq.eq g.P.Policy.model g.P.Policy.holds g.met.P.Policy.lawful p c.self.invariant.pump c.args.h c.args.look.now c.args.outs (job_by c.args.job.now.plan c.args.job.now.words.items) (g.T.TagTable.state c.intern_job.new.tags) c.in-Ok.written.words.items c.in-Ok.written.answer =
@@ -152,4 +154,4 @@ serve-requires-clause-hart g c =
     subst (λ (q : PumpState g.row.P.Denot g.row.P-Tag.Denot). c.args.h < length q.core.harts) (sym c.self.view_is) c.requires.hart
 
 pub serve-requires-clause-aligned : goal.serve-requires-clause-aligned
-serve-requires-clause-aligned g c = c.requires.aligned
+serve-requires-clause-aligned g c = subst (λ next. next % 4 ≡ 0) (sym c.next.ensures) c.requires.aligned

@@ -5,10 +5,12 @@ use Rattle.engine_trait.specs.Turn.{carried_at}
 use Rattle.engine_trait.specs.declared.ends.TurnEnd.TheVariants as ends
 use Rattle.engine_trait.proofs.StepLemmas.{ready_busy}
 use Rattle.pump_engine.specs.Pump.{standing_by_words}
-use Rattle.pump_engine.specs.Steps.{unanswered_end}
+use Rattle.pump_engine.specs.Steps.{EndsService, unanswered_end}
+use Rattle.turn_steps.specs.declared.look.Look.{Look}
 use Rattle.pump_engine.proofs.EndLemmas.{bytes_stay, count_stays, ends_made, stopped_bytes, stopped_count}
 use Rattle.pump_engine.proofs.EndLemmas.{fails_alone, memory_unanswered, missed_grows, service_gives_up, service_grows, service_there, service_turn}
 use Rattle.pump_engine.proofs.TurnLemmas.{checked_turn, effect_turn, unanswered_gives_up, unanswered_turn}
+use Rattle.pump_engine.proofs.pump.PumpEngine.ready_turn.Given.{Over}
 use Rattle.pump_engine.proofs.pump.PumpEngine.ready_turn.Goals as goal
 
 -- ---- a check that failed
@@ -84,16 +86,23 @@ returns-in-Err-ask-clause-ram g c =
 
 -- ---- a service of the policy
 
+-- it is handed a look of its own, which is the same
+ends_so : (g : Over) (c : goal.After-service g)
+    → EndsService g.P.Tag.PartialEq.eq g.P.Policy.model c.ask.new.self c.args.h c.in-Ok.look c.in-Ok-ask.outs c.service.new.self c.service.result
+ends_so g c =
+    subst (λ (look : Look). EndsService g.P.Tag.PartialEq.eq g.P.Policy.model c.ask.new.self c.args.h look c.in-Ok-ask.outs c.service.new.self c.service.result)
+    c.again.ensures c.service.ensures.ends
+
 pub returns-then-is_call-clause-step : goal.returns-then-is_call-clause-step
-returns-then-is_call-clause-step g c has_memory = service_turn g.P.Tag.PartialEq.eq g.P.Policy.model c.args.self.now c.args.feed.now c.args.h c.requires.ready c.ask.new.self c.in-Ok.look (sym c.prepare.ensures.value ∙ c.in-Ok.is) c.ask.ensures.stays c.in-Ok-ask.outs c.in-Ok-ask.ensures.allowed (sym c.is_call.ensures ∙ c.if-is_call.true) c.service.new.self c.service.result c.service.ensures.ends has_memory
+returns-then-is_call-clause-step g c has_memory = service_turn g.P.Tag.PartialEq.eq g.P.Policy.model c.args.self.now c.args.feed.now c.args.h c.requires.ready c.ask.new.self c.in-Ok.look (sym c.prepare.ensures.value ∙ c.in-Ok.is) c.ask.ensures.stays c.in-Ok-ask.outs c.in-Ok-ask.ensures.allowed (sym c.is_call.ensures ∙ c.if-is_call.true) c.service.new.self c.service.result (ends_so g c) has_memory
 
 pub returns-then-is_call-clause-memory : goal.returns-then-is_call-clause-memory
-returns-then-is_call-clause-memory g c out = service_gives_up g.P.Tag.PartialEq.eq g.P.Policy.model c.args.self.now c.args.feed.now c.args.h c.requires.ready c.ask.new.self c.in-Ok.look (sym c.prepare.ensures.value ∙ c.in-Ok.is) c.ask.ensures.stays c.in-Ok-ask.outs c.in-Ok-ask.ensures.allowed (sym c.is_call.ensures ∙ c.if-is_call.true) c.service.new.self c.service.result c.service.ensures.ends out
+returns-then-is_call-clause-memory g c out = service_gives_up g.P.Tag.PartialEq.eq g.P.Policy.model c.args.self.now c.args.feed.now c.args.h c.requires.ready c.ask.new.self c.in-Ok.look (sym c.prepare.ensures.value ∙ c.in-Ok.is) c.ask.ensures.stays c.in-Ok-ask.outs c.in-Ok-ask.ensures.allowed (sym c.is_call.ensures ∙ c.if-is_call.true) c.service.new.self c.service.result (ends_so g c) out
 
 pub returns-then-is_call-clause-failure : goal.returns-then-is_call-clause-failure
 returns-then-is_call-clause-failure g c why failing stops =
     fails_alone g.P.Tag.PartialEq.eq g.P.Policy.model (standing_by_words g.P.Policy.model c.args.self.now) c.args.feed.now c.args.h (standing_by_words g.P.Policy.model c.service.new.self) c.args.feed.now c.service.result
-    (service_turn g.P.Tag.PartialEq.eq g.P.Policy.model c.args.self.now c.args.feed.now c.args.h c.requires.ready c.ask.new.self c.in-Ok.look (sym c.prepare.ensures.value ∙ c.in-Ok.is) c.ask.ensures.stays c.in-Ok-ask.outs c.in-Ok-ask.ensures.allowed (sym c.is_call.ensures ∙ c.if-is_call.true) c.service.new.self c.service.result c.service.ensures.ends (λ is_memory. absurd (cc (is_memory, stops)))) why failing stops
+    (service_turn g.P.Tag.PartialEq.eq g.P.Policy.model c.args.self.now c.args.feed.now c.args.h c.requires.ready c.ask.new.self c.in-Ok.look (sym c.prepare.ensures.value ∙ c.in-Ok.is) c.ask.ensures.stays c.in-Ok-ask.outs c.in-Ok-ask.ensures.allowed (sym c.is_call.ensures ∙ c.if-is_call.true) c.service.new.self c.service.result (ends_so g c) (λ is_memory. absurd (cc (is_memory, stops)))) why failing stops
 
 pub returns-then-is_call-clause-busy : goal.returns-then-is_call-clause-busy
 returns-then-is_call-clause-busy g c idles =
@@ -103,7 +112,7 @@ returns-then-is_call-clause-busy g c idles =
 pub returns-then-is_call-clause-kept : goal.returns-then-is_call-clause-kept
 returns-then-is_call-clause-kept g c out =
     service_grows g.P.Tag.PartialEq.eq g.P.Policy.model c.args.self.now c.args.h
-    (service_there g.P.Tag.PartialEq.eq g.P.Policy.model c.args.self.now c.args.feed.now c.args.h c.requires.ready c.ask.new.self c.in-Ok.look (sym c.prepare.ensures.value ∙ c.in-Ok.is) c.ask.ensures.stays c.in-Ok-ask.outs c.in-Ok-ask.ensures.allowed (sym c.is_call.ensures ∙ c.if-is_call.true) c.service.new.self c.service.result c.service.ensures.ends out)
+    (service_there g.P.Tag.PartialEq.eq g.P.Policy.model c.args.self.now c.args.feed.now c.args.h c.requires.ready c.ask.new.self c.in-Ok.look (sym c.prepare.ensures.value ∙ c.in-Ok.is) c.ask.ensures.stays c.in-Ok-ask.outs c.in-Ok-ask.ensures.allowed (sym c.is_call.ensures ∙ c.if-is_call.true) c.service.new.self c.service.result (ends_so g c) out)
 
 pub returns-then-is_call-clause-harts : goal.returns-then-is_call-clause-harts
 returns-then-is_call-clause-harts g c =

@@ -1,0 +1,70 @@
+-- What is due of a call whose files and input are told: something, and the calls on files by what its content is read as.
+use Rattle.std.proofs.Common.{◌≡◌, ℕ, List, Option, Some, None, Ok, Err, IfSome, IsSome, refl, ap, subst}
+use Rattle.host_io.specs.Environment.{Environment}
+use Rattle.pump_line.specs.Task.{Task, assemble, disassemble, load, run, shell, task_of}
+use Rattle.pump_cli.specs.Calls.{CallsMade, calls_of, calls_of_task}
+use Rattle.pump_cli.specs.Program.{outcome_of_image, outcome_of_words, program}
+use Rattle.pump_cli.specs.Reading.{content_of, content_read}
+use Rattle.pump_cli.specs.declared.status.Status.{Status}
+use Rattle.pump_web.specs.Replies.{calls_due, content_in}
+
+module _ (held : List ℕ → List ℕ) where
+  -- what each name holds is told
+  abbrev known : List ℕ → Option (List ℕ)
+  known = λ name. Some (held name)
+
+  content_known : (task : Task) → content_of task known ≡ Some (content_in task known)
+  content_known (run task) = refl
+  content_known (shell task) = refl
+  content_known (assemble task) = refl
+  content_known (disassemble task) = refl
+  content_known (load task) = refl
+
+  task_due : (input : List ℕ) (task : Task) → IsSome (outcome_of_image task (content_read task (content_in task known)) (Some input))
+  task_due input (run task) =
+      elim (content_read (run task) (content_in (run task) known)) as (λ read. IsSome (outcome_of_image (run task) read (Some input))) [
+        | Ok picture ↦ refl
+        | Err refusal ↦ refl
+      ]
+  task_due input (shell task) =
+      elim (content_read (shell task) (content_in (shell task) known)) as (λ read. IsSome (outcome_of_image (shell task) read (Some input))) [
+        | Ok picture ↦ refl
+        | Err refusal ↦ refl
+      ]
+  task_due input (assemble task) =
+      elim (content_read (assemble task) (content_in (assemble task) known)) as (λ read. IsSome (outcome_of_image (assemble task) read (Some input))) [
+        | Ok picture ↦ refl
+        | Err refusal ↦ refl
+      ]
+  task_due input (disassemble task) =
+      elim (content_read (disassemble task) (content_in (disassemble task) known)) as (λ read. IsSome (outcome_of_image (disassemble task) read (Some input))) [
+        | Ok picture ↦ refl
+        | Err refusal ↦ refl
+      ]
+  task_due input (load task) =
+      elim (content_read (load task) (content_in (load task) known)) as (λ read. IsSome (outcome_of_image (load task) read (Some input))) [
+        | Ok picture ↦ refl
+        | Err refusal ↦ refl
+      ]
+
+  words_due : (input : List ℕ) (task : Option Task) → IsSome (outcome_of_words task known (Some input))
+  words_due input None = refl
+  words_due input (Some (run task)) = task_due input (run task)
+  words_due input (Some (shell task)) = task_due input (shell task)
+  words_due input (Some (assemble task)) = task_due input (assemble task)
+  words_due input (Some (disassemble task)) = task_due input (disassemble task)
+  words_due input (Some (load task)) = task_due input (load task)
+
+  pub program_due : (input : List ℕ) (words : List (List ℕ)) → IsSome (program words known (Some input))
+  unfolding program
+  program_due input words = words_due input (task_of words)
+
+  -- the calls of a call are those that are due
+  pub calls_are : {I : Type 0} (task : Option Task) (status : Status) (before after : Environment I) → before.held ≡ known
+      → (made : CallsMade task status before after) → calls_of task made.read ≡ calls_due task known
+  calls_are None status before after told made = refl
+  calls_are (Some task) status before after told made =
+      let read : IfSome (content_of task known) (λ bytes. made.read ≡ content_read task bytes) =
+      subst (λ (names : List ℕ → Option (List ℕ)). IfSome (content_of task names) (λ bytes. made.read ≡ content_read task bytes)) told made.is_read in
+      ap (calls_of_task task)
+      (subst (λ (content : Option (List ℕ)). IfSome content (λ bytes. made.read ≡ content_read task bytes)) (content_known task) read)

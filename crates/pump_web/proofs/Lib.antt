@@ -1,0 +1,4 @@
+pub mod DueLemmas
+pub mod HeldLemmas
+pub mod ReplyLemmas
+pub mod RunLemmas
