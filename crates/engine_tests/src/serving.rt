@@ -1,11 +1,14 @@
 //! The toy policy's service over memory.
 
+ghost use Rattle.std.specs.Prelude.{◌≡◌, IfOk, length};
+ghost use Rattle.tag_memory.specs.Pages.{items_of};
+
 use crate::toy::Toy;
 use monitor_calls::{Job, ServeEnd, View, serve};
 use policy_trait::{Args, Part, Refused, Why};
 use std::alloc::{AllocError, Global};
 use std::test::Fail;
-use tag_memory::Ram;
+use tag_memory::{Pages, Ram};
 
 /// Whether the service zeroes, tags of memory, and address, value and tag of each word of the range, or why the first word that
 /// is refused is. Words outside the range refuse nothing.
@@ -46,6 +49,18 @@ fn words_of_a_range(rt: HostRuntime) -> Result<(), Fail> {
     Ok(())
 }
 
+/// These tags, one for each word.
+fn pages_of(alloc: Global, tags: [u32; 4]) -> Result<Pages<u32>, AllocError>
+    ensures { IfOk result (λ pages. length (items_of pages) ≡ 4) }
+{
+    let [first, second, third, fourth] = tags;
+    Pages::new(alloc, 4, 0)?
+        .extended(1, first)?
+        .extended(2, second)?
+        .extended(3, third)?
+        .extended(4, fourth)
+}
+
 /// The service, which zeroes or does not, over memory of the words 11, 12, 13 and 14 with these tags.
 fn serve_toy(
     alloc: Global,
@@ -53,7 +68,7 @@ fn serve_toy(
     tags: [u32; 4],
 ) -> Result<Result<Job<u32>, ServeEnd>, AllocError> {
     let words = [11, 12, 13, 14].to_vec(alloc)?;
-    let ram = Ram::from_parts(words, tags.to_vec(alloc)?, 0);
+    let ram = Ram::from_parts(words, pages_of(alloc, tags)?, 0);
     let arguments = Args {
         a0: if zero { 0 } else { 1 },
         a1: 0,

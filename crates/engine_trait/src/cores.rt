@@ -100,17 +100,6 @@ impl<T: Copy> Core<T> {
         look_ahead(&self.harts[h as usize], &self.ram)
     }
 
-    /// The same as a function of its own where it has more than one caller. An engine whose tags are large takes this one: its turn
-    /// would be too large to be inlined into a loop with all of it.
-    pub fn look_apart(&self, h: u32) -> Result<Look, Fault>
-        requires { h < length self.now.harts }
-        ensures value { result ≡ look_result (hart_at self.now h) self.now.ram }
-        ensures within { OnOk result ((hart_at self.now h).pc + 4 ≤ ram_bytes self.now.ram) }
-        ensures safe { IfOk result (λ look. IsSound (ram_bytes self.now.ram) look.effect) }
-    {
-        self.look(h)
-    }
-
     /// The five tags that the rule of what this hart looks at is asked with. Its pc and its access are in memory, as those of a
     /// look are that this hart gave.
     #[inline(always)]

@@ -108,8 +108,43 @@ pub fn ask<T: TagTable, C: RuleStore, R: Rules<Tag = T::Tag>>(
 
 /// What the policy's rule answers to a key that is not kept. Where it allows, its outputs get words and the rule is kept;
 /// else table and store are as they were.
-#[inline(never)]
+#[inline(always)]
 fn missed<T: TagTable, C: RuleStore, R: Rules<Tag = T::Tag>>(
+    tags: &mut T,
+    store: &mut C,
+    rules: &mut R,
+    key: Key,
+) -> Result<OutWords, AskEnd>
+    ensures answered { IfOk result
+        (IsAnswered T.Tag.eq (R.book rules.old) (T.state tags.old) (T.state tags.new) key) }
+    ensures kept { IfOk result (λ outs.
+        C.state store.new ≡ store_with key outs (C.state store.old)) }
+    ensures stopped { (refused : Refused) → (result ≡ Err (AskEnd.Stopped refused))
+        ↔ (answer_on (R.book rules.old) (T.state tags.old).tags key.group key.words ≡ Err refused) }
+    ensures tags_out { result ≡ Err AskEnd.TagsOut
+        → IsOkAnd (answer_on (R.book rules.old) (T.state tags.old).tags key.group key.words)
+        (λ outs. (T.state tags.old).limit
+        < length (with_outs T.Tag.eq (T.state tags.old).tags outs)) }
+    ensures memory { result ≡ Err AskEnd.Memory
+        → IsOkAnd (answer_on (R.book rules.old) (T.state tags.old).tags key.group key.words)
+        (λ outs. length (with_outs T.Tag.eq (T.state tags.old).tags outs)
+        ≤ (T.state tags.old).limit) }
+    ensures table { OnErr result (T.state tags.new ≡ T.state tags.old) }
+    ensures store { OnErr result (C.state store.new ≡ C.state store.old) }
+    ensures within { OnOk result (length (T.state tags.new).tags ≤ (T.state tags.new).limit) }
+    ensures answers { R.answers rules.new ≡ next_count (R.answers rules.old) }
+    ensures book { R.book rules.new ≡ R.book rules.old }
+{
+    // Rules of its own, or those that are given would need a place in memory where a rule is found too.
+    let mut asked = rules.again();
+    let end = answered_anew(tags, store, &mut asked, key);
+    *rules = asked;
+    end
+}
+
+/// The same, of rules that have a place in memory.
+#[inline(never)]
+fn answered_anew<T: TagTable, C: RuleStore, R: Rules<Tag = T::Tag>>(
     tags: &mut T,
     store: &mut C,
     rules: &mut R,

@@ -13,7 +13,7 @@ use rv_decode::Group;
 use std::marker::Model;
 
 /// The rules of a policy, and a count of the answers that they gave.
-pub trait Rules {
+pub trait Rules: Drop {
     ghost use Rattle.std.specs.Prelude.{ℕ};
     ghost use Rattle.miss_handler.specs.Books.{IgnoresMasked, Rulebook};
 
@@ -31,6 +31,11 @@ pub trait Rules {
     fn mask(&self, group: Group) -> WordMask
         ensures mask { result ≡ (book self.now).ignores group }
         ensures law { IgnoresMasked (book self.now) };
+
+    /// The same rules once more, of which as many answers were given.
+    fn again(&self) -> Self
+        ensures book { book result ≡ book self.now }
+        ensures answers { answers result ≡ answers self.now };
 
     /// The answer of a rule, which is counted; the count stands still at 2^64 - 1.
     fn answer(&mut self, group: Group, inputs: Ins<Self::Tag>) -> Result<Outs<Self::Tag>, Refused>
@@ -90,6 +95,15 @@ impl<'a, P: Policy> Rules for Asking<'a, P> {
     #[inline(always)]
     fn mask(&self, group: Group) -> WordMask {
         self.masks.mask(group)
+    }
+
+    #[inline(always)]
+    fn again(&self) -> Self {
+        Asking {
+            policy: self.policy,
+            masks: self.masks,
+            answers: self.answers,
+        }
     }
 
     fn answer(&mut self, group: Group, inputs: Ins<P::Tag>) -> Result<Outs<P::Tag>, Refused>

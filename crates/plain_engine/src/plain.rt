@@ -95,7 +95,7 @@ impl<P: Policy> Plain<P> {
             (λ look. IsSound (ram_bytes self.now.machine.core.ram) look.effect) }
         ensures offered { IfOk result (λ look. is_offered P.model self.now.machine look ≡ true) }
     {
-        let look = match self.core.look_apart(h) {
+        let look = match self.core.look(h) {
             Ok(look) => look,
             Err(fault) => return Err(Stop::Fault(fault)),
         };

@@ -81,7 +81,7 @@ impl TagMap for Seals {
 }
 
 /// The component of sealing in each of the tags that stand there.
-#[inline(always)]
+#[inline]
 pub(crate) fn seal_inputs(inputs: &InsAt<'_, AllTag>) -> Ins<Option<SealTag>>
     ensures { result ≡ ins_by (λ tag. tag.0) inputs.now }
 {
@@ -151,7 +151,7 @@ impl TagMap for Comps {
 }
 
 /// The component of compartments in each of the tags that stand there.
-#[inline(always)]
+#[inline]
 pub(crate) fn comp_inputs(inputs: &InsAt<'_, AllTag>) -> Ins<Option<CompartmentTag>>
     ensures { result ≡ ins_by (λ tag. tag.1.0) inputs.now }
 {
@@ -221,7 +221,7 @@ impl TagMap for Flows {
 }
 
 /// The component of control flow in each of the tags that stand there.
-#[inline(always)]
+#[inline]
 pub(crate) fn flow_inputs(inputs: &InsAt<'_, AllTag>) -> Ins<Option<FlowTag>>
     ensures { result ≡ ins_by (λ tag. tag.1.1.0) inputs.now }
 {
@@ -291,7 +291,7 @@ impl TagMap for Heaps {
 }
 
 /// The component of heap safety in each of the tags that stand there.
-#[inline(always)]
+#[inline]
 pub(crate) fn heap_inputs(inputs: &InsAt<'_, AllTag>) -> Ins<Option<HeapTag>>
     ensures { result ≡ ins_by (λ tag. tag.1.1.1) inputs.now }
 {

@@ -12,8 +12,8 @@ use crate::fields::{
 };
 use crate::instructions::Instr;
 
-// Fields have hints alone: they stand in forty cases, and were they always inlined, a turn with all of them would be too large
-// for the compiler to inline.
+// Fields, and the cases of one opcode, have hints alone: were they always inlined, a turn with all of them would be too large for
+// the compiler to inline.
 
 #[inline]
 fn rd(word: u32) -> Register
@@ -88,7 +88,7 @@ fn jump_offset(word: u32) -> JumpOffset
     )
 }
 
-#[inline(always)]
+#[inline]
 fn decode_jump_to_register(word: u32) -> Option<Instr>
     ensures { result ≡ jump_to_register_of word }
 {
@@ -102,7 +102,7 @@ fn decode_jump_to_register(word: u32) -> Option<Instr>
     }
 }
 
-#[inline(always)]
+#[inline]
 fn decode_branch(word: u32) -> Option<Instr>
     ensures { result ≡ branch_of word }
 {
@@ -120,7 +120,7 @@ fn decode_branch(word: u32) -> Option<Instr>
     }
 }
 
-#[inline(always)]
+#[inline]
 fn decode_load(word: u32) -> Option<Instr>
     ensures { result ≡ load_of word }
 {
@@ -137,7 +137,7 @@ fn decode_load(word: u32) -> Option<Instr>
     }
 }
 
-#[inline(always)]
+#[inline]
 fn decode_store(word: u32) -> Option<Instr>
     ensures { result ≡ store_of word }
 {
@@ -152,7 +152,7 @@ fn decode_store(word: u32) -> Option<Instr>
     }
 }
 
-#[inline(always)]
+#[inline]
 fn decode_shift_up(word: u32) -> Option<Instr>
     ensures { result ≡ shift_up_of word }
 {
@@ -165,7 +165,7 @@ fn decode_shift_up(word: u32) -> Option<Instr>
     }
 }
 
-#[inline(always)]
+#[inline]
 fn decode_shift_down(word: u32) -> Option<Instr>
     ensures { result ≡ shift_down_of word }
 {
@@ -179,7 +179,7 @@ fn decode_shift_down(word: u32) -> Option<Instr>
     }
 }
 
-#[inline(always)]
+#[inline]
 fn decode_with_immediate(word: u32) -> Option<Instr>
     ensures { result ≡ with_immediate_of word }
 {
@@ -199,7 +199,7 @@ fn decode_with_immediate(word: u32) -> Option<Instr>
     }
 }
 
-#[inline(always)]
+#[inline]
 fn decode_with_registers(word: u32) -> Option<Instr>
     ensures { result ≡ with_registers_of word }
 {
@@ -221,7 +221,7 @@ fn decode_with_registers(word: u32) -> Option<Instr>
     }
 }
 
-#[inline(always)]
+#[inline]
 fn decode_system(word: u32) -> Option<Instr>
     ensures { result ≡ system_of word }
 {

@@ -16,7 +16,7 @@ use std::marker::Model;
 /// What the number of an action is used for.
 #[derive(Clone, Copy, PartialEq, Eq)]
 pub(crate) enum Use {
-    /// Nothing: the instruction only goes on, or jumps, and the number is 0.
+    /// Nothing: the instruction only goes on or branches, and the number is 0.
     Nothing,
     /// It is the value for rd.
     Value,
@@ -34,8 +34,7 @@ pub(crate) enum Use {
 }
 
 /// The effect of one instruction, before anything of it is carried out, in the form that a turn carries: contracts see it as an
-/// `Effect`. The value for rd and the address of an access are one number, since no instruction has both. What an instruction
-/// doesn't have takes no place in it, so that a turn needn't clear any.
+/// `Effect`. The value for rd and the address of an access are one number, since no instruction has both.
 #[derive(Drop)]
 pub struct Action {
     next: u32,

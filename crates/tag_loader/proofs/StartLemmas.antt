@@ -1,7 +1,8 @@
 -- The machine at the start is sound.
-use Rattle.std.proofs.Common.{◌≡◌, ◌∙◌, ℕ, ◌+◌, ◌%◌, ◌<◌, ◌≤◌, List, [], ◌∷◌, ◌++◌, Option, None}
+use Rattle.std.proofs.Common.{◌≡◌, ◌∙◌, ◌⊎◌, inl, inr, sym, ℕ, ◌+◌, ◌*◌, ◌%◌, ◌<◌, ◌≤◌, List, [], ◌∷◌, ◌++◌, Option, None}
 use Rattle.std.proofs.Common.{ap, arith, get_or, length, map, refl, take}
 use Rattle.std.specs.List.{All}
+use Rattle.std.proofs.lemmas.Bool.{cases_lt}
 use Rattle.std.proofs.lemmas.List.{length-replicate, length_push, map_more}
 use Rattle.std.proofs.lemmas.List.Elements.{All-map}
 use Rattle.image_format.specs.Conditions.{IsPlace}
@@ -14,7 +15,7 @@ use Rattle.turn_steps.specs.declared.stop.Stop.{Stop}
 use Rattle.engine_trait.specs.Machine.{IsMachine}
 use Rattle.plain_engine.specs.Plain.{machine_of}
 use Rattle.tag_loader.specs.Births.{birth_of}
-use Rattle.tag_loader.specs.Start.{start_hart}
+use Rattle.tag_loader.specs.Start.{start_hart, start_tag}
 
 fresh_hart_is : {T : Type 0} (pc : ℕ) (pc_tag plain : T) → pc % 4 ≡ 0 → IsHartOf plain (fresh_hart pc pc_tag plain)
 fresh_hart_is pc pc_tag plain aligned =
@@ -32,7 +33,25 @@ one_counted count index entries same all some = omega arith
 pub few_counted : (count index entries : ℕ) → count ≡ index → index ≤ entries → entries ≤ 8 → count ≤ 8
 few_counted count index entries same all few = omega arith
 
+-- a list of f's values from 0 on, once those of a run are behind it
+pub run_more : {T : Type 0} (f : ℕ → T) (old new : List T) (n end : ℕ) (tag : T) → ((k : ℕ) (d : T) → k < n → get_or old k d ≡ f k) → length old ≡ n
+    → ((k : ℕ) (d : T) → k < length old → get_or new k d ≡ get_or old k d)
+    → ((k : ℕ) (d : T) → length old ≤ k → k < end → get_or new k d ≡ tag)
+    → ((k : ℕ) → n ≤ k → k < end → f k ≡ tag) → (k : ℕ) (d : T) → k < end → get_or new k d ≡ f k
+run_more {T} f old new n end tag made size kept added same k d lt = at (cases_lt k n)
+  where
+    at : (k < n) ⊎ (n ≤ k) → get_or new k d ≡ f k
+    at (inl below) = kept k d (omega (arith, below, size)) ∙ made k d below
+    at (inr behind) = added k d (omega (arith, behind, size)) lt ∙ sym (same k behind lt)
+
 module _ {S T : Type 0} (m : PolicyModel T S) (policy : S) where
+  -- the tag of each word of a run, of which the image says the same
+  pub run_tag : (g births : Picture) (n end : ℕ) (birth : Birth) (tag : T) → ((at : ℕ) → 4 * n ≤ at → birth_of births at ≡ birth_of g at)
+      → ((k : ℕ) → n ≤ k → k < end → birth_of births (4 * k) ≡ birth) → tag ≡ m.start_word policy birth
+      → (k : ℕ) → n ≤ k → k < end → start_tag m policy g k ≡ tag
+  run_tag g births n end birth tag rest told is k least lt =
+      ap (m.start_word policy) (sym (rest (4 * k) (omega (arith, least))) ∙ told k least lt) ∙ sym is
+
   pub harts_are_plain : (g : Picture) → All (IsPlace g.ram) g.entries → All (IsHartOf (m.plain policy)) (map (start_hart m policy g) g.entries)
   harts_are_plain g places =
       All-map (IsHartOf (m.plain policy)) (start_hart m policy g) g.entries

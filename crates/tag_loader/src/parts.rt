@@ -3,13 +3,14 @@
 ghost use Rattle.std.specs.Prelude.{◌≡◌, ◌*◌, ◌≤◌, IfOk, length};
 ghost use Rattle.std.specs.List.{All};
 ghost use Rattle.tag_memory.specs.Hart.{IsHartOf};
+ghost use Rattle.tag_memory.specs.Pages.{items_of};
 ghost use Rattle.tag_loader.specs.Start.{memory_of, start_harts, start_tags};
 
 use crate::births::{BirthWalk, birth};
 use image_format::Image;
 use policy_trait::Policy;
 use std::alloc::{AllocError, Global};
-use tag_memory::Hart;
+use tag_memory::{Hart, Pages};
 
 /// The words of memory at the start: those of the segments at their addresses, and 0 elsewhere. The only error is running out of
 /// memory.
@@ -33,17 +34,17 @@ pub(crate) fn tags_of<P: Policy>(
     alloc: Global,
     policy: &P,
     image: &Image,
-) -> Result<Vec<P::Tag>, AllocError>
-    ensures tags { IfOk result (λ tags. tags.items ≡ start_tags P.model policy.now image.now) }
-    ensures size { IfOk result (λ tags. 4 * length tags.items ≡ image.now.ram) }
+) -> Result<Pages<P::Tag>, AllocError>
+    ensures tags { IfOk result (λ tags. items_of tags ≡ start_tags P.model policy.now image.now) }
+    ensures size { IfOk result (λ tags. 4 * length (items_of tags) ≡ image.now.ram) }
 {
     let count = image.ram() / 4;
     let mut births = BirthWalk::new(image);
-    let mut tags = Vec::with_capacity(alloc, count as usize)?;
+    let mut tags = Pages::new(alloc, count, policy.plain())?;
     let mut n = 0;
     while n < count {
         let run = births.words_from(n);
-        tags.resize(run.end as usize, policy.start_word(&run.birth))?;
+        tags = tags.extended(run.end, policy.start_word(&run.birth))?;
         n = run.end;
     }
     Ok(tags)

@@ -1,4 +1,5 @@
 pub mod HartLemmas
 pub mod MapLemmas
+pub mod PagesLemmas
 pub mod RamLemmas
 pub mod RowLemmas

@@ -1,5 +1,6 @@
 -- Memory: words of 32 bits at addresses that are multiples of 4, each with a tag.
-use Rattle.std.specs.Prelude.{◌≡◌, ℕ, ◌+◌, ◌*◌, ◌/◌, ◌%◌, ◌≤◌, List, length, replicate, slice_index, slice_index_or, slice_set}
+use Rattle.std.specs.Prelude.{◌≡◌, ℕ, ◌+◌, ◌*◌, ◌/◌, ◌%◌, ◌≤◌, Bool, List, [], ◌∷◌, ◌++◌, drop, length, replicate, take, Option, Some, None, if◌then◌else◌, slice_index, slice_index_or, slice_set}
+use Rattle.std.specs.List.{list_all}
 
 pub record RamState (T : Type 0) : Type 0 where
   pub words : List ℕ
@@ -43,3 +44,18 @@ with_ram_tag ram address tag = record ram { tags = slice_set ram.tags (address /
 -- memory of that many bytes at the start: words 0, all tags plain
 abbrev pub fresh_ram : {T : Type 0} → ℕ → T → RamState T
 fresh_ram bytes plain = record { words = replicate (bytes / 4) 0; tags = replicate (bytes / 4) plain; plain = plain }
+
+-- that tag for so many words from an address on, and every other as it was
+abbrev pub with_ram_filled : {T : Type 0} → RamState T → ℕ → ℕ → T → RamState T
+with_ram_filled ram address words tag =
+    record ram { tags = take (address / 4) ram.tags ++ (replicate words tag ++ drop words (drop (address / 4) ram.tags)) }
+
+-- ---- pages of 64 words, of which the last may be shorter
+
+abbrev pub page_tags : {T : Type 0} → RamState T → ℕ → List T
+page_tags ram page = take 64 (drop (64 * page) ram.tags)
+
+-- what all of a list are, where they are one
+abbrev pub only_one : {T : Type 0} → (T → T → Bool) → List T → Option T
+only_one eq [] = None
+only_one eq (tag ∷ tags) = if list_all (eq tag) tags then Some tag else None

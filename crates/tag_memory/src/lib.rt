@@ -4,8 +4,10 @@
 mod filled;
 mod hart;
 mod law;
+mod pages;
 mod ram;
 
 pub use hart::Hart;
 pub use law::{hart_law, map_law, ram_law};
+pub use pages::Pages;
 pub use ram::Ram;

@@ -1,9 +1,13 @@
 //! Memory, with a tag for each word.
 
-ghost use Rattle.std.specs.Prelude.{◌≡◌, ◌≢◌, ℕ, ◌+◌, ◌*◌, ◌/◌, ◌%◌, ◌≤◌, IfOk};
-ghost use Rattle.tag_memory.specs.Ram.{IsRam, fresh_ram, ram_bytes, ram_tag, ram_word, with_ram_tag, with_ram_word};
+ghost use Rattle.std.specs.Prelude.{◌≡◌, ◌≢◌, ℕ, ◌+◌, ◌*◌, ◌/◌, ◌%◌, ◌-◌, ◌<◌, ◌≤◌, IfOk, drop, length, take};
+ghost use Rattle.std.specs.List.{list_all};
+ghost use Rattle.tag_memory.specs.Pages.{items_of};
+ghost use Rattle.tag_memory.specs.Ram.{IsRam, fresh_ram, only_one, page_tags, ram_bytes, ram_tag, ram_word, with_ram_filled, with_ram_tag, with_ram_word};
 
 use crate::filled::filled;
+use crate::pages::Pages;
+use pump_words::Same;
 use std::alloc::{AllocError, Global};
 use std::marker::Model;
 
@@ -11,18 +15,19 @@ use std::marker::Model;
 #[derive(Drop)]
 pub struct Ram<T: Copy> {
     words: Vec<u32>,
-    tags: Vec<T>,
+    tags: Pages<T>,
     plain: T,
 }
 
 impl<T: Copy> Model for Ram<T> {
+    ghost use Rattle.tag_memory.specs.Pages.{items_of};
     ghost use Rattle.tag_memory.specs.Ram.{IsRam, RamState};
 
     ghost Value = { RamState T };
 
-    ghost view = { λ r. record { words = r.words.items; tags = r.tags.items; plain = r.plain } };
+    ghost view = { λ r. record { words = r.words.items; tags = items_of r.tags; plain = r.plain } };
 
-    ghost invariant = { λ r. IsRam (record { words = r.words.items; tags = r.tags.items; plain = r.plain }) };
+    ghost invariant = { λ r. IsRam (record { words = r.words.items; tags = items_of r.tags; plain = r.plain }) };
 }
 
 impl<T: Copy> Ram<T> {
@@ -33,16 +38,16 @@ impl<T: Copy> Ram<T> {
         requires few { bytes ≤ 16777216 }
         ensures { IfOk result (λ ram. ram ≡ fresh_ram bytes plain) }
     {
-        let count = (bytes / 4) as usize;
-        let words = filled(alloc, 0, count)?;
-        let tags = filled(alloc, plain, count)?;
+        let count = bytes / 4;
+        let words = filled(alloc, 0, count as usize)?;
+        let tags = Pages::new(alloc, count, plain)?.extended(count, plain)?;
         Ok(Ram { words, tags, plain })
     }
 
     /// Memory of these words with these tags.
-    pub fn from_parts(words: Vec<u32>, tags: Vec<T>, plain: T) -> Ram<T>
-        requires { IsRam (record { words = words.items; tags = tags.items; plain = plain }) }
-        ensures { result ≡ record { words = words.items; tags = tags.items; plain = plain } }
+    pub fn from_parts(words: Vec<u32>, tags: Pages<T>, plain: T) -> Ram<T>
+        requires { IsRam (record { words = words.items; tags = items_of tags; plain = plain }) }
+        ensures { result ≡ record { words = words.items; tags = items_of tags; plain = plain } }
     {
         Ram { words, tags, plain }
     }
@@ -83,7 +88,7 @@ impl<T: Copy> Ram<T> {
         requires within { address + 4 ≤ ram_bytes self.now }
         ensures { result ≡ ram_tag self.now address }
     {
-        self.tags[(address / 4) as usize]
+        *self.tags.at(address / 4)
     }
 
     /// Where the tag of the word at `address` stands.
@@ -93,10 +98,11 @@ impl<T: Copy> Ram<T> {
         requires within { address + 4 ≤ ram_bytes self.now }
         ensures { result.now ≡ ram_tag self.now address }
     {
-        &self.tags[(address / 4) as usize]
+        self.tags.at(address / 4)
     }
 
-    /// Writes the tag of the word at `address`. The word and every other tag stay.
+    /// Writes the tag of the word at `address`. The word and every other tag stay. It takes no memory.
+    #[inline(always)]
     pub fn set_tag(&mut self, address: u32, tag: T)
         requires aligned { address % 4 ≡ 0 }
         requires within { address + 4 ≤ ram_bytes self.old }
@@ -106,6 +112,48 @@ impl<T: Copy> Ram<T> {
         ensures others { (other : ℕ) → other / 4 ≢ address / 4
             → ram_tag self.new other ≡ ram_tag self.old other }
     {
-        self.tags[(address / 4) as usize] = tag;
+        self.tags.set(address / 4, tag);
     }
+
+    /// Gives the tag to so many words from `address` on. Words and every other tag stay. It takes no memory.
+    pub fn fill(&mut self, address: u32, words: u32, tag: T)
+        requires aligned { address % 4 ≡ 0 }
+        requires within { address + 4 * words ≤ ram_bytes self.old }
+        ensures exact { self.new ≡ with_ram_filled self.old address words tag }
+    {
+        // Serves the proof alone: how large memory is.
+        let _bytes = self.bytes();
+        for n in 0..words {
+            self.set_tag(address + 4 * n, tag);
+        }
+    }
+}
+
+impl<T: Same> Ram<T> {
+    /// The tag of all words of a page of 64, by the page's number; `None` where two of them differ. The last page may be shorter.
+    pub fn page_tag(&self, page: u32) -> Option<T>
+        requires { 256 * page < ram_bytes self.now }
+        ensures { result ≡ only_one T.eq (page_tags self.now page) }
+    {
+        // Serves the proof alone: how large memory is.
+        let _bytes = self.bytes();
+        let first = 64 * page;
+        let end = self.tags.len().min(first + 64);
+        let tag = *self.tags.at(first);
+        are_all(&self.tags, first + 1, end, tag).then_some(tag)
+    }
+}
+
+// Whether the items from a number up to another one are all the same as that one.
+fn are_all<T: Same>(items: &Pages<T>, from: u32, end: u32, item: T) -> bool
+    requires some { from ≤ end }
+    requires within { end ≤ length (items_of items.now) }
+    ensures { result ≡ list_all (T.eq item) (take (end - from) (drop from (items_of items.now))) }
+{
+    for n in from..end {
+        if item != *items.at(n) {
+            return false;
+        }
+    }
+    true
 }

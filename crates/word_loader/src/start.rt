@@ -5,6 +5,7 @@ ghost use Rattle.engine_trait.specs.Accounts.{is_over, with_tags};
 ghost use Rattle.pump_engine.specs.Pump.{standing_by_words};
 ghost use Rattle.word_loader.specs.Named.{AreHartsOf, AreWordsOf};
 ghost use Rattle.tag_loader.specs.Start.{start_harts, start_tags};
+ghost use Rattle.tag_memory.specs.Pages.{items_of};
 ghost use Rattle.word_loader.specs.CachedStart.{cached_account, cached_standing, first_tags};
 
 use crate::words::{word_harts, word_tags};
@@ -16,7 +17,7 @@ use rule_cache::RuleStore;
 use std::alloc::Global;
 use tag_intern::{InternEnd, TagTable};
 use tag_loader::words_of;
-use tag_memory::{Hart, Ram};
+use tag_memory::{Hart, Pages, Ram};
 
 /// The harts and the tags of memory at the start, as words of a table that had none: the plain tag gets word 0, then each
 /// tag of a hart's pc gets one, and each of a word of memory.
@@ -27,7 +28,7 @@ fn first_words<P: Policy, T: TagTable<Tag = P::Tag>>(
     policy: &P,
     image: &Image,
     table: &mut T,
-) -> Result<(Vec<Hart<u32>>, Vec<u32>), InternEnd>
+) -> Result<(Vec<Hart<u32>>, Pages<u32>), InternEnd>
     requires { (T.state table.old).tags ≡ [] }
     ensures seen { OnOk result ((T.state table.new).tags ≡ with_tags P.Tag.eq []
         (first_tags P.model policy.now image.now)) }
@@ -37,8 +38,8 @@ fn first_words<P: Policy, T: TagTable<Tag = P::Tag>>(
     ensures harts { IfOk result (λ parts. AreHartsOf (T.state table.new).tags
         (start_harts P.model policy.now image.now) parts.0.items) }
     ensures words { IfOk result (λ parts. AreWordsOf (T.state table.new).tags
-        (start_tags P.model policy.now image.now) parts.1.items) }
-    ensures size { IfOk result (λ parts. 4 * length parts.1.items ≡ image.now.ram) }
+        (start_tags P.model policy.now image.now) (items_of parts.1)) }
+    ensures size { IfOk result (λ parts. 4 * length (items_of parts.1) ≡ image.now.ram) }
     ensures full { result ≡ Err InternEnd.Full → (T.state table.old).limit
         < length (with_tags P.Tag.eq [] (first_tags P.model policy.now image.now)) }
 {

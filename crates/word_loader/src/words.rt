@@ -3,6 +3,7 @@
 ghost use Rattle.std.specs.Prelude.{◌≡◌, ◌*◌, ◌<◌, Err, IfOk, OnOk, Some, length, slice_get};
 ghost use Rattle.engine_trait.specs.Accounts.{with_tags};
 ghost use Rattle.tag_intern.specs.Table.{Extends};
+ghost use Rattle.tag_memory.specs.Pages.{items_of};
 ghost use Rattle.word_loader.specs.Named.{AreHartsOf, AreWordsOf};
 ghost use Rattle.tag_loader.specs.Start.{start_harts, start_tags};
 ghost use Rattle.word_loader.specs.CachedStart.{pc_tags};
@@ -12,7 +13,7 @@ use policy_trait::Policy;
 use std::alloc::Global;
 use tag_intern::{InternEnd, TagTable};
 use tag_loader::{BirthWalk, harts_of};
-use tag_memory::Hart;
+use tag_memory::{Hart, Pages};
 
 /// The harts at the start. The tag of each one's pc gets a word; its registers have word 0, which is that of the plain tag.
 ///
@@ -61,30 +62,31 @@ pub(crate) fn word_tags<P: Policy, T: TagTable<Tag = P::Tag>>(
     policy: &P,
     image: &Image,
     table: &mut T,
-) -> Result<Vec<u32>, InternEnd>
+) -> Result<Pages<u32>, InternEnd>
     ensures seen { OnOk result ((T.state table.new).tags ≡ with_tags P.Tag.eq
         (T.state table.old).tags (start_tags P.model policy.now image.now)) }
     ensures limit { (T.state table.new).limit ≡ (T.state table.old).limit }
     ensures extends { Extends (T.state table.old).tags (T.state table.new).tags }
     ensures words { IfOk result (λ words. AreWordsOf (T.state table.new).tags
-        (start_tags P.model policy.now image.now) words.items) }
-    ensures size { IfOk result (λ words. 4 * length words.items ≡ image.now.ram) }
+        (start_tags P.model policy.now image.now) (items_of words)) }
+    ensures size { IfOk result (λ words. 4 * length (items_of words) ≡ image.now.ram) }
     ensures full { result ≡ Err InternEnd.Full → (T.state table.old).limit
         < length (with_tags P.Tag.eq (T.state table.old).tags
         (start_tags P.model policy.now image.now)) }
 {
     let count = image.ram() / 4;
     let mut births = BirthWalk::new(image);
-    let Ok(mut words) = Vec::with_capacity(alloc, count as usize) else {
+    let Ok(mut words) = Pages::new(alloc, count, 0) else {
         return Err(InternEnd::Memory);
     };
     let mut n = 0;
     while n < count {
         let run = births.words_from(n);
         let word = table.intern(policy.start_word(&run.birth))?;
-        let Ok(()) = words.resize(run.end as usize, word) else {
+        let Ok(longer) = words.extended(run.end, word) else {
             return Err(InternEnd::Memory);
         };
+        words = longer;
         n = run.end;
     }
     Ok(words)

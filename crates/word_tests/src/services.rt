@@ -6,7 +6,7 @@ use policy_trait::{Plan, Rest};
 use std::alloc::{AllocError, Global};
 use std::test::Fail;
 use tag_intern::{Decoder, InternEnd, Interner, TagTable};
-use tag_memory::Ram;
+use tag_memory::{Pages, Ram};
 use word_service::{Decoded, WordJob, intern_job};
 
 /// What a service writes, and how it is written in a table for four tags where 70 and 50 have the words 0 and 1.
@@ -129,7 +129,10 @@ fn jobs_in_words(rt: HostRuntime) -> Result<(), Fail> {
 fn memory_of_words(rt: HostRuntime) -> Result<(), Fail> {
     let table = table_of(rt.alloc())?;
     let words = [11, 12, 13].to_vec(rt.alloc())?;
-    let ram = Ram::from_parts(words, [1, 0, 2].to_vec(rt.alloc())?, 0);
+    let tags = Pages::new(rt.alloc(), 3, 0)?
+        .extended(1, 1)?
+        .extended(2, 0)?;
+    let ram = Ram::from_parts(words, tags.extended(3, 2)?, 0);
     for &(address, seen) in SEEN {
         assert!(rt; seen_at(&ram, &table, address) == seen, "at {address}");
     }

@@ -1,16 +1,9 @@
-use Rattle.std.proofs.Common.{sym, ◌∙◌}
-use Rattle.miss_handler.proofs.MissLemmas.{cut_back}
+use Rattle.std.proofs.Common.{ap, sym, ◌∙◌}
+use Rattle.miss_handler.specs.Asked.{answer_on}
 use Rattle.miss_handler.proofs.handler.missed.Goals as goal
 
-pub returns-then-is_err-clause-table : goal.returns-then-is_err-clause-table
-returns-then-is_err-clause-table g c =
-    cut_back g.T.Tag.PartialEq.eq g.met.T.Tag.Eq.laws (g.T.TagTable.state c.args.tags.now) (g.T.TagTable.state c.intern_outs.new.tags)
-    (g.T.TagTable.state c.cut.new.self) c.in-Ok.outs c.len-len.result c.len-len.ensures.len c.in-Ok-intern_outs.ensures.grown c.cut.ensures
-
-pub returns-clause-answered : goal.returns-clause-answered
-returns-clause-answered g c = record {
-  outs = c.in-Ok.outs;
-  allowed = sym c.answer.ensures.answer ∙ c.in-Ok.is;
-  grown = c.in-Ok-intern_outs.ensures.grown;
-  are = c.in-Ok-intern_outs.ensures.words;
-}
+pub returns-clause-stopped : goal.returns-clause-stopped
+returns-clause-stopped g c refused =
+    let stopped = c.answered_anew-end.ensures.stopped refused in
+    let same = ap (λ book. answer_on book (g.T.TagTable.state c.args.tags.now).tags c.args.key.group c.args.key.words) c.again-asked.ensures.book in
+    (λ end. sym same ∙ stopped.0 end, λ refuses. stopped.1 (same ∙ refuses))

@@ -2,6 +2,7 @@ use Rattle.std.proofs.Common.{arith, ◌≡◌, ◌∙◌, ap, length, subst, sy
 use Rattle.std.proofs.lemmas.Bool.{le-ltb}
 use Rattle.pump_engine.specs.Pump.{IsPump, standing_by_words}
 use Rattle.pump_engine.specs.Steps.{pump_start}
+use Rattle.tag_memory.specs.Pages.{items_of}
 use Rattle.word_loader.proofs.CachedLemmas.{has_sizes, ram_in_words, start_is_pump, start_is_read}
 use Rattle.word_loader.proofs.start.start_cached.Goals as goal
 
@@ -23,7 +24,7 @@ new-requires g c =
     let image = c.args.image.now in
     let table = g.T.TagTable.state c.first_words.new.table in
     let harts = c.in-Ok-first_words.parts.0.items in
-    let tags = c.in-Ok-first_words.parts.1.items in
+    let tags = items_of c.in-Ok-first_words.parts.1 in
     let entries = c.entries-entries.ensures in
     let has = has_sizes image c.ram-ram.result c.ram-ram.ensures.value c.ram-ram.ensures.least c.ram-ram.ensures.most
     c.entries-entries.result.now entries.value entries.least entries.most entries.places
@@ -40,7 +41,7 @@ returns-clause-start g c =
     let image = c.args.image.now in
     let table = g.T.TagTable.state c.first_words.new.table in
     let harts = c.in-Ok-first_words.parts.0.items in
-    let tags = c.in-Ok-first_words.parts.1.items in
+    let tags = items_of c.in-Ok-first_words.parts.1 in
     let ram = c.from_parts.ensures ∙ ap (λ memory. ram_in_words memory tags) c.in-Ok-words_of.ensures.words in
     ap (standing_by_words model) (c.new.ensures ∙ (λ j. pump_start policy harts (ram j) table (c.in-Ok-made.ensures.empty j)))
     ∙ start_is_read model policy image table c.in-Ok-first_words.ensures.plain harts tags c.in-Ok-first_words.ensures.harts c.in-Ok-first_words.ensures.words c.args.sets c.args.ways

@@ -5,10 +5,11 @@ use Rattle.engine_trait.specs.Accounts.{with_tags}
 use Rattle.tag_intern.specs.declared.table.InternEnd.TheVariants as intern_end
 use Rattle.tag_intern.proofs.TableLemmas.{extends_on, extends_same}
 use Rattle.word_loader.specs.Named.{AreWordsOf}
+use Rattle.tag_memory.specs.Pages.{items_of}
 use Rattle.tag_loader.specs.Start.{start_tag, start_tags}
 use Rattle.tag_intern.proofs.ComingLemmas.{passed_on}
 use Rattle.word_loader.proofs.NamedLemmas.{run_made, run_over, run_seen, words_made}
-use Rattle.word_loader.proofs.StartLemmas.{run_tag}
+use Rattle.tag_loader.proofs.StartLemmas.{run_tag}
 use Rattle.word_loader.proofs.words.word_tags.Goals as goal
 
 pub returns-in_err-word-clause-full : goal.returns-in_err-word-clause-full
@@ -31,8 +32,8 @@ returns-in_err-word-clause-full g c e =
     (run_over f eq g.met.P.Tag.Eq.laws c.start_word.result before now.tags n run.end c.words_from-run.ensures.some c.loop-n.invariant.seen same now.limit (ram / 4) most
     (c.in_err-word.ensures.over.0 told))
 
-pub returns-in_default-resize-clause-extends : goal.returns-in_default-resize-clause-extends
-returns-in_default-resize-clause-extends g c =
+pub returns-in_default-extended-clause-extends : goal.returns-in_default-extended-clause-extends
+returns-in_default-extended-clause-extends g c =
     extends_on (g.T.TagTable.state c.args.table.now).tags (g.T.TagTable.state c.loop-n.table).tags (g.T.TagTable.state c.intern.new.self).tags
     c.loop-n.invariant.extends c.intern.ensures.extends
 
@@ -42,7 +43,7 @@ loop-n-init g c = record {
   limit = refl;
   extends = extends_same (g.T.TagTable.state c.args.table.now).tags;
   made = λ k d lt. absurd (omega (arith, lt));
-  size = ap length c.in-Ok.ensures.items;
+  size = ap length c.in-Ok.ensures;
   most = omega arith;
   ram = search rules;
   rest = λ at least. search rules;
@@ -65,9 +66,9 @@ loop-n-preserved g c =
       seen = run_seen f eq g.met.P.Tag.Eq.laws c.start_word.result before old n run.end some c.loop-n.invariant.seen same new (λ j. (c.in_ok-word.ensures.grown j).tags);
       limit = search rules;
       extends = extends_on before old new c.loop-n.invariant.extends c.intern.ensures.extends;
-      made = run_made f old new c.intern.ensures.extends c.loop-n.words.items c.resize.new.self.items n run.end c.in_ok-word.word c.start_word.result
-          c.loop-n.invariant.made (λ k d lt below. c.in-Ok-resize.ensures.by_index.0 k d lt (omega (arith, below, c.loop-n.words.ok)))
-          (λ k d least lt. c.in-Ok-resize.ensures.by_index.1 k d refl (omega (arith, least, c.loop-n.words.ok)) lt)
+      made = run_made f old new c.intern.ensures.extends (items_of c.loop-n.words) (items_of c.in-Ok-extended.longer) n run.end c.in_ok-word.word c.start_word.result
+          c.loop-n.invariant.made (λ k d lt below. c.in-Ok-extended.ensures.old k d below)
+          (λ k d least lt. c.in-Ok-extended.ensures.new k d least lt)
           c.in_ok-word.ensures.word same c.loop-n.invariant.size;
       size = search rules;
       most = omega (arith, c.words_from-run.ensures.within, c.loop-n.invariant.ram, c.ram-count.ensures.value);
@@ -88,10 +89,10 @@ unfolding start_tags
 returns-clause-words g c =
     let f = start_tag g.P.Policy.model c.args.policy.now c.args.image.now in
     let now = (g.T.TagTable.state c.loop-n.table).tags in
-    let long : length c.loop-n.words.items ≡ c.args.image.now.ram / 4 =
+    let long : length (items_of c.loop-n.words) ≡ c.args.image.now.ram / 4 =
     omega (arith, c.ram-count.ensures.value, c.loop-n.invariant.most, c.loop-n-test.false, c.loop-n.invariant.size) in
-    subst (λ count. AreWordsOf now (map f (range_with_len 0 count)) c.loop-n.words.items) long
-    (words_made f now 0 c.loop-n.words.items (λ k d lt. c.loop-n.invariant.made k d (omega (arith, lt, c.loop-n.invariant.size)) ∙ (let at : k ≡ 0 + k = omega arith in ap (λ n. Some (f n)) at)))
+    subst (λ count. AreWordsOf now (map f (range_with_len 0 count)) (items_of c.loop-n.words)) long
+    (words_made f now 0 (items_of c.loop-n.words) (λ k d lt. c.loop-n.invariant.made k d (omega (arith, lt, c.loop-n.invariant.size)) ∙ (let at : k ≡ 0 + k = omega arith in ap (λ n. Some (f n)) at)))
 
 pub returns-clause-size : goal.returns-clause-size
 returns-clause-size g c =
