@@ -1,24 +1,35 @@
 -- The turn that ends at each of its steps.
-use Rattle.std.proofs.Common.{◌≡◌, ℕ, ◌≤◌, Bool, true, false, Option, Some, None, Result, Ok, Err, length, refl, ap, ◌∙◌, ◌&&◌, if◌then◌else◌}
+use Rattle.std.proofs.Common.{◌≡◌, ℕ, ◌≤◌, Bool, true, false, Option, Some, None, Result, Ok, Err, length, refl, ap, ◌∙◌, not, ◌&&◌, ◌||◌, if◌then◌else◌}
 use Rattle.std.proofs.lemmas.Bool.{le-ltb}
 use Rattle.policy_trait.specs.Model.{PolicyModel}
 use Rattle.shared_terms.specs.Steps.{◌>>=◌}
 use Rattle.policy_trait.specs.declared.rules.Outs.{Outs}
 use Rattle.monitor_calls.specs.Service.{Job}
 use Rattle.turn_steps.specs.Feeds.{Tape}
-use Rattle.turn_steps.specs.Looks.{is_call}
+use Rattle.rv_step.specs.declared.faults.Fault.TheVariants.{NoService}
+use Rattle.turn_steps.specs.Looks.{is_call, is_system, look_result}
 use Rattle.turn_steps.specs.declared.effects.Done.{Done}
 use Rattle.turn_steps.specs.declared.effects.Done.TheVariants as done
 use Rattle.turn_steps.specs.declared.look.Look.{Look}
 use Rattle.turn_steps.specs.declared.stop.Stop.{Stop}
+use Rattle.turn_steps.specs.declared.stop.Stop.TheVariants as stop
+use Rattle.turn_steps.proofs.StepLemmas.{not_call}
 use Rattle.engine_trait.specs.Events.{event_by, event_of, is_retiring, is_retirement}
 use Rattle.engine_trait.specs.EngineLaws.{is_made}
 use Rattle.engine_trait.specs.Machine.{CoreState, Machine, has_no_stop, hart_at, is_ready_in, stop_at}
-use Rattle.engine_trait.specs.Turn.{Turned, rule_answer, rule_at, attempt, carried_at, turn_effect, end_of, job_at, or_unserved, turn_job, preparation, service_on, settlement, turn_by, turn_of}
+use Rattle.engine_trait.specs.Turn.{Turned, rule_answer, rule_at, attempt, carried_at, turn_effect, end_of, job_at, or_fault, or_unserved, service_look, turn_job, preparation, service_on, settlement, turn_by, turn_of}
 use Rattle.engine_trait.specs.declared.ends.TurnEnd.TheVariants as ends
 
 pub absent_waits : {T : Type 0} (core : CoreState T) (h : ℕ) → length core.harts ≤ h → is_ready_in core h ≡ false
 absent_waits core h past = ap (λ is_there. is_there && has_no_stop (stop_at core h)) (le-ltb h (length core.harts) past)
+
+-- an instruction that is neither an ECALL nor an EBREAK comes to its rule once it is looked at
+pub step_prepared : {S T : Type 0} (m : PolicyModel T S) (s : Machine S T) (h : ℕ) (look : Look) → look_result (hart_at s.core h) s.core.ram ≡ Ok look
+    → is_system look.group ≡ false → preparation m s h ≡ Ok look
+unfolding preparation
+step_prepared m s h look looked plain =
+    ap (λ found. or_fault found >>= service_look m s) looked
+    ∙ ap (λ (call : Bool). if not call || m.knows s.policy look.service then Ok look else Err (stop.Fault (NoService look.service))) (not_call look.group plain)
 
 -- what a service will do, where the turn comes to it
 pub job_ruled : {S T : Type 0} (m : PolicyModel T S) (s : Machine S T) (h : ℕ) (look : Look) (outs : Outs T) → preparation m s h ≡ Ok look → rule_answer m s h look ≡ Ok outs

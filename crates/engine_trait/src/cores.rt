@@ -1,10 +1,11 @@
 //! The core of an engine: harts, their stops, and memory.
 
-ghost use Rattle.std.specs.Prelude.{◌≡◌, ◌≢◌, ◌+◌, ◌%◌, ◌<◌, ◌≤◌, false, IfOk, OnOk, length};
+ghost use Rattle.std.specs.Prelude.{◌≡◌, ◌≢◌, ◌+◌, ◌%◌, ◌<◌, ◌≤◌, false, None, Ok, IfOk, IfSome, OnOk, length};
 ghost use Rattle.std.specs.List.{All};
 ghost use Rattle.tag_memory.specs.Ram.{IsPlace, ram_bytes};
 ghost use Rattle.turn_steps.specs.Effects.{IsSound};
-ghost use Rattle.turn_steps.specs.Looks.{is_call, look_result};
+ghost use Rattle.turn_steps.specs.Feeds.{Tape};
+ghost use Rattle.turn_steps.specs.Looks.{is_call, is_system, look_result, unless_system};
 ghost use Rattle.turn_steps.specs.Services.{args_on};
 ghost use Rattle.engine_trait.specs.Machine.{CoreState, fresh_core, hart_at, stop_at, stopping};
 ghost use Rattle.engine_trait.specs.Standing.{IsFailure};
@@ -16,8 +17,8 @@ use rv_step::Fault;
 use std::marker::Model;
 use tag_memory::{Hart, Ram};
 use turn_steps::{
-    Done, Feed, Look, Stop, answer_to, arguments_of, carry_out, inputs_at, inputs_of, look_ahead,
-    write_words,
+    Done, Feed, Look, Stop, answer_to, arguments_of, carry_out, carry_step, inputs_at, inputs_of,
+    look_ahead, step_look, write_words,
 };
 
 /// The most harts of a machine.
@@ -100,6 +101,21 @@ impl<T: Copy> Core<T> {
         look_ahead(&self.harts[h as usize], &self.ram)
     }
 
+    /// What the hart is about to do, where every check passes and it makes neither an ECALL nor an EBREAK; `None` else.
+    #[inline(always)]
+    pub fn step_look(&self, h: u32) -> Option<Look>
+        requires { h < length self.now.harts }
+        ensures value { result ≡ unless_system (look_result (hart_at self.now h) self.now.ram) }
+        ensures looked { IfSome result
+            (λ look. look_result (hart_at self.now h) self.now.ram ≡ Ok look) }
+        ensures plain { IfSome result (λ look. is_system look.group ≡ false) }
+        ensures within { IfSome result
+            (λ look. (hart_at self.now h).pc + 4 ≤ ram_bytes self.now.ram) }
+        ensures safe { IfSome result (λ look. IsSound (ram_bytes self.now.ram) look.effect) }
+    {
+        step_look(&self.harts[h as usize], &self.ram)
+    }
+
     /// The five tags that the rule of what this hart looks at is asked with. Its pc and its access are in memory, as those of a
     /// look are that this hart gave.
     #[inline(always)]
@@ -145,6 +161,24 @@ impl<T: Copy> Core<T> {
                 TurnEnd::Stopped(Stop::Exit(code))
             }
         }
+    }
+
+    /// The same for an instruction that is neither an ECALL nor an EBREAK: it always steps on, and neither reads a byte nor puts one
+    /// out.
+    #[inline(always)]
+    #[tactic(auto, unfolding(crate::specs::Turn::core_effected, crate::specs::Turn::carried_at))]
+    pub fn step(&mut self, h: u32, look: &Look, outs: Outs<T>)
+        requires hart { h < length self.old.harts }
+        requires plain { is_system look.now.group ≡ false }
+        requires safe { IsSound (ram_bytes self.old.ram) look.now.effect }
+        ensures core { (feed : Tape) → self.new ≡ core_effected self.old feed h look.now outs }
+        ensures feed { (feed : Tape) → (carried_at self.old feed h look.now outs).feed ≡ feed }
+        ensures end { (feed : Tape)
+            → end_of (carried_at self.old feed h look.now outs).done ≡ TurnEnd.Ran None }
+        ensures harts { length self.new.harts ≡ length self.old.harts }
+        ensures bytes { ram_bytes self.new.ram ≡ ram_bytes self.old.ram }
+    {
+        carry_step(&mut self.harts[h as usize], &mut self.ram, look, outs);
     }
 
     /// The stop of hart `h` at its pc, where a rule refused.

@@ -58,6 +58,7 @@ pub(crate) fn effect_of(group: Group) -> Effect
 impl Effect {
     /// The tag of the result, where the operands and the memory word have these tags; `None` where the policy does not
     /// allow them.
+    #[inline(always)]
     pub(crate) fn result(self, first: HeapTag, second: HeapTag, word: HeapTag) -> Option<HeapTag>
         ensures { result ≡ result_by self first second word }
     {

@@ -1,18 +1,18 @@
 //! The engine that keeps tags as values and asks its policy at every turn.
 
-ghost use Rattle.std.specs.Prelude.{◌≡◌, ◌≢◌, ◌+◌, ◌%◌, ◌<◌, ◌≤◌, [], Err, Ok, Some, None, IfErr, IfOk, IsOk, IsTrue, OnOk, false, true, length};
+ghost use Rattle.std.specs.Prelude.{◌≡◌, ◌≢◌, ◌+◌, ◌%◌, ◌<◌, ◌≤◌, [], Err, Ok, Some, None, IfErr, IfOk, IfSome, IsOk, IsTrue, OnOk, false, true, length};
 ghost use Rattle.std.specs.List.{All};
 ghost use Rattle.policy_trait.specs.Model.{IsGiven};
 ghost use Rattle.monitor_calls.specs.Ends.{EndsAs, job_by};
 ghost use Rattle.turn_steps.specs.Effects.{IsSound};
-ghost use Rattle.turn_steps.specs.Feeds.{tape_of};
+ghost use Rattle.turn_steps.specs.Feeds.{Tape, tape_of};
 ghost use Rattle.tag_memory.specs.Hart.{reg_tag, reg_value};
 ghost use Rattle.tag_memory.specs.Ram.{IsPlace, ram_bytes, ram_tag, ram_word};
 ghost use Rattle.engine_trait.specs.Accounts.{IsUncached};
 ghost use Rattle.engine_trait.specs.Machine.{IsMachine, hart_at, stop_at};
 ghost use Rattle.engine_trait.specs.Standing.{GivesUp, IsFailure, StopsOnly, Unchanged, is_ready, step};
 ghost use Rattle.engine_trait.specs.Turn.{rule_answer, turn_effect, is_offered, is_served, preparation, service_on, stopped_at};
-ghost use Rattle.turn_steps.specs.Looks.{is_call};
+ghost use Rattle.turn_steps.specs.Looks.{is_call, is_system, look_result, unless_system};
 ghost use Rattle.plain_engine.specs.Plain.{EndsService, after_asked, after_look_up, after_turn, given_up, machine_of, standing_of};
 
 use engine_trait::{Core, Counts, Engine, Feed, Halt, Stop, TurnEnd};
@@ -81,6 +81,23 @@ impl<P: Policy> Plain<P> {
         ensures { result ≡ is_offered P.model self.now.machine look.now }
     {
         !is_call(look.group) || self.policy.knows(look.service)
+    }
+
+    /// What hart `h` is about to do, where every check passes and it makes neither an ECALL nor an EBREAK; `None` else.
+    #[inline(always)]
+    fn step_look(&self, h: u32) -> Option<Look>
+        requires { h < length self.now.machine.core.harts }
+        ensures value { result ≡ unless_system
+            (look_result (hart_at self.now.machine.core h) self.now.machine.core.ram) }
+        ensures looked { IfSome result (λ look.
+            look_result (hart_at self.now.machine.core h) self.now.machine.core.ram ≡ Ok look) }
+        ensures plain { IfSome result (λ look. is_system look.group ≡ false) }
+        ensures within { IfSome result (λ look. (hart_at self.now.machine.core h).pc + 4
+            ≤ ram_bytes self.now.machine.core.ram) }
+        ensures sound { IfSome result
+            (λ look. IsSound (ram_bytes self.now.machine.core.ram) look.effect) }
+    {
+        self.core.step_look(h)
     }
 
     /// The checks of hart `h`'s turn.
@@ -185,6 +202,27 @@ impl<P: Policy> Plain<P> {
         end
     }
 
+    /// The same for an instruction that is neither an ECALL nor an EBREAK: the turn runs on, and the feed stays.
+    #[inline(always)]
+    fn step(&mut self, h: u32, look: &Look, outs: Outs<P::Tag>) -> TurnEnd
+        requires hart { h < length self.old.machine.core.harts }
+        requires plain { is_system look.now.group ≡ false }
+        requires sound { IsSound (ram_bytes self.old.machine.core.ram) look.now.effect }
+        ensures standing { (feed : Tape) → self.new ≡ after_asked self.old
+            (turn_effect P.model self.old.machine feed h look.now outs None).machine }
+        ensures feed { (feed : Tape) → feed
+            ≡ (turn_effect P.model self.old.machine feed h look.now outs None).feed }
+        ensures end { (feed : Tape) → result
+            ≡ (turn_effect P.model self.old.machine feed h look.now outs None).ended }
+        ensures ran { result ≡ TurnEnd.Ran None }
+        ensures harts { length self.new.machine.core.harts ≡ length self.old.machine.core.harts }
+        ensures bytes { ram_bytes self.new.machine.core.ram ≡ ram_bytes self.old.machine.core.ram }
+    {
+        self.core.step(h, look, outs);
+        self.count_asked();
+        TurnEnd::Ran(None)
+    }
+
     /// The policy's service that hart `h` calls, up to its effect.
     #[tactic(auto, unfolding(engine_trait::specs::Turn::service_on))]
     fn plan(&self, h: u32, look: &Look, outs: Outs<P::Tag>) -> Result<Job<P::Tag>, ServeEnd>
@@ -269,6 +307,43 @@ impl<P: Policy> Plain<P> {
             Err(ServeEnd::Memory) => self.give_up(),
         }
     }
+
+    /// A turn of hart `h`, whichever it is. It stays a call: few turns fail a check, or make an ECALL or an EBREAK, and every turn's code
+    /// would be larger by what those take.
+    #[inline(never)]
+    #[tactic(auto)]
+    fn rare_turn(&mut self, h: u32, feed: &mut Feed) -> TurnEnd
+        requires hart { h < length self.old.machine.core.harts }
+        requires ready { is_ready self.old h ≡ true }
+        ensures step { result ≢ TurnEnd.Memory
+            → step P.Tag.eq P.model self.old feed.old h
+            ≡ record { standing = self.new; feed = feed.new; ended = result } }
+        ensures memory { result ≡ TurnEnd.Memory
+            → GivesUp P.Tag.eq P.model self.old feed.old h self.new feed.new }
+        ensures failure { (why : Stop) → IsFailure why → result ≡ TurnEnd.Stopped why
+            → StopsOnly self.old feed.old h why self.new feed.new }
+        ensures busy { result ≢ TurnEnd.Idle }
+        ensures harts { length self.new.machine.core.harts ≡ length self.old.machine.core.harts }
+        ensures ram { ram_bytes self.new.machine.core.ram ≡ ram_bytes self.old.machine.core.ram }
+        // It never runs out of tag numbers, and of memory only in a policy's service that nothing refuses.
+        ensures words { result ≢ TurnEnd.TagsOut }
+        ensures served { result ≡ TurnEnd.Memory → is_served P.model self.old.machine h ≡ true }
+    {
+        // Serves the proof alone: no rules are kept.
+        let _ready = self.is_ready(h);
+        let look = match self.prepare(h) {
+            Ok(look) => look,
+            Err(why) => return self.stop_unasked(h, why),
+        };
+        let outs = match self.ask(h, &look) {
+            Ok(outs) => outs,
+            Err(why) => return self.stop_asked(h, why),
+        };
+        if is_call(look.group) {
+            return self.service(h, &look, outs);
+        }
+        self.effect(h, feed, &look, outs)
+    }
 }
 
 impl<P: Policy> Engine for Plain<P> {
@@ -321,18 +396,14 @@ impl<P: Policy> Engine for Plain<P> {
     {
         // Serves the proof alone: no rules are kept.
         let _ready = self.is_ready(h);
-        let look = match self.prepare(h) {
-            Ok(look) => look,
-            Err(why) => return self.stop_unasked(h, why),
+        let Some(look) = self.step_look(h) else {
+            return self.rare_turn(h, feed);
         };
         let outs = match self.ask(h, &look) {
             Ok(outs) => outs,
             Err(why) => return self.stop_asked(h, why),
         };
-        if is_call(look.group) {
-            return self.service(h, &look, outs);
-        }
-        self.effect(h, feed, &look, outs)
+        self.step(h, &look, outs)
     }
 
     fn harts(&self) -> u32 {

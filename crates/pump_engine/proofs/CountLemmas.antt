@@ -1,5 +1,5 @@
 -- Checks, look-ups and rules where tags are words are those of the tags that the words stand for.
-use Rattle.std.proofs.Common.{◌≡◌, ℕ, Bool, ◌&&◌, Result, Ok, Err, IsOk, if◌then◌else◌, refl, ap, sym, ◌∙◌, subst}
+use Rattle.std.proofs.Common.{◌≡◌, ℕ, Bool, true, false, not, ◌&&◌, ◌||◌, Result, Ok, Err, IsOk, if◌then◌else◌, refl, ap, sym, ◌∙◌, subst}
 use Rattle.std.proofs.lemmas.Bool.{false≢true}
 use Rattle.policy_trait.specs.Model.{PolicyModel, masked_inputs}
 use Rattle.shared_terms.specs.Steps.{◌>>=◌}
@@ -10,9 +10,10 @@ use Rattle.rv_step.specs.declared.faults.Fault.{Fault}
 use Rattle.rv_step.specs.declared.faults.Fault.TheVariants.{NoService}
 use Rattle.tag_memory.specs.Hart.{HartState}
 use Rattle.tag_memory.specs.Maps.{ram_by}
-use Rattle.turn_steps.specs.Looks.{look_result}
+use Rattle.turn_steps.specs.Looks.{is_system, look_result}
 use Rattle.turn_steps.specs.declared.look.Look.{Look}
 use Rattle.turn_steps.specs.declared.stop.Stop.TheVariants as stop
+use Rattle.turn_steps.proofs.StepLemmas.{not_call}
 use Rattle.turn_steps.proofs.MapLemmas.{looked_by}
 use Rattle.engine_trait.specs.Accounts.{Account, Key, key_of, look_counted, looked_up, rule_counted, rule_kept}
 use Rattle.engine_trait.specs.Machine.{hart_at, is_ready_in}
@@ -55,6 +56,12 @@ module _ {S T : Type 0} (m : PolicyModel T S) (p : PumpState S T) where
       → preparation m (machine_by_words m p) h ≡ (if offered then Ok look else Err (stop.Fault (NoService look.service)))
   offered_by_words h look offered looked is =
       prepared_by_words h (Ok look) looked ∙ ap (λ test. if test then Ok look else Err (stop.Fault (NoService look.service))) is
+
+  -- an instruction that is neither an ECALL nor an EBREAK comes to its rule once it is looked at
+  pub step_by_words : (h : ℕ) (look : Look) → look_result (hart_at p.core h) p.core.ram ≡ Ok look → is_system look.group ≡ false
+      → preparation m (machine_by_words m p) h ≡ Ok look
+  step_by_words h look looked plain =
+      offered_by_words h look true looked (ap (λ (call : Bool). not call || m.knows p.policy look.service) (not_call look.group plain))
 
   -- ---- the rule
 

@@ -1,13 +1,14 @@
 //! The engine whose tags are words of a table, with a cache of rules.
 
-ghost use Rattle.std.specs.Prelude.{◌≡◌, ◌≢◌, ◌+◌, ◌%◌, ◌<◌, ◌≤◌, not, [], Err, Ok, Some, None, IfErr, IfOk, IsOk, IsOkAnd, IsTrue, OnOk, false, true, length};
+ghost use Rattle.std.specs.Prelude.{◌≡◌, ◌≢◌, ◌+◌, ◌%◌, ◌<◌, ◌≤◌, not, [], Err, Ok, Some, None, IfErr, IfOk, IfSome, IsOk, IsOkAnd, IsTrue, OnOk, false, true, length};
 ghost use Rattle.std.specs.List.{All};
 ghost use Rattle.policy_trait.specs.Model.{IsGiven};
 ghost use Rattle.monitor_calls.specs.Ends.{EndsAs, job_by};
 ghost use Rattle.tag_memory.specs.Hart.{reg_tag, reg_value};
 ghost use Rattle.tag_memory.specs.Ram.{IsPlace, ram_bytes, ram_tag, ram_word};
 ghost use Rattle.turn_steps.specs.Effects.{IsSound};
-ghost use Rattle.turn_steps.specs.Looks.{is_call};
+ghost use Rattle.turn_steps.specs.Feeds.{Tape};
+ghost use Rattle.turn_steps.specs.Looks.{is_call, is_system, look_result, unless_system};
 ghost use Rattle.turn_steps.specs.declared.look.Look.{Look as AnyLook};
 ghost use Rattle.engine_trait.specs.Accounts.{is_kept, is_over};
 ghost use Rattle.engine_trait.specs.Machine.{IsMachine, hart_at, stop_at};
@@ -123,6 +124,23 @@ impl<P: Policy, T: TagTable<Tag = P::Tag>, C: RuleStore> Pump<P, T, C> {
         !is_call(look.group) || self.policy.knows(look.service)
     }
 
+    /// What hart `h` is about to do, where every check passes and it makes neither an ECALL nor an EBREAK; `None` else.
+    #[inline(always)]
+    fn step_look(&self, h: u32) -> Option<Look>
+        requires { h < length self.now.core.harts }
+        ensures value { result
+            ≡ unless_system (look_result (hart_at self.now.core h) self.now.core.ram) }
+        ensures looked { IfSome result
+            (λ look. look_result (hart_at self.now.core h) self.now.core.ram ≡ Ok look) }
+        ensures plain { IfSome result (λ look. is_system look.group ≡ false) }
+        ensures within { IfSome result
+            (λ look. (hart_at self.now.core h).pc + 4 ≤ ram_bytes self.now.core.ram) }
+        ensures sound { IfSome result
+            (λ look. IsSound (ram_bytes self.now.core.ram) look.effect) }
+    {
+        self.core.step_look(h)
+    }
+
     /// The checks of hart `h`'s turn, which no tag decides.
     #[inline(always)]
     fn prepare(&self, h: u32) -> Result<Look, Stop>
@@ -231,6 +249,26 @@ impl<P: Policy, T: TagTable<Tag = P::Tag>, C: RuleStore> Pump<P, T, C> {
     {
         self.turns = self.turns.saturating_add(1);
         self.core.effect(h, feed, look, outs)
+    }
+
+    /// The same for an instruction that is neither an ECALL nor an EBREAK: the turn runs on, and the feed stays.
+    #[inline(always)]
+    fn step(&mut self, h: u32, look: &Look, outs: OutWords) -> TurnEnd
+        requires hart { h < length self.old.core.harts }
+        requires plain { is_system look.now.group ≡ false }
+        requires sound { IsSound (ram_bytes self.old.core.ram) look.now.effect }
+        requires out_words { AreOutWords (length self.old.table.tags) outs }
+        ensures state { (feed : Tape) → self.new ≡ after_effect self.old feed h look.now outs }
+        ensures feed { (feed : Tape) → feed ≡ (carried_at self.old.core feed h look.now outs).feed }
+        ensures end { (feed : Tape)
+            → result ≡ end_of (carried_at self.old.core feed h look.now outs).done }
+        ensures ran { result ≡ TurnEnd.Ran None }
+        ensures harts { length self.new.core.harts ≡ length self.old.core.harts }
+        ensures bytes { ram_bytes self.new.core.ram ≡ ram_bytes self.old.core.ram }
+    {
+        self.turns = self.turns.saturating_add(1);
+        self.core.step(h, look, outs);
+        TurnEnd::Ran(None)
     }
 
     /// What the words of the table stand for.
@@ -389,6 +427,47 @@ impl<P: Policy, T: TagTable<Tag = P::Tag>, C: RuleStore> Pump<P, T, C> {
             Err(ServeEnd::Memory) => self.end_without_memory(h, look, outs),
         }
     }
+
+    /// A turn of hart `h`, whichever it is. It stays a call: few turns fail a check, or make an ECALL or an EBREAK, and every turn's code
+    /// would be larger by what those take.
+    #[inline(never)]
+    #[tactic(auto)]
+    fn rare_turn(&mut self, h: u32, feed: &mut Feed) -> TurnEnd
+        requires hart { h < length (standing_by_words P.model self.old).machine.core.harts }
+        requires ready { is_ready (standing_by_words P.model self.old) h ≡ true }
+        ensures step { result ≢ TurnEnd.Memory
+            → step P.Tag.eq P.model (standing_by_words P.model self.old) feed.old h
+            ≡ record { standing = standing_by_words P.model self.new; feed = feed.new; ended = result } }
+        ensures memory { result ≡ TurnEnd.Memory
+            → GivesUp P.Tag.eq P.model (standing_by_words P.model self.old) feed.old h
+            (standing_by_words P.model self.new) feed.new }
+        ensures failure { (why : Stop) → IsFailure why → result ≡ TurnEnd.Stopped why
+            → StopsOnly (standing_by_words P.model self.old) feed.old h why
+            (standing_by_words P.model self.new) feed.new }
+        ensures busy { result ≢ TurnEnd.Idle }
+        ensures harts { length (standing_by_words P.model self.new).machine.core.harts
+            ≡ length (standing_by_words P.model self.old).machine.core.harts }
+        ensures ram { ram_bytes (standing_by_words P.model self.new).machine.core.ram
+            ≡ ram_bytes (standing_by_words P.model self.old).machine.core.ram }
+        // A turn whose rule is kept takes no memory, but for a service of the policy that nothing refuses.
+        ensures kept { result ≡ TurnEnd.Memory
+            → takes_memory P.Tag.eq P.model (standing_by_words P.model self.old) h ≡ true }
+    {
+        // Serves the proof alone: no more tags have words than may.
+        let _ready = self.is_ready(h);
+        let look = match self.prepare(h) {
+            Ok(look) => look,
+            Err(why) => return self.stop_hart(h, why),
+        };
+        let outs = match self.ask(h, &look) {
+            Ok(outs) => outs,
+            Err(end) => return self.end_unanswered(h, end),
+        };
+        if is_call(look.group) {
+            return self.service(h, &look, outs);
+        }
+        self.effect(h, feed, &look, outs)
+    }
 }
 
 impl<P: Policy, T: TagTable<Tag = P::Tag>, C: RuleStore> Engine for Pump<P, T, C> {
@@ -453,18 +532,14 @@ impl<P: Policy, T: TagTable<Tag = P::Tag>, C: RuleStore> Engine for Pump<P, T, C
     {
         // Serves the proof alone: no more tags have words than may.
         let _ready = self.is_ready(h);
-        let look = match self.prepare(h) {
-            Ok(look) => look,
-            Err(why) => return self.stop_hart(h, why),
+        let Some(look) = self.step_look(h) else {
+            return self.rare_turn(h, feed);
         };
         let outs = match self.ask(h, &look) {
             Ok(outs) => outs,
             Err(end) => return self.end_unanswered(h, end),
         };
-        if is_call(look.group) {
-            return self.service(h, &look.again(), outs);
-        }
-        self.effect(h, feed, &look, outs)
+        self.step(h, &look, outs)
     }
 
     fn harts(&self) -> u32 {

@@ -45,3 +45,19 @@ abbrev pub IsAccess : Use → Type 0
 IsAccess used.Nothing = ⊥
 IsAccess used.Value = ⊥
 IsAccess _ = Unit {0}
+
+-- how many bytes an access of this kind touches
+abbrev pub touched_bytes : Use → ℕ
+touched_bytes used.LoadHalf = 2
+touched_bytes used.LoadHalfUnsigned = 2
+touched_bytes used.StoreHalf = 2
+touched_bytes used.LoadWord = 4
+touched_bytes used.StoreWord = 4
+touched_bytes _ = 1
+
+-- whether the number is the address of a store
+abbrev pub is_store : Use → Bool
+is_store used.StoreByte = true
+is_store used.StoreHalf = true
+is_store used.StoreWord = true
+is_store _ = false

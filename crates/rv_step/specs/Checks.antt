@@ -1,5 +1,7 @@
 -- The faults of an effect, in their order: alignment of the access, range of the access, alignment of the jump.
 use Rattle.std.specs.Prelude.{◌≡◌, ℕ, ◌+◌, ◌%◌, ◌==◌, nat_lt, ◌&&◌, not, if◌then◌else◌, IsTrue, IsFalse, Option, Some, None}
+use Rattle.rv_step.specs.Actions.{is_store}
+use Rattle.rv_step.specs.declared.actions.Use.{Use}
 use Rattle.rv_step.specs.Accesses.{bytes_of, IsAligned, EndsWithin}
 use Rattle.rv_step.specs.declared.accesses.Access.{Access}
 use Rattle.rv_step.specs.declared.accesses.Access.TheVariants as access
@@ -19,6 +21,13 @@ access_fault (access.Store addr width _) ram =
     if nat_lt ram (addr + bytes_of width) then Some (StoreRange addr) else
     None
 
+-- the faults of an access by its kind
+abbrev pub alignment_fault : Use → ℕ → Fault
+alignment_fault purpose addr = if is_store purpose then StoreAlign addr else LoadAlign addr
+
+abbrev pub range_fault : Use → ℕ → Fault
+range_fault purpose addr = if is_store purpose then StoreRange addr else LoadRange addr
+
 -- the fault of a jump or a taken branch; one that is not taken has none
 abbrev pub jump_fault : Effect → Option Fault
 jump_fault effect = if effect.taken && not (effect.next % 4 == 0) then Some (JumpAlign effect.next) else None
@@ -34,7 +43,7 @@ first_fault effect ram = first_of (access_fault effect.access ram) (jump_fault e
 abbrev pub GoesOnToWord : Effect → Type 0
 GoesOnToWord effect = IsFalse effect.taken → effect.next % 4 ≡ 0
 
--- nothing that the effect does is outside the machine: its access is aligned and in memory, and a jump goes to a word
+-- nothing that the effect does is range_fault the machine: its access is aligned and in memory, and a jump goes to a word
 pub record IsSafe (ram : ℕ) (effect : Effect) : Type 0 where
   pub aligned : IsAligned effect.access
   pub in_memory : EndsWithin ram effect.access

@@ -3,12 +3,12 @@
 ghost use Rattle.std.specs.Prelude.{◌≡◌, ℕ, ◌%◌, OnOk, if◌then◌else◌};
 ghost use Rattle.std.specs.Option.{unwrap_or};
 ghost use Rattle.std.specs.Result.{result_err};
-ghost use Rattle.rv_step.specs.Actions.{IsAccess, access_by, effect_by, touches};
-ghost use Rattle.rv_step.specs.Checks.{first_fault, GoesOnToWord, IsSafe};
+ghost use Rattle.rv_step.specs.Actions.{IsAccess, access_by, touched_bytes, effect_by, is_store, touches};
+ghost use Rattle.rv_step.specs.Checks.{access_fault, first_fault, alignment_fault, range_fault, GoesOnToWord, IsSafe};
 ghost use Rattle.rv_step.specs.Effects.{jumps, passes};
 
 use crate::accesses::{Access, Width};
-use crate::checks::{check_access, check_next};
+use crate::checks::check_next;
 use crate::effects::Effect;
 use crate::faults::Fault;
 use std::marker::Model;
@@ -208,9 +208,73 @@ impl Action {
         ensures safe { OnOk result (IsSafe ram self.now) }
         ensures to_word { OnOk result (self.now.next % 4 ≡ 0) }
     {
-        check_access(self.access(), ram)?;
+        if self.has_access() {
+            check_touch(self.used, self.number, ram)?;
+        }
         check_next(self)
     }
+}
+
+// The fault of an access of this kind at the address, in a memory of `ram` bytes: alignment, then range. It is told by the use alone,
+// since the access would be made anew of it at every turn.
+#[inline(always)]
+#[tactic(auto, using(crate::proofs::TouchLemmas::touch_fault_is))]
+fn check_touch(used: Use, addr: u32, ram: u32) -> Result<(), Fault>
+    requires { IsAccess used }
+    ensures { (stored : ℕ) → result_err result ≡ access_fault (access_by used addr stored) ram }
+{
+    let bytes = touched_bytes(used);
+    if addr % bytes != 0 {
+        return Err(alignment_fault(used, addr));
+    }
+    if u64::from(ram) < u64::from(addr) + u64::from(bytes) {
+        return Err(range_fault(used, addr));
+    }
+    Ok(())
+}
+
+// How many bytes an access of this kind touches: 1, 2 or 4.
+#[inline(always)]
+fn touched_bytes(used: Use) -> u32
+    ensures { result ≡ touched_bytes used }
+{
+    match used {
+        Use::LoadHalf | Use::LoadHalfUnsigned | Use::StoreHalf => 2,
+        Use::LoadWord | Use::StoreWord => 4,
+        _ => 1,
+    }
+}
+
+// The fault of an access of this kind whose address is no multiple of its width.
+#[inline(always)]
+fn alignment_fault(used: Use, addr: u32) -> Fault
+    ensures { result ≡ alignment_fault used addr }
+{
+    if is_store(used) {
+        Fault::StoreAlign(addr)
+    } else {
+        Fault::LoadAlign(addr)
+    }
+}
+
+// The fault of an access of this kind that passes the end of memory.
+#[inline(always)]
+fn range_fault(used: Use, addr: u32) -> Fault
+    ensures { result ≡ range_fault used addr }
+{
+    if is_store(used) {
+        Fault::StoreRange(addr)
+    } else {
+        Fault::LoadRange(addr)
+    }
+}
+
+// Whether a number that is used so is the address of a store.
+#[inline(always)]
+fn is_store(used: Use) -> bool
+    ensures { result ≡ is_store used }
+{
+    used as u8 >= Use::StoreByte as u8
 }
 
 // A load from the address.

@@ -25,7 +25,7 @@ pub fn check(effect: &Effect, ram: u32) -> Result<(), Fault>
 }
 
 #[inline(always)]
-pub(crate) fn check_access(access: Access, ram: u32) -> Result<(), Fault>
+fn check_access(access: Access, ram: u32) -> Result<(), Fault>
     ensures { result_err result ≡ access_fault access ram }
 {
     match access {

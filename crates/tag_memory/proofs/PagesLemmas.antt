@@ -8,8 +8,8 @@ use Rattle.std.proofs.lemmas.List.FromFn.{length-map-range_with_len, map-range_w
 use Rattle.tag_memory.specs.Pages.{ArePages, IsFirstSlot, PagesState, first_slot, item_of, items_of, shifts_to, slot_of}
 
 -- the slot of an item: so many behind the first one of its page as the item is behind the page's first
-pub slot_is : (n shift : ℕ) → (64 * (n / 64) + shift) % 4294967296 % 64 ≡ 0
-    → (n + shift) % 4294967296 ≡ (64 * (n / 64) + shift) % 4294967296 + n % 64
+pub slot_is : (n shift : ℕ) → (64 * (n / 64) + shift) % 18446744073709551616 % 64 ≡ 0
+    → (n + shift) % 18446744073709551616 ≡ (64 * (n / 64) + shift) % 18446744073709551616 + n % 64
 slot_is n shift aligned = omega (arith, aligned)
 
 slots_apart : (first n m : ℕ) → m / 64 ≡ n / 64 → m ≢ n → first + m % 64 ≢ first + n % 64
@@ -19,8 +19,8 @@ places_apart : (first other n m : ℕ) → first % 64 ≡ 0 → other % 64 ≡ 0
 places_apart first other n m aligned other_aligned differs = omega (arith, aligned, other_aligned, differs)
 
 -- a shift that leads to a place
-placed : (place page : ℕ) → place < 4294967296 → 64 * page < 4294967296
-    → (64 * page + (place + (4294967296 - 64 * page)) % 4294967296) % 4294967296 ≡ place
+placed : (place page : ℕ) → place < 18446744073709551616 → 64 * page < 18446744073709551616
+    → (64 * page + (place + (18446744073709551616 - 64 * page)) % 18446744073709551616) % 18446744073709551616 ≡ place
 placed place page small page_small = omega (arith, small, page_small)
 
 -- one page more has slots of its own
@@ -51,9 +51,9 @@ all_owned (true ∷ owned) = all_owned owned
 
 -- the shift of one page more
 pub shifts_more : (old new : List ℕ) (place count k shift : ℕ) → old ≡ new ++ shifts_to place count k
-    → shift ≡ (place + (4294967296 - (count + 64 * k))) % 4294967296 → old ++ shift ∷ [] ≡ new ++ shifts_to place count (k + 1)
+    → shift ≡ (place + (18446744073709551616 - (count + 64 * k))) % 18446744073709551616 → old ++ shift ∷ [] ≡ new ++ shifts_to place count (k + 1)
 shifts_more old new place count k shift is at =
-    let more = map-range_with_len_more (λ (n : ℕ). (place + (4294967296 - (count + 64 * n))) % 4294967296) 0 k k (omega arith) in
+    let more = map-range_with_len_more (λ (n : ℕ). (place + (18446744073709551616 - (count + 64 * n))) % 18446744073709551616) 0 k k (omega arith) in
     ap (λ list. list ++ shift ∷ []) is
     ∙ append_assoc new (shifts_to place count k) (shift ∷ [])
     ∙ ap (λ s. new ++ (shifts_to place count k ++ s ∷ [])) at
@@ -267,11 +267,11 @@ module _ {T : Type 0} where
       new k d lt = copied_new pages.slots slots from from_within items k d lt ∙ ap (λ first. slice_index_or pages.slots (first + k) d) at_first
 
       abbrev shift : ℕ
-      shift = (place + (4294967296 - 64 * page)) % 4294967296
+      shift = (place + (18446744073709551616 - 64 * page)) % 18446744073709551616
 
       abbrev pub owning : PagesState T
       owning = record {
-        shifts = slice_set pages.shifts page ((place + (4294967296 - 64 * page)) % 4294967296);
+        shifts = slice_set pages.shifts page ((place + (18446744073709551616 - 64 * page)) % 18446744073709551616);
         owned = slice_set pages.owned page true;
         slots = slots;
         count = pages.count;
@@ -292,12 +292,12 @@ module _ {T : Type 0} where
       first_own : first_slot owning.shifts page ≡ length pages.slots
       first_own =
           let at = get_or-set_same pages.shifts page shift 0 within in
-          ap (λ s. (64 * page + s) % 4294967296) at
+          ap (λ s. (64 * page + s) % 18446744073709551616) at
           ∙ placed place page (omega (arith, small, at_end)) (omega (arith, within, are.tight, are.few))
           ∙ at_end
 
       first_other : (q : ℕ) → q ≢ page → first_slot owning.shifts q ≡ first_slot pages.shifts q
-      first_other q differs = ap (λ s. (64 * q + s) % 4294967296) (get_or-set_other pages.shifts page q shift 0 differs)
+      first_other q differs = ap (λ s. (64 * q + s) % 18446744073709551616) (get_or-set_other pages.shifts page q shift 0 differs)
 
       size_kept : length owning.shifts ≡ length pages.shifts
       size_kept = length-set pages.shifts page shift
@@ -393,15 +393,15 @@ module _ {T : Type 0} where
       more_slots = length-append pages.slots (replicate 64 x)
 
       first_old : (q : ℕ) → q < length pages.shifts → first_slot growing.shifts q ≡ first_slot pages.shifts q
-      first_old q lt = ap (λ s. (64 * q + s) % 4294967296) (get_or_append_left pages.shifts (shifts_to place pages.count more) 0 q lt)
+      first_old q lt = ap (λ s. (64 * q + s) % 18446744073709551616) (get_or_append_left pages.shifts (shifts_to place pages.count more) 0 q lt)
 
       first_new : (k : ℕ) → k < more → first_slot growing.shifts (length pages.shifts + k) ≡ place
       first_new k lt =
           let at = get_or-append-add pages.shifts (shifts_to place pages.count more) k 0 in
-          let new = get_or-map-range_with_len (λ (n : ℕ). (place + (4294967296 - (pages.count + 64 * n))) % 4294967296) 0 more k k 0 lt (omega arith) in
+          let new = get_or-map-range_with_len (λ (n : ℕ). (place + (18446744073709551616 - (pages.count + 64 * n))) % 18446744073709551616) 0 more k k 0 lt (omega arith) in
           let same : pages.count + 64 * k ≡ 64 * (length pages.shifts + k) = omega (arith, all_full) in
-          ap (λ s. (64 * (length pages.shifts + k) + s) % 4294967296)
-          (at ∙ new ∙ ap (λ n. (place + (4294967296 - n)) % 4294967296) same)
+          ap (λ s. (64 * (length pages.shifts + k) + s) % 18446744073709551616)
+          (at ∙ new ∙ ap (λ n. (place + (18446744073709551616 - n)) % 18446744073709551616) same)
           ∙ placed place (length pages.shifts + k) (omega (arith, at_end, are.bounded, all_full, some, few)) (omega (arith, all_full, some, few, tight, lt))
 
       first_behind : (q : ℕ) → length pages.shifts ≤ q → q < length growing.shifts → first_slot growing.shifts q ≡ place
@@ -485,7 +485,7 @@ module _ {T : Type 0} where
       same_below n lt =
           let page : n / 64 < length pages.shifts = omega (arith, lt, all_full) in
           let shift = get_or_append_left pages.shifts (shifts_to place pages.count more) 0 (n / 64) page in
-          ap (λ s. slice_index_or growing.slots ((n + s) % 4294967296) pages.blank) shift
+          ap (λ s. slice_index_or growing.slots ((n + s) % 18446744073709551616) pages.blank) shift
           ∙ get_or_append_left pages.slots (replicate 64 x) pages.blank (slot_of pages.shifts n) (slot_within pages n are lt)
 
       new_behind : (n : ℕ) → pages.count ≤ n → n < pages.count + (end - pages.count) → item_of growing.shifts growing.slots pages.blank n ≡ x

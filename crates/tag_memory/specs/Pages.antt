@@ -3,7 +3,7 @@ use Rattle.std.specs.Prelude.{◌≡◌, ◌≢◌, ℕ, ◌+◌, ◌-◌, ◌*�
 use Rattle.std.specs.List.{range_with_len}
 
 pub record PagesState (T : Type 0) : Type 0 where
-  -- of each page, what is added to an item's number to give its slot, modulo 2^32
+  -- of each page, what is added to an item's number to give its slot, modulo 2^64
   pub shifts : List ℕ
   -- of each page, whether no other one has its slots
   pub owned : List Bool
@@ -18,15 +18,15 @@ pub record PagesState (T : Type 0) : Type 0 where
 
 -- the slot of an item, by its number
 abbrev pub slot_of : List ℕ → ℕ → ℕ
-slot_of shifts n = (n + slice_index shifts (n / 64)) % 4294967296
+slot_of shifts n = (n + slice_index shifts (n / 64)) % 18446744073709551616
 
 -- the first slot of a page
 abbrev pub first_slot : List ℕ → ℕ → ℕ
-first_slot shifts page = (64 * page + slice_index shifts page) % 4294967296
+first_slot shifts page = (64 * page + slice_index shifts page) % 18446744073709551616
 
 -- the shifts of so many pages behind so many items, to one place
 abbrev pub shifts_to : ℕ → ℕ → ℕ → List ℕ
-shifts_to place count pages = map (λ k. (place + (4294967296 - (count + 64 * k))) % 4294967296) (range_with_len 0 pages)
+shifts_to place count pages = map (λ k. (place + (18446744073709551616 - (count + 64 * k))) % 18446744073709551616) (range_with_len 0 pages)
 
 -- the item of a number
 abbrev pub item_of : {T : Type 0} → List ℕ → List T → T → ℕ → T

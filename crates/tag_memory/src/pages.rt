@@ -16,7 +16,7 @@ const RUNS: u32 = 64;
 /// are added; and no slot of a page of one item over and over is touched before one of its items is written.
 #[derive(Drop)]
 pub struct Pages<T: Copy> {
-    shifts: Vec<u32>,
+    shifts: Vec<u64>,
     owned: Vec<bool>,
     slots: Vec<T>,
     count: u32,
@@ -53,20 +53,20 @@ impl<T: Copy> Model for Pages<T> {
 
 // The slot of an item, by its number.
 #[inline(always)]
-fn slot_of(shifts: &[u32], n: u32) -> usize
+fn slot_of(shifts: &[u64], n: u32) -> usize
     requires { n / 64 < length shifts.now }
     ensures { result ≡ slot_of shifts.now n }
 {
-    n.wrapping_add(shifts[(n / PAGE) as usize]) as usize
+    u64::from(n).wrapping_add(shifts[(n / PAGE) as usize]) as usize
 }
 
 // The first slot of a page.
-fn first_slot(shifts: &[u32], page: u32) -> usize
+fn first_slot(shifts: &[u64], page: u32) -> usize
     requires within { page < length shifts.now }
     requires small { 64 * page < 4294967296 }
     ensures { result ≡ first_slot shifts.now page }
 {
-    (PAGE * page).wrapping_add(shifts[page as usize]) as usize
+    ((PAGE * page) as u64).wrapping_add(shifts[page as usize]) as usize
 }
 
 // Adds a place for a page, with what stands in another one. There is room for it.
@@ -164,10 +164,10 @@ impl<T: Copy> Pages<T> {
         ensures count { self.new.count ≡ self.old.count }
         ensures owned { slice_index_or self.new.owned page false ≡ true }
     {
-        let place = self.slots.len() as u32;
+        let place = self.slots.len() as u64;
         let from = first_slot(&self.shifts, page);
         copy_place(&mut self.slots, from);
-        self.shifts[page as usize] = place.wrapping_sub(PAGE * page);
+        self.shifts[page as usize] = place.wrapping_sub((PAGE * page) as u64);
         self.owned[page as usize] = true;
         self.shared -= 1;
     }
@@ -247,7 +247,7 @@ impl<T: Copy> Pages<T> {
         let place = self.slots.len();
         self.slots.reserve((PAGE * (shared + 1)) as usize)?;
         self.slots.resize(place + PAGE as usize, item)?;
-        push_shifts(&mut self.shifts, place as u32, self.count, pages)?;
+        push_shifts(&mut self.shifts, place as u64, self.count, pages)?;
         let known = self.owned.len();
         self.owned.resize(known + pages as usize, alone)?;
         self.count = end;
@@ -265,13 +265,13 @@ fn shared_with(shared: u32, pages: u32) -> u32
 }
 
 // Adds the shifts of so many pages behind so many items, to one place.
-fn push_shifts(shifts: &mut Vec<u32>, place: u32, count: u32, pages: u32) -> Result<(), AllocError>
+fn push_shifts(shifts: &mut Vec<u64>, place: u64, count: u32, pages: u32) -> Result<(), AllocError>
     requires { count + 64 * pages < 4294967296 }
     ensures { OnOk result (shifts.new.items
         ≡ shifts.old.items ++ shifts_to place count pages) }
 {
     for k in 0..pages {
-        shifts.push(place.wrapping_sub(count + PAGE * k))?;
+        shifts.push(place.wrapping_sub((count + PAGE * k) as u64))?;
     }
     Ok(())
 }

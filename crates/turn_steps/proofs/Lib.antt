@@ -4,4 +4,5 @@ pub mod LookLemmas
 pub mod MapLemmas
 pub mod PlaceLemmas
 pub mod RowLemmas
+pub mod StepLemmas
 pub mod ValueLemmas

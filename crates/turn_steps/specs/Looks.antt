@@ -1,11 +1,12 @@
 -- What a hart is about to do: the checks of a turn that no policy decides, in their order, and what its rule is asked with.
-use Rattle.std.specs.Prelude.{ℕ, ◌/◌, Bool, true, false, Option, Some, None, Result, Ok, Err, slice_get}
+use Rattle.std.specs.Prelude.{ℕ, ◌/◌, Bool, true, false, if◌then◌else◌, Option, Some, None, Result, Ok, Err, slice_get}
 use Rattle.shared_terms.specs.Steps.{◌>>=◌}
 use Rattle.rv_decode.specs.Decoding.{instr_of_word}
 use Rattle.rv_decode.specs.Groups.{a7, group_of, places_of, reads_of}
 use Rattle.rv_decode.specs.declared.groups.Group.{Group}
 use Rattle.rv_decode.specs.declared.groups.Group.TheVariants as group
 use Rattle.rv_decode.specs.declared.instructions.Instr.{Instr}
+use Rattle.rv_decode.specs.declared.instructions.Instr.TheVariants as instr
 use Rattle.rv_decode.specs.declared.places.Places.{Places}
 use Rattle.rv_step.specs.Effects.{effect_of}
 use Rattle.rv_step.specs.Checks.{first_fault}
@@ -110,3 +111,23 @@ look_result hart ram = do
 abbrev pub is_call : Group → Bool
 is_call group.Call = true
 is_call _ = false
+
+-- the group of an ECALL or an EBREAK
+abbrev pub is_system : Group → Bool
+is_system group.Exit = true
+is_system group.Put = true
+is_system group.Get = true
+is_system group.Break = true
+is_system group.Call = true
+is_system _ = false
+
+-- ECALL and EBREAK
+abbrev pub is_system_instr : Instr → Bool
+is_system_instr instr.Ecall = true
+is_system_instr instr.Ebreak = true
+is_system_instr _ = false
+
+-- the look of a hart that passes the checks and makes neither an ECALL nor an EBREAK
+abbrev pub unless_system : Result Look Fault → Option Look
+unless_system (Ok look) = if is_system look.group then None else Some look
+unless_system (Err fault) = None

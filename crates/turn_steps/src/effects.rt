@@ -1,13 +1,13 @@
 //! What an allowed instruction does.
 
-ghost use Rattle.std.specs.Prelude.{◌≡◌, ◌%◌, Option, false};
+ghost use Rattle.std.specs.Prelude.{◌≡◌, ◌%◌, None, Option, false};
 ghost use Rattle.rv_step.specs.Accesses.{EndsWithin};
 ghost use Rattle.turn_steps.specs.Effects.{IsSound};
 ghost use Rattle.tag_memory.specs.Ram.{ram_bytes};
 ghost use Rattle.tag_memory.specs.Hart.{moved_to};
 ghost use Rattle.turn_steps.specs.Effects.{effect_result, fed_hart, result_value, hart_after, with_store};
-ghost use Rattle.turn_steps.specs.Feeds.{fed_after};
-ghost use Rattle.turn_steps.specs.Looks.{is_call};
+ghost use Rattle.turn_steps.specs.Feeds.{Tape, fed_after};
+ghost use Rattle.turn_steps.specs.Looks.{is_call, is_system};
 
 use crate::feed::Feed;
 use crate::look::Look;
@@ -64,11 +64,25 @@ pub fn carry_out<T: Copy>(
             Done::Broke
         }
         _ => {
-            step(hart, ram, look, outs);
-            store(ram, look.effect.access(), outs.result);
+            carry_step(hart, ram, look, outs);
             Done::Stepped(None)
         }
     }
+}
+
+/// Carries out an instruction that the checks and the rule allowed, and that is neither an ECALL nor an EBREAK: it always steps on,
+/// and neither reads a byte nor puts one out.
+#[inline(always)]
+#[tactic(auto, using(crate::proofs::StepLemmas::step_carried))]
+pub fn carry_step<T: Copy>(hart: &mut Hart<T>, ram: &mut Ram<T>, look: &Look, outs: Outs<T>)
+    requires safe { IsSound (ram_bytes ram.old) look.now.effect }
+    requires plain { is_system look.now.group ≡ false }
+    ensures exact { (feed : Tape) → effect_result hart.old ram.old feed look.now outs
+        ≡ record { hart = hart.new; ram = ram.new; feed = feed; done = Done.Stepped None } }
+    ensures bytes { ram_bytes ram.new ≡ ram_bytes ram.old }
+{
+    step(hart, ram, look, outs);
+    store(ram, look.effect.access(), outs.result);
 }
 
 /// The instruction's own result, and the next pc.

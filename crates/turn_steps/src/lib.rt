@@ -11,10 +11,10 @@ mod registers;
 mod services;
 mod stop;
 
-pub use effects::{Done, carry_out};
+pub use effects::{Done, carry_out, carry_step};
 pub use feed::Feed;
 pub use law::{map_law, steps_law, values_law, words_law};
 pub use look::{Look, is_call};
-pub use looking::{checked, decoded, fetch, inputs_at, inputs_of, look_ahead};
+pub use looking::{checked, decoded, fetch, inputs_at, inputs_of, look_ahead, step_look};
 pub use services::{answer_to, arguments_of, write_words};
 pub use stop::Stop;

@@ -1,12 +1,12 @@
 //! The checks of a turn that no policy decides, in three steps: fetch, decode, and the checks of the
 //! effect; and the tags that the rule is asked with then.
 
-ghost use Rattle.std.specs.Prelude.{◌≡◌, ◌+◌, ◌%◌, ◌≤◌, IfOk, IsFalse, OnOk};
+ghost use Rattle.std.specs.Prelude.{◌≡◌, ◌+◌, ◌%◌, ◌≤◌, Ok, IfOk, IfSome, IsFalse, OnOk, false};
 ghost use Rattle.rv_step.specs.Accesses.{EndsWithin};
 ghost use Rattle.turn_steps.specs.Effects.{IsSound};
 ghost use Rattle.tag_memory.specs.Ram.{ram_bytes};
 ghost use Rattle.turn_steps.specs.Looks.{access_tag, effect_on, inputs_on};
-ghost use Rattle.turn_steps.specs.Looks.{checked_look, fetch_result, look_result, read_instr};
+ghost use Rattle.turn_steps.specs.Looks.{checked_look, fetch_result, is_system, is_system_instr, look_result, read_instr, unless_system};
 
 use crate::look::Look;
 use crate::registers::{reg, reg_tag_at};
@@ -75,6 +75,40 @@ pub fn look_ahead<T: Copy>(hart: &Hart<T>, ram: &Ram<T>) -> Result<Look, Fault>
     let word = fetch(hart, ram)?;
     let instr = decoded(word)?;
     checked(hart, ram, word, &instr)
+}
+
+/// What the hart is about to do, where every check passes and it makes neither an ECALL nor an EBREAK, the SYSTEM instructions (RISC-V
+/// unprivileged ISA); `None` else. Whether it makes one is asked of the instruction: the compiler knows that from its decoding.
+#[inline(always)]
+#[tactic(auto, using(crate::proofs::StepLemmas::step_checked), unfolding(crate::specs::Looks::look_result))]
+pub fn step_look<T: Copy>(hart: &Hart<T>, ram: &Ram<T>) -> Option<Look>
+    ensures value { result ≡ unless_system (look_result hart.now ram.now) }
+    ensures looked { IfSome result (λ look. look_result hart.now ram.now ≡ Ok look) }
+    ensures plain { IfSome result (λ look. is_system look.group ≡ false) }
+    ensures within { IfSome result (λ look. hart.now.pc + 4 ≤ ram_bytes ram.now) }
+    ensures safe { IfSome result (λ look. IsSound (ram_bytes ram.now) look.effect) }
+{
+    let Ok(word) = fetch(hart, ram) else {
+        return None;
+    };
+    let Ok(instr) = decoded(word) else {
+        return None;
+    };
+    if is_system(&instr) {
+        return None;
+    }
+    match checked(hart, ram, word, &instr) {
+        Ok(look) => Some(look),
+        Err(_) => None,
+    }
+}
+
+/// Whether the instruction is an ECALL or an EBREAK.
+#[inline(always)]
+fn is_system(instr: &Instr) -> bool
+    ensures { result ≡ is_system_instr instr.now }
+{
+    matches!(instr, Instr::Ecall | Instr::Ebreak)
 }
 
 /// What the instruction computes of its operands.
