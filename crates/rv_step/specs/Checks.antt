@@ -43,7 +43,7 @@ first_fault effect ram = first_of (access_fault effect.access ram) (jump_fault e
 abbrev pub GoesOnToWord : Effect → Type 0
 GoesOnToWord effect = IsFalse effect.taken → effect.next % 4 ≡ 0
 
--- nothing that the effect does is range_fault the machine: its access is aligned and in memory, and a jump goes to a word
+-- nothing that the effect does is outside the machine: its access is aligned and in memory, and a jump goes to a word
 pub record IsSafe (ram : ℕ) (effect : Effect) : Type 0 where
   pub aligned : IsAligned effect.access
   pub in_memory : EndsWithin ram effect.access
