@@ -2,6 +2,7 @@
 use Rattle.std.specs.Prelude.{◌≡◌, ℕ, Bool, true, false, Option, Some, None}
 use Rattle.rv_step.specs.declared.accesses.Access.{Access}
 use Rattle.rv_step.specs.declared.accesses.Access.TheVariants as access
+use Rattle.rv_step.specs.declared.accesses.Width.{Width}
 use Rattle.rv_step.specs.declared.accesses.Width.TheVariants.{Byte, Half, Full}
 use Rattle.rv_step.specs.declared.actions.Use.{Use}
 use Rattle.rv_step.specs.declared.actions.Use.TheVariants as used
@@ -46,14 +47,14 @@ IsAccess used.Nothing = ⊥
 IsAccess used.Value = ⊥
 IsAccess _ = Unit {0}
 
--- how many bytes an access of this kind touches
-abbrev pub touched_bytes : Use → ℕ
-touched_bytes used.LoadHalf = 2
-touched_bytes used.LoadHalfUnsigned = 2
-touched_bytes used.StoreHalf = 2
-touched_bytes used.LoadWord = 4
-touched_bytes used.StoreWord = 4
-touched_bytes _ = 1
+-- how much an access of this kind touches
+abbrev pub width_by : Use → Width
+width_by used.LoadHalf = Half
+width_by used.LoadHalfUnsigned = Half
+width_by used.StoreHalf = Half
+width_by used.LoadWord = Full
+width_by used.StoreWord = Full
+width_by _ = Byte
 
 -- whether the number is the address of a store
 abbrev pub is_store : Use → Bool

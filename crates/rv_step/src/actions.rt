@@ -3,12 +3,12 @@
 ghost use Rattle.std.specs.Prelude.{◌≡◌, ℕ, ◌%◌, OnOk, if◌then◌else◌};
 ghost use Rattle.std.specs.Option.{unwrap_or};
 ghost use Rattle.std.specs.Result.{result_err};
-ghost use Rattle.rv_step.specs.Actions.{IsAccess, access_by, touched_bytes, effect_by, is_store, touches};
+ghost use Rattle.rv_step.specs.Actions.{IsAccess, access_by, effect_by, is_store, touches, width_by};
 ghost use Rattle.rv_step.specs.Checks.{access_fault, first_fault, alignment_fault, range_fault, GoesOnToWord, IsSafe};
 ghost use Rattle.rv_step.specs.Effects.{jumps, passes};
 
 use crate::accesses::{Access, Width};
-use crate::checks::check_next;
+use crate::checks::{check_next, passes_end};
 use crate::effects::Effect;
 use crate::faults::Fault;
 use std::marker::Model;
@@ -59,9 +59,10 @@ impl Model for Action {
 // What makes an action has hints alone: were it always inlined, in some forty arms, what looks ahead, and an engine's turn with it,
 // would be too large for the compiler to inline, and that costs a turn much more.
 impl Action {
-    /// Going on to the instruction behind `pc`, and nothing else.
+    /// Going on to the instruction behind `pc`, and nothing else: what ECALL and EBREAK do here (RISC-V unprivileged ISA; what a
+    /// service does beside that is not an instruction's).
     #[inline]
-    pub(crate) fn passing(pc: u32) -> Action
+    pub fn passing(pc: u32) -> Action
         ensures { result ≡ passes pc }
     {
         Action {
@@ -114,20 +115,6 @@ impl Action {
             self.next = target;
         }
         self.taken = taken;
-    }
-
-    /// The same effect once more.
-    #[inline(always)]
-    pub fn again(&self) -> Action
-        ensures { result ≡ self.now }
-    {
-        Action {
-            next: self.next,
-            number: self.number,
-            stored: self.stored,
-            used: self.used,
-            taken: self.taken,
-        }
     }
 
     /// The pc of the next instruction.
@@ -223,25 +210,25 @@ fn check_touch(used: Use, addr: u32, ram: u32) -> Result<(), Fault>
     requires { IsAccess used }
     ensures { (stored : ℕ) → result_err result ≡ access_fault (access_by used addr stored) ram }
 {
-    let bytes = touched_bytes(used);
-    if addr % bytes != 0 {
+    let width = width_of(used);
+    if addr % width.bytes() != 0 {
         return Err(alignment_fault(used, addr));
     }
-    if u64::from(ram) < u64::from(addr) + u64::from(bytes) {
+    if passes_end(addr, width, ram) {
         return Err(range_fault(used, addr));
     }
     Ok(())
 }
 
-// How many bytes an access of this kind touches: 1, 2 or 4.
+// How much an access of this kind touches.
 #[inline(always)]
-fn touched_bytes(used: Use) -> u32
-    ensures { result ≡ touched_bytes used }
+fn width_of(used: Use) -> Width
+    ensures { result ≡ width_by used }
 {
     match used {
-        Use::LoadHalf | Use::LoadHalfUnsigned | Use::StoreHalf => 2,
-        Use::LoadWord | Use::StoreWord => 4,
-        _ => 1,
+        Use::LoadHalf | Use::LoadHalfUnsigned | Use::StoreHalf => Width::Half,
+        Use::LoadWord | Use::StoreWord => Width::Full,
+        _ => Width::Byte,
     }
 }
 

@@ -53,7 +53,7 @@ fn check_access(access: Access, ram: u32) -> Result<(), Fault>
 
 // Whether the access ends past a memory of `ram` bytes.
 #[inline(always)]
-fn passes_end(addr: u32, width: Width, ram: u32) -> bool
+pub(crate) fn passes_end(addr: u32, width: Width, ram: u32) -> bool
     ensures { result ≡ nat_lt ram (addr + bytes_of width) }
 {
     u64::from(ram) < u64::from(addr) + u64::from(width.bytes())

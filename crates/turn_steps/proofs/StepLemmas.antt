@@ -1,5 +1,5 @@
 -- An instruction that is neither an ECALL nor an EBREAK: how it is told, that it calls no service, and what it leaves.
-use Rattle.std.proofs.Common.{◌≡◌, ℕ, ◌==◌, Bool, true, false, if◌then◌else◌, Option, Some, None, Result, Ok, Err, refl, ap, sym, ◌∙◌}
+use Rattle.std.proofs.Common.{◌≡◌, ℕ, ◌%◌, ◌==◌, Bool, true, false, if◌then◌else◌, Option, Some, None, Result, Ok, Err, refl, ap, sym, ◌∙◌}
 use Rattle.std.proofs.lemmas.Option.{none-some, same_Some}
 use Rattle.shared_terms.specs.Steps.{◌>>=◌}
 use Rattle.rv_decode.specs.Groups.{a7, exit_service, get_service, group_of, put_service}
@@ -7,13 +7,15 @@ use Rattle.rv_decode.specs.declared.groups.Group.{Group}
 use Rattle.rv_decode.specs.declared.groups.Group.TheVariants as group
 use Rattle.rv_decode.specs.declared.instructions.Instr.{Instr}
 use Rattle.rv_decode.specs.declared.instructions.Instr.TheVariants as instr
+use Rattle.rv_step.specs.CheckLaws.{next_aligned}
 use Rattle.rv_step.specs.Checks.{first_fault}
+use Rattle.rv_step.specs.Effects.{passes}
 use Rattle.rv_step.specs.declared.effects.Effect.{Effect}
 use Rattle.rv_step.specs.declared.faults.Fault.{Fault}
 use Rattle.policy_trait.specs.declared.rules.Outs.{Outs}
 use Rattle.tag_memory.specs.Hart.{HartState, reg_value}
 use Rattle.tag_memory.specs.Ram.{RamState, ram_bytes}
-use Rattle.turn_steps.specs.Effects.{Carried, carried_by, effect_result, hart_after, with_store}
+use Rattle.turn_steps.specs.Effects.{Carried, IsSound, carried_by, effect_result, hart_after, with_store}
 use Rattle.turn_steps.specs.Feeds.{Tape}
 use Rattle.turn_steps.specs.Looks.{checked_look, effect_at, effect_or_fault, fetch_result, is_call, is_system, is_system_instr, look_at, look_result, read_instr, unless_system}
 use Rattle.turn_steps.specs.declared.effects.Done.TheVariants.{Stepped}
@@ -105,6 +107,17 @@ module _ {T : Type 0} (hart : HartState T) (ram : RamState T) (word : ℕ) (it :
       ∙ step_checked
       ∙ ap (λ system. if system then None else or_none (checked_look hart ram word it)) plain
       ∙ ap or_none checked
+
+-- an ECALL or an EBREAK passes every check
+pub system_checked : {T : Type 0} (hart : HartState T) (ram : RamState T) (word : ℕ) (it : Instr) → is_system_instr it ≡ true
+    → checked_look hart ram word it ≡ Ok (look_at hart word it (passes hart.pc))
+system_checked hart ram word instr.Ecall system = refl
+system_checked hart ram word instr.Ebreak system = refl
+system_checked hart ram word _ system = absurd cc
+
+-- and is carried out within the machine, at a pc that is that of a word
+pub system_sound : (bytes pc : ℕ) → pc % 4 ≡ 0 → IsSound bytes (passes pc)
+system_sound bytes pc aligned = record { in_memory = cc; to_word = next_aligned instr.Ecall pc 0 0 bytes aligned refl }
 
 -- what such a look says
 pub step_looked : (found : Result Look Fault) (look : Look) → unless_system found ≡ Some look → (found ≡ Ok look) × (is_system look.group ≡ false)

@@ -1,10 +1,10 @@
 //! The checks of a turn that no policy decides, in three steps: fetch, decode, and the checks of the
 //! effect; and the tags that the rule is asked with then.
 
-ghost use Rattle.std.specs.Prelude.{◌≡◌, ◌+◌, ◌%◌, ◌≤◌, Ok, IfOk, IfSome, IsFalse, OnOk, false};
+ghost use Rattle.std.specs.Prelude.{◌≡◌, ℕ, ◌+◌, ◌%◌, ◌≤◌, Ok, IfOk, IfSome, IsFalse, OnOk, false, true};
 ghost use Rattle.rv_step.specs.Accesses.{EndsWithin};
 ghost use Rattle.turn_steps.specs.Effects.{IsSound};
-ghost use Rattle.tag_memory.specs.Ram.{ram_bytes};
+ghost use Rattle.tag_memory.specs.Ram.{RamState, ram_bytes};
 ghost use Rattle.turn_steps.specs.Looks.{access_tag, effect_on, inputs_on};
 ghost use Rattle.turn_steps.specs.Looks.{checked_look, fetch_result, is_system, is_system_instr, look_result, read_instr, unless_system};
 
@@ -74,7 +74,29 @@ pub fn look_ahead<T: Copy>(hart: &Hart<T>, ram: &Ram<T>) -> Result<Look, Fault>
 {
     let word = fetch(hart, ram)?;
     let instr = decoded(word)?;
+    if is_system(&instr) {
+        return Ok(system_look(hart, word, &instr));
+    }
     checked(hart, ram, word, &instr)
+}
+
+/// What the hart is about to do by an ECALL or an EBREAK, which no check stops: it makes no access and doesn't jump. The word is the
+/// one at the pc, and the instruction that of the word.
+#[inline(always)]
+#[tactic(auto, using(crate::proofs::StepLemmas::system_checked, crate::proofs::StepLemmas::system_sound))]
+fn system_look<T: Copy>(hart: &Hart<T>, word: u32, instr: &Instr) -> Look
+    requires { is_system_instr instr.now ≡ true }
+    ensures value { (ram : RamState T) → checked_look hart.now ram word instr.now ≡ Ok result }
+    ensures safe { (bytes : ℕ) → IsSound bytes result.effect }
+{
+    let service = reg(hart, Register::A7);
+    Look {
+        word,
+        effect: Action::passing(hart.pc()),
+        service,
+        group: instr.group(service),
+        places: instr.places(service),
+    }
 }
 
 /// What the hart is about to do, where every check passes and it makes neither an ECALL nor an EBREAK, the SYSTEM instructions (RISC-V
