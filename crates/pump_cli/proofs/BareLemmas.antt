@@ -1,5 +1,5 @@
 -- Where no policy is chosen, a run under the policy that is nothing is the one that is due.
-use Rattle.std.proofs.Common.{◌≡◌, ℕ, ◌≤◌, ◌==◌, nat_lt, Bool, true, false, List, length, ◌++◌, refl, ap, sym, ◌∙◌, if◌then◌else◌}
+use Rattle.std.proofs.Common.{◌≡◌, ℕ, ◌≤◌, nat_lt, Bool, true, false, List, length, ◌++◌, refl, ap, sym, ◌∙◌, if◌then◌else◌}
 use Rattle.std.proofs.lemmas.Bool.{le-ltb}
 use Rattle.image_format.specs.Picture.{Picture}
 use Rattle.turn_steps.specs.Feeds.{tape_of}
@@ -11,6 +11,7 @@ use Rattle.policy_product.specs.Nothing.{nothing, no_tag}
 use Rattle.rounds.specs.Course.{Course, rounds}
 use Rattle.rounds.specs.Same.{ShowsSame}
 use Rattle.rounds.proofs.MirrorLemmas.{rounds_same}
+use Rattle.cache_size.specs.Sizes.{keeps_no_rule}
 use Rattle.pump_loader.specs.ChosenLoads.{chosen_start_of}
 use Rattle.pump_loader.specs.Loads.{cached_start_of}
 use Rattle.pump_loader.specs.PlainLoads.{bare_start_of, start_of}
@@ -57,5 +58,5 @@ module _ (task : RunTask) (picture : Picture) (fed : List ℕ) (none : is_none t
   bare_outcome =
       same_outcome (rounds all_eq all task.turns 0 (start_of (basis_of task.choice) picture) (tape_of fed)) (rounds one_eq nothing task.turns 0 (bare_start_of picture) (tape_of fed))
       (rounds_same all_eq one_eq no_tag all nothing task.turns 0 (start_of (basis_of task.choice) picture) (bare_start_of picture) (tape_of fed) (bare_start_mirrors (basis_of task.choice) picture none))
-      ∙ plain_by (task.cache == 0)
+      ∙ plain_by (keeps_no_rule task.cache)
       ∙ started_outcome task picture (basis_of task.choice) refl (chosen_start_of (basis_of task.choice) task.cache task.tags picture) refl fed

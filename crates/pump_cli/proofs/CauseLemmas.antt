@@ -1,5 +1,5 @@
 -- How a run came to its status: the turns that it made, or the end of the tag numbers.
-use Rattle.std.proofs.Common.{◌≡◌, ℕ, Bool, true, false, List, [], Option, Some, None, Result, Ok, Err, IfSome, ◌==◌, if◌then◌else◌, refl}
+use Rattle.std.proofs.Common.{◌≡◌, ℕ, Bool, true, false, List, [], Option, Some, None, Result, Ok, Err, IfSome, if◌then◌else◌, refl}
 use Rattle.image_format.specs.Picture.{Picture}
 use Rattle.turn_steps.specs.Feeds.{tape_of}
 use Rattle.turn_steps.specs.declared.stop.Stop.{Stop}
@@ -10,6 +10,7 @@ use Rattle.engine_trait.specs.declared.ends.Halt.TheVariants as halt
 use Rattle.policy_choice.specs.All.{AllState, AllTag, all, all_eq}
 use Rattle.rounds.specs.Course.{Course, hart_stops}
 use Rattle.rounds.proofs.SpentLemmas.{rounds_have_memory, rounds_spent, turn_is_next}
+use Rattle.cache_size.specs.Sizes.{keeps_no_rule}
 use Rattle.pump_loader.specs.Loads.{cached_start_of}
 use Rattle.pump_line.specs.Task.{RunTask, Task, assemble, disassemble, load, run, shell, task_of}
 use Rattle.pump_cli.specs.Endings.{Outcome, has_any, is_of, is_out, status_of, status_of_stops}
@@ -93,7 +94,7 @@ module _ (task : RunTask) (picture : Picture) where
     Ended status = status ≡ status_of the_course.standing.account.halt (hart_stops the_course.standing.machine.core)
 
     has_memory : the_course.standing.account.halt ≡ Some halt.Memory → ⊥
-    has_memory = rounds_have_memory all_eq all task.turns 0 (start_of_run task picture) (tape_of fed) (start_by (task.cache == 0))
+    has_memory = rounds_have_memory all_eq all task.turns 0 (start_of_run task picture) (tape_of fed) (start_by (keeps_no_rule task.cache))
 
     spent_left : LeftReady the_course.standing.account.halt (hart_stops the_course.standing.machine.core) → IsSpent task picture fed
     spent_left left =

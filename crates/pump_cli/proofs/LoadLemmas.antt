@@ -12,6 +12,7 @@ use Rattle.workload_laws.specs.Images.{image_of_workload}
 use Rattle.workload_laws.proofs.DraftLemmas.{workload_pictured}
 use Rattle.workload_laws.proofs.WorkloadLemmas.{workload_assembled}
 use Rattle.pump_line.specs.Request.{Request, assemble_asked, disassemble_asked, load_asked, request_of, run_asked, shell_asked}
+use Rattle.cache_size.specs.declared.size.CacheSize.{CacheSize}
 use Rattle.pump_line.specs.Task.{LoadTask, RunTask, ShellTask, Task, count_of, load, load_task_in, load_with, number_of, run, shell, task_in, task_of}
 use Rattle.pump_line.proofs.ValueLemmas.{within as number_in}
 use Rattle.pump_cli.specs.Program.{outcome_of_image, outcome_of_load, outcome_of_words, program}
@@ -34,7 +35,7 @@ most_taken least most (Some n) taken is =
 few_blocks : (text : Text) (n : ℕ) → count_of text ≡ Some n → n ≤ 1000
 few_blocks text n is = most_taken 1 1000 (number_of text) n is
 
-blocks_in_load : (count cache tags : Option ℕ) (task : LoadTask) → ((n : ℕ) → count ≡ Some n → n ≤ 1000) → load_with count cache tags ≡ Some task
+blocks_in_load : (count : Option ℕ) (cache : Option CacheSize) (tags : Option ℕ) (task : LoadTask) → ((n : ℕ) → count ≡ Some n → n ≤ 1000) → load_with count cache tags ≡ Some task
     → task.count ≤ 1000
 blocks_in_load None cache tags task few is = absurd cc
 blocks_in_load (Some blocks) None tags task few is = absurd cc

@@ -17,6 +17,7 @@ use Rattle.engine_trait.specs.Machine.{Machine}
 use Rattle.rounds.specs.Course.{rounds}
 use Rattle.rounds.specs.Same.{ShowsSame}
 use Rattle.pump_loader.specs.PlainLoads.{start_of}
+use Rattle.cache_size.specs.declared.size.CacheSize.{CacheSize}
 use Rattle.pump_loader.specs.Loads.{cached_start_of}
 use Rattle.tag_loader.specs.Start.{start_hart, start_harts, start_machine, start_tag, start_tags}
 use Rattle.word_loader.specs.CachedStart.{first_tags, pc_tags}
@@ -85,7 +86,7 @@ none_shows basis g s a turns from feed none policy seen some_tags runs =
     })
 
 -- an engine that keeps rules, from the image's start, shows the same as one that keeps none
-pub none_runs : (basis : Basis) (cache tags : ℕ) (g : Picture) (turns from : ℕ) (feed : Tape) → is_none basis.choice ≡ true → 1 ≤ tags
+pub none_runs : (basis : Basis) (cache : CacheSize) (tags : ℕ) (g : Picture) (turns from : ℕ) (feed : Tape) → is_none basis.choice ≡ true → 1 ≤ tags
     → ShowsSame (rounds all_eq all turns from (cached_start_of basis cache tags g) feed) (rounds all_eq all turns from (start_of basis g) feed)
 unfolding start_machine
 none_runs basis cache tags g turns from feed none some_tags =

@@ -1,5 +1,5 @@
 -- What a session tells is told of the runs that it makes.
-use Rattle.std.proofs.Common.{◌≡◌, ℕ, Bool, true, false, ◌==◌, List, [], ◌∷◌, ◌++◌, Option, Some, None, Result, Ok, Err, if◌then◌else◌, refl, ap, subst, ◌∙◌}
+use Rattle.std.proofs.Common.{◌≡◌, ℕ, Bool, true, false, List, [], ◌∷◌, ◌++◌, Option, Some, None, Result, Ok, Err, if◌then◌else◌, refl, ap, subst, ◌∙◌}
 use Rattle.image_format.specs.Picture.{Picture}
 use Rattle.turn_steps.specs.Feeds.{tape_of}
 use Rattle.engine_trait.specs.Accounts.{is_over}
@@ -9,6 +9,7 @@ use Rattle.engine_trait.specs.Runs.{Item, run_along}
 use Rattle.engine_trait.specs.Standing.{Standing}
 use Rattle.policy_choice.specs.All.{AllState, AllTag, all, all_eq, choice_state}
 use Rattle.tag_loader.specs.Start.{start_machine}
+use Rattle.cache_size.specs.Sizes.{keeps_no_rule}
 use Rattle.pump_loader.specs.PlainLoads.{start_of}
 use Rattle.pump_loader.specs.Loads.{cached_start_of}
 use Rattle.run_props.specs.Safe.{run_of}
@@ -42,7 +43,7 @@ module _ (task : ShellTask) (g : Picture) where
 
   start_is : start.machine ≡ machine
   unfolding start_of_setup
-  start_is = start_by (task.cache == 0)
+  start_is = start_by (keeps_no_rule task.cache)
 
   -- the session has not begun its run
   begins : IsAlong all_eq all (session_over task g) []

@@ -1,5 +1,5 @@
 -- What the start of an engine has to do with the run: one that needs more words than there may be makes no turn.
-use Rattle.std.proofs.Common.{◌≡◌, ℕ, zero, suc, ◌==◌, Bool, true, false, List, Some, refl, ap, ◌∙◌, if◌then◌else◌}
+use Rattle.std.proofs.Common.{◌≡◌, ℕ, zero, suc, Bool, true, false, List, Some, refl, ap, ◌∙◌, if◌then◌else◌}
 use Rattle.image_format.specs.Picture.{Picture}
 use Rattle.policy_choice.specs.All.{AllState, AllTag, all, all_eq}
 use Rattle.policy_choice.specs.declared.basis.Basis.{Basis}
@@ -10,6 +10,7 @@ use Rattle.engine_trait.specs.Standing.{Standing}
 use Rattle.engine_trait.specs.declared.ends.Halt.{Halt}
 use Rattle.engine_trait.specs.declared.ends.Halt.TheVariants as halt
 use Rattle.rounds.specs.Course.{Course, next_turn, rounds, stays}
+use Rattle.cache_size.specs.Sizes.{keeps_no_rule}
 use Rattle.pump_loader.specs.ChosenLoads.{chosen_start_of}
 use Rattle.pump_loader.specs.Loads.{cached_start_of}
 use Rattle.pump_loader.specs.PlainLoads.{start_of}
@@ -72,7 +73,7 @@ module _ (task : RunTask) (picture : Picture) where
     started : standing_at_start start ≡ start_of_run task picture
     started =
         ap (λ (from : Standing AllState AllTag). standing_at_start from)
-        (chosen ∙ ap (λ (rests : Basis). chosen_start_of rests task.cache task.tags picture) on) ∙ run_start_if (task.cache == 0)
+        (chosen ∙ ap (λ (rests : Basis). chosen_start_of rests task.cache task.tags picture) on) ∙ run_start_if (keeps_no_rule task.cache)
 
     module _ (fed : List ℕ) where
       pub started_course : rounds all_eq all task.turns 0 (standing_at_start start) (tape_of fed) ≡ course_of_run task picture fed

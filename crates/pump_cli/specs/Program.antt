@@ -1,5 +1,5 @@
 -- The program: what it writes and its status, from the words, what the files hold and what the input gives.
-use Rattle.std.specs.Prelude.{ℕ, ◌+◌, ◌*◌, ◌==◌, Bool, true, List, [], ◌∷◌, ◌++◌, Option, Some, None, Result, Ok, Err, if◌then◌else◌}
+use Rattle.std.specs.Prelude.{ℕ, ◌+◌, ◌*◌, Bool, true, List, [], ◌∷◌, ◌++◌, Option, Some, None, Result, Ok, Err, if◌then◌else◌}
 use Rattle.image_format.specs.Picture.{Picture}
 use Rattle.host_io.specs.Pieces.{err, out}
 use Rattle.tag_text.specs.Texts.{line}
@@ -13,6 +13,7 @@ use Rattle.policy_choice.specs.declared.basis.Basis.{Basis}
 use Rattle.policy_choice.specs.declared.choice.Choice.{Choice}
 use Rattle.rounds.specs.Course.{Course, hart_stops, rounds}
 use Rattle.pump_loader.specs.PlainLoads.{start_of}
+use Rattle.cache_size.specs.Sizes.{keeps_no_rule}
 use Rattle.pump_loader.specs.Loads.{cached_start_of}
 use Rattle.pump_shell.specs.Told.{Told, out_at_start as none_executed, start_of_setup, told_of}
 use Rattle.pump_shell.specs.declared.ends.SessionEnd.{SessionEnd}
@@ -49,10 +50,10 @@ started_account account = if is_over account then record account { halt = Some h
 abbrev pub standing_at_start : {S T : Type 0} → Standing S T → Standing S T
 standing_at_start e = record { machine = e.machine; account = started_account e.account }
 
--- with a cache of 0 no rules are kept, and no tag has a word
+-- where no rules are kept, no tag has a word
 abbrev pub account_of_run : RunTask → Picture → Account AllTag
 account_of_run task picture =
-    started_account (if task.cache == 0 then plain_account else (cached_start_of (basis_of task.choice) task.cache task.tags picture).account)
+    started_account (if keeps_no_rule task.cache then plain_account else (cached_start_of (basis_of task.choice) task.cache task.tags picture).account)
 
 -- the image's start under the chosen policies, whatever is kept
 abbrev pub start_of_run : RunTask → Picture → Standing AllState AllTag

@@ -1,6 +1,7 @@
 //! `load`: a workload, by the image of its source, its turns, and the line that tells how they went.
 
 ghost use Rattle.std.specs.Prelude.{◌≡◌, ℕ, [], List, Option, ◌+◌, ◌*◌, ◌≤◌, Ok, Err, IfOk, OnOk};
+ghost use Rattle.cache_size.specs.Sizes.{IsCacheSize};
 ghost use Rattle.turn_steps.specs.Feeds.{tape_of};
 ghost use Rattle.engine_trait.specs.Accounts.{counts_of};
 ghost use Rattle.rounds.specs.Course.{hart_stops, rounds};
@@ -167,7 +168,8 @@ fn run_workload<K: Sink>(
     image: &Image,
     out: &mut K,
 ) -> Result<Status, Cut>
-    requires { 1 ≤ task.tags }
+    requires rules { IsCacheSize task.cache }
+    requires tags { 1 ≤ task.tags }
     ensures does { (err : Option (List ℕ)) → Does
         (outcome_of_load (load_value task) image.now)
         (record { out = K.taken out.old; err = err })
@@ -180,6 +182,7 @@ fn run_workload<K: Sink>(
     match chosen_load(alloc, image, basis_of(EVERY_POLICY), task.cache, task.tags) {
         ChosenLoad::Asked(loader) => run_blocks(alloc, task.count, &loader, out),
         ChosenLoad::Kept(loader) => run_blocks(alloc, task.count, &loader, out),
+        ChosenLoad::InSets(loader) => run_blocks(alloc, task.count, &loader, out),
     }
 }
 
@@ -192,7 +195,8 @@ pub(crate) fn load_task<F: Files, S: Source, K: Sink, L: Sink>(
     out: &mut K,
     err: &mut L,
 ) -> Result<Status, Cut>
-    requires { 1 ≤ task.tags }
+    requires rules { IsCacheSize task.cache }
+    requires tags { 1 ≤ task.tags }
     ensures { HeadlineOf (load (load_value task)) (status_in result)
         (environment F.tells F.held F.read_faults F.write_faults F.calls S.left S.closed S.faults
         K.taken K.faults L.taken L.faults files.old input.old out.old err.old)

@@ -5,7 +5,7 @@ ghost use Rattle.host_io.specs.Bytes.{AreBytes, TellBytes};
 ghost use Rattle.image_format.specs.Picture.{Picture};
 ghost use Rattle.workload_laws.specs.Images.{image_of_workload};
 ghost use Rattle.pump_line.specs.Request.{DisassembleTask};
-ghost use Rattle.pump_line.specs.Task.{AllowsTags, LoadTask, disassemble, load, task_of};
+ghost use Rattle.pump_line.specs.Task.{AllowsRules, AllowsTags, LoadTask, disassemble, load, task_of};
 ghost use Rattle.pump_line.specs.Told.{texts_of, task_value};
 ghost use Rattle.pump_cli.specs.Facts.{status_in};
 ghost use Rattle.pump_cli.specs.ListedBack.{ListsBack};
@@ -37,7 +37,8 @@ fn do_task<F: Files, S: Source, K: Sink, L: Sink>(
     out: &mut K,
     err: &mut L,
 ) -> Result<Status, Cut>
-    requires { AllowsTags (task_value task) }
+    requires rules { AllowsRules (task_value task) }
+    requires tags { AllowsTags (task_value task) }
     ensures { HeadlineOf (task_value task.entry) (status_in result)
         (environment F.tells F.held F.read_faults F.write_faults F.calls S.left S.closed S.faults
         K.taken K.faults L.taken L.faults files.old input.old out.old err.old)

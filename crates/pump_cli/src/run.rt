@@ -1,6 +1,7 @@
 //! `run`: an image, run on the whole input.
 
 ghost use Rattle.std.specs.Prelude.{◌≤◌, IfOk};
+ghost use Rattle.cache_size.specs.Sizes.{IsCacheSize};
 ghost use Rattle.turn_steps.specs.Feeds.{tape_of};
 ghost use Rattle.rounds.specs.Course.{rounds};
 ghost use Rattle.pump_line.specs.Task.{run};
@@ -64,7 +65,8 @@ pub(crate) fn run_image<K: Sink, L: Sink>(
     out: &mut K,
     err: &mut L,
 ) -> Result<Status, Cut>
-    requires { 1 ≤ task.tags }
+    requires rules { IsCacheSize task.cache }
+    requires tags { 1 ≤ task.tags }
     ensures does { Does (outcome_of_run (run_value task.entry) image.now fed.items)
         (record { out = K.taken out.old; err = L.taken err.old })
         (record { out = K.taken out.new; err = L.taken err.new }) result }
@@ -80,6 +82,7 @@ pub(crate) fn run_image<K: Sink, L: Sink>(
     match chosen_load(alloc, image, basis_of(task.choice), task.cache, task.tags) {
         ChosenLoad::Asked(loader) => run_load(task.turns, &loader, fed, out, err),
         ChosenLoad::Kept(loader) => run_load(task.turns, &loader, fed, out, err),
+        ChosenLoad::InSets(loader) => run_load(task.turns, &loader, fed, out, err),
     }
 }
 
@@ -92,7 +95,8 @@ pub(crate) fn run_task<F: Files, S: Source, K: Sink, L: Sink>(
     out: &mut K,
     err: &mut L,
 ) -> Result<Status, Cut>
-    requires { 1 ≤ task.tags }
+    requires rules { IsCacheSize task.cache }
+    requires tags { 1 ≤ task.tags }
     ensures { HeadlineOf (run (run_value task.entry)) (status_in result)
         (environment F.tells F.held F.read_faults F.write_faults F.calls S.left S.closed S.faults
         K.taken K.faults L.taken L.faults files.old input.old out.old err.old)

@@ -1,6 +1,7 @@
 //! `shell`: a session of the monitor shell over an image.
 
 ghost use Rattle.std.specs.Prelude.{◌≡◌, ℕ, List, Option, ◌+◌, ◌≤◌, Err, IfOk, IfSome, IsTrue, Ok, OnOk, true};
+ghost use Rattle.cache_size.specs.Sizes.{IsCacheSize};
 ghost use Rattle.host_io.specs.Prefixes.{LosesPrefix};
 ghost use Rattle.pump_shell.specs.Told.{told_of};
 ghost use Rattle.pump_line.specs.Task.{shell};
@@ -54,7 +55,8 @@ pub(crate) fn obey_lines<S: Source, K: Sink, L: Sink>(
     out: &mut K,
     err: &mut L,
 ) -> Result<Status, Cut>
-    requires { 1 ≤ task.tags }
+    requires rules { IsCacheSize task.cache }
+    requires tags { 1 ≤ task.tags }
     ensures does { IfSome (S.left input.old) (λ bytes. Does
         (outcome_of_lines (shell_value task.entry) image.now bytes)
         (record { out = K.taken out.old; err = L.taken err.old })
@@ -104,7 +106,8 @@ pub(crate) fn shell_task<F: Files, S: Source, K: Sink, L: Sink>(
     out: &mut K,
     err: &mut L,
 ) -> Result<Status, Cut>
-    requires { 1 ≤ task.tags }
+    requires rules { IsCacheSize task.cache }
+    requires tags { 1 ≤ task.tags }
     ensures { HeadlineOf (shell (shell_value task.entry)) (status_in result)
         (environment F.tells F.held F.read_faults F.write_faults F.calls S.left S.closed S.faults
         K.taken K.faults L.taken L.faults files.old input.old out.old err.old)

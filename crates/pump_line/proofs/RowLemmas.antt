@@ -5,6 +5,7 @@ use Rattle.std.specs.List.{slice_split}
 use Rattle.clap.proofs.OnLiterals.{clap_on_literals}
 use Rattle.clap.specs.Words.{Kinds, Text}
 use Rattle.clap.specs.declared.error.kind.ErrorKind.TheVariants.{ArgumentConflict, InvalidSubcommand, InvalidValue, MissingRequiredArgument, MissingSubcommand, UnknownArgument}
+use Rattle.cache_size.specs.Sizes.{one_set}
 use Rattle.policy_choice.specs.Choice.{no_policy}
 use Rattle.policy_choice.specs.declared.choice.Choice.{Choice}
 use Rattle.pump_line.specs.Line.{asm_shape, dis_shape, faults_of, load_shape, match_of, pump_app, run_shape, shell_shape}
@@ -34,15 +35,20 @@ AskNothing lines = Name [] lines × (map (λ line. task_of (words_of line)) line
 
 -- a run that keeps the most rules, and the most tags with words, that a line gives which says nothing of them
 abbrev run_of : Text → Choice → ℕ → Task
-run_of image choice turns = run (record { image = image; choice = choice; cache = 1024; tags = 65536; turns = turns })
+run_of image choice turns = run (record { image = image; choice = choice; cache = one_set 1024; tags = 65536; turns = turns })
 
 -- a run of no policy that keeps so many rules, and so many tags with words
 abbrev run_keeping : Text → ℕ → ℕ → Task
-run_keeping image cache tags = run (record { image = image; choice = no_policy; cache = cache; tags = tags; turns = 1000000 })
+run_keeping image cache tags = run (record { image = image; choice = no_policy; cache = one_set cache; tags = tags; turns = 1000000 })
+
+-- a run of no policy that keeps rules in so many sets of so many ways
+abbrev run_in_sets : Text → ℕ → ℕ → Task
+run_in_sets image sets ways =
+    run (record { image = image; choice = no_policy; cache = record { sets = sets; ways = ways }; tags = 65536; turns = 1000000 })
 
 -- a shell that keeps so many rules, and so many tags with words
 abbrev shell_of : Text → Choice → ℕ → ℕ → Task
-shell_of image choice cache tags = shell (record { image = image; choice = choice; cache = cache; tags = tags })
+shell_of image choice cache tags = shell (record { image = image; choice = choice; cache = one_set cache; tags = tags })
 
 -- an assembly of a source into an image
 abbrev asm_of : Text → Text → Task
@@ -54,7 +60,7 @@ dis_of image = disassemble (record { image = image })
 
 -- a workload of so many blocks that keeps so many rules, and so many tags with words
 abbrev load_of : ℕ → ℕ → ℕ → Task
-load_of count cache tags = load (record { count = count; cache = cache; tags = tags })
+load_of count cache tags = load (record { count = count; cache = one_set cache; tags = tags })
 
 abbrev sealing_alone : Choice
 sealing_alone = record no_policy { seal = true }
@@ -77,6 +83,10 @@ runs : Ask (
     (codes "pump run a.img --cache 0", run_keeping (codes "a.img") 0 65536) ∷  -- no rule is kept
     (codes "pump run a.img --cache 65536", run_keeping (codes "a.img") 65536 65536) ∷  -- the most kept rules
     (codes "pump run a.img --cache=5", run_keeping (codes "a.img") 5 65536) ∷  -- kept rules behind an equals sign
+    (codes "pump run a.img --cache 3x5", run_in_sets (codes "a.img") 3 5) ∷  -- kept rules in sets
+    (codes "pump run a.img --cache 1x7", run_keeping (codes "a.img") 7 65536) ∷  -- one set is what a number alone says
+    (codes "pump run a.img --cache=64x1024", run_in_sets (codes "a.img") 64 1024) ∷  -- the most sets, of the most rules in all
+    (codes "pump run a.img --cache 0000000002x0000000004", run_in_sets (codes "a.img") 2 4) ∷  -- ten digits on both sides
     (codes "pump run a.img --tags 1", run_keeping (codes "a.img") 1024 1) ∷  -- the fewest tags with words
     (codes "pump run a.img --tags 1048576", run_keeping (codes "a.img") 1024 1048576) ∷  -- the most tags with words
     (codes "pump run a.img --cache 5 --tags 6", run_keeping (codes "a.img") 5 6) ∷  -- kept rules before tags
@@ -242,6 +252,16 @@ bad_values : AskNothing (
     codes "pump run a.img --turns 0" ∷  -- no turn at all
     codes "pump run a.img --turns 1000000001" ∷  -- one turn more than the most
     codes "pump run a.img --cache 65537" ∷  -- one kept rule more than the most
+    codes "pump run a.img --cache 0x4" ∷  -- no set
+    codes "pump run a.img --cache 4x0" ∷  -- sets of no way
+    codes "pump run a.img --cache 3x" ∷  -- no ways behind the sets
+    codes "pump run a.img --cache x3" ∷  -- no sets before the ways
+    codes "pump run a.img --cache 65x1" ∷  -- one set more than the most
+    codes "pump run a.img --cache 64x1025" ∷  -- sets with more rules than the most in all
+    codes "pump run a.img --cache 300x300" ∷  -- too much of both
+    codes "pump run a.img --cache 1x65537" ∷  -- one way more than the most
+    codes "pump run a.img --cache 2x3x4" ∷  -- three numbers
+    codes "pump run a.img --cache 2X3" ∷  -- a letter in upper case
     codes "pump run a.img --tags 0" ∷  -- no tag at all
     codes "pump run a.img --tags 1048577" ∷  -- one tag more than the most
     codes "pump run a.img --turns 00000000007" ∷  -- eleven digits

@@ -29,11 +29,11 @@ limit_options = codes "cache" ∷ codes "tags" ∷ []
 abbrev pub start_options : List Text
 start_options = codes "policy" ∷ limit_options
 
--- `run IMAGE [--policy LIST] [--cache N] [--tags N] [--turns N]`
+-- `run IMAGE [--policy LIST] [--cache SIZE] [--tags N] [--turns N]`
 unfoldable pub run_shape : Shape
 run_shape = subcommand_shape (codes "run") image_operand (start_options ++ codes "turns" ∷ [])
 
--- `shell IMAGE [--policy LIST] [--cache N] [--tags N]`
+-- `shell IMAGE [--policy LIST] [--cache SIZE] [--tags N]`
 unfoldable pub shell_shape : Shape
 shell_shape = subcommand_shape (codes "shell") image_operand start_options
 
@@ -45,7 +45,7 @@ asm_shape = subcommand_shape (codes "asm") (codes "source" ∷ codes "image" ∷
 unfoldable pub dis_shape : Shape
 dis_shape = subcommand_shape (codes "dis") image_operand []
 
--- `load N [--cache N] [--tags N]`
+-- `load N [--cache SIZE] [--tags N]`
 unfoldable pub load_shape : Shape
 load_shape = subcommand_shape (codes "load") (codes "count" ∷ []) limit_options
 

@@ -1,9 +1,12 @@
 -- What a line asks for, its values read.
-use Rattle.std.specs.Prelude.{ℕ, ◌≤◌, Bool, ◌&&◌, List, length, nat_le, Option, Some, None, if◌then◌else◌}
+use Rattle.std.specs.Prelude.{ℕ, ◌*◌, ◌==◌, ◌≤◌, Bool, ◌&&◌, List, length, nat_le, Option, Some, None, if◌then◌else◌}
 use Rattle.std.specs.Prelude.{option_and_then, option_map}
+use Rattle.std.specs.List.{after_first, before_first, position_or_len}
 use Rattle.std.specs.Str.{all_ascii_digits}
 use Rattle.std.specs.Str.Parse.{digits_value}
 use Rattle.clap.specs.Words.{Text}
+use Rattle.cache_size.specs.Sizes.{IsCacheSize, one_set}
+use Rattle.cache_size.specs.declared.size.CacheSize.{CacheSize}
 use Rattle.policy_choice.specs.Choice.{choice_of, no_policy}
 use Rattle.policy_choice.specs.declared.choice.Choice.{Choice}
 use Rattle.pump_line.specs.Request.{AssembleTask, DisassembleTask, LoadRequest, Request, RunRequest, ShellRequest}
@@ -13,8 +16,8 @@ use Rattle.pump_line.specs.Request.{assemble_asked, disassemble_asked, load_aske
 pub record RunTask : Type 0 where
   pub image : Text
   pub choice : Choice
-  -- the most rules that are kept
-  pub cache : ℕ
+  -- the most rules that are kept, in sets
+  pub cache : CacheSize
   -- the most tags that may have words
   pub tags : ℕ
   -- the most turns
@@ -24,16 +27,16 @@ pub record RunTask : Type 0 where
 pub record ShellTask : Type 0 where
   pub image : Text
   pub choice : Choice
-  -- the most rules that are kept
-  pub cache : ℕ
+  -- the most rules that are kept, in sets
+  pub cache : CacheSize
   -- the most tags that may have words
   pub tags : ℕ
 
 -- a `load`: how many blocks its workload has, and its limits; it runs under every policy
 pub record LoadTask : Type 0 where
   pub count : ℕ
-  -- the most rules that are kept
-  pub cache : ℕ
+  -- the most rules that are kept, in sets
+  pub cache : CacheSize
   -- the most tags that may have words
   pub tags : ℕ
 
@@ -52,6 +55,14 @@ AllowsTags (shell task) = 1 ≤ task.tags
 AllowsTags (assemble task) = Unit {0}
 AllowsTags (disassemble task) = Unit {0}
 AllowsTags (load task) = 1 ≤ task.tags
+
+-- the kept rules are in some set and few enough, of a task that starts an image
+abbrev pub AllowsRules : Task → Type 0
+AllowsRules (run task) = IsCacheSize task.cache
+AllowsRules (shell task) = IsCacheSize task.cache
+AllowsRules (assemble task) = Unit {0}
+AllowsRules (disassemble task) = Unit {0}
+AllowsRules (load task) = IsCacheSize task.cache
 
 -- no policy where the option is not on the line
 abbrev pub choice_in : Option Text → Option Choice
@@ -84,9 +95,36 @@ default_cache = 1024
 abbrev pub most_cache : ℕ
 most_cache = 65536
 
--- the value of `--cache`: how many rules are kept, 0 to 65536, or 1024 without it; `None` where it is bad
-abbrev pub cache_of : Option Text → Option ℕ
-cache_of = number_or default_cache 0 most_cache
+-- the most sets that the option can name
+abbrev pub most_sets : ℕ
+most_sets = 64
+
+-- `N`: 0 to 65536 rules, in one set
+abbrev pub whole_size : Text → Option CacheSize
+whole_size text = option_map one_set (number_within 0 most_cache text)
+
+-- so many sets of so many ways, unless these are too many rules
+abbrev pub size_with : Option ℕ → Option ℕ → Option CacheSize
+size_with sets ways =
+    option_and_then (λ s. option_and_then (λ w. if nat_le (s * w) most_cache then Some (record { sets = s; ways = w }) else None) ways) sets
+
+-- the letter `x`
+abbrev pub is_times : ℕ → Bool
+is_times byte = byte == 120
+
+-- `SxW`: 1 to 64 sets of 1 to 65536 ways each, at most 65536 rules in all
+abbrev pub size_in_sets : Text → Option CacheSize
+size_in_sets text =
+    size_with (number_within 1 most_sets (before_first is_times text)) (number_within 1 most_cache (after_first is_times text))
+
+-- a size as it is written, in one of these two forms
+abbrev pub size_of : Text → Option CacheSize
+size_of text = if position_or_len is_times text == length text then whole_size text else size_in_sets text
+
+-- the value of `--cache`: the size that it writes, or 1024 rules in one set without it; `None` where it is bad
+abbrev pub cache_of : Option Text → Option CacheSize
+cache_of None = Some (one_set default_cache)
+cache_of (Some text) = size_of text
 
 -- the most tags that may have words where the option is not on the line
 abbrev pub default_tags : ℕ
@@ -121,13 +159,13 @@ abbrev pub count_of : Text → Option ℕ
 count_of = number_within 1 most_blocks
 
 -- the run with these values; `None` where one is bad
-abbrev pub run_with : Text → Option Choice → Option ℕ → Option ℕ → Option ℕ → Option RunTask
+abbrev pub run_with : Text → Option Choice → Option CacheSize → Option ℕ → Option ℕ → Option RunTask
 run_with image choice cache tags turns =
-    option_and_then (λ chosen. option_and_then (λ rule_limit.
+    option_and_then (λ chosen. option_and_then (λ rules.
     option_and_then (λ tag_limit. option_map (λ turn_limit. record {
       image = image;
       choice = chosen;
-      cache = rule_limit;
+      cache = rules;
       tags = tag_limit;
       turns = turn_limit;
     }) turns) tags) cache) choice
@@ -139,12 +177,12 @@ run_task_in request =
     (turns_of request.turns)
 
 -- the shell with these values; `None` where one is bad
-abbrev pub shell_with : Text → Option Choice → Option ℕ → Option ℕ → Option ShellTask
+abbrev pub shell_with : Text → Option Choice → Option CacheSize → Option ℕ → Option ShellTask
 shell_with image choice cache tags =
-    option_and_then (λ chosen. option_and_then (λ rule_limit. option_map (λ tag_limit. record {
+    option_and_then (λ chosen. option_and_then (λ rules. option_map (λ tag_limit. record {
       image = image;
       choice = chosen;
-      cache = rule_limit;
+      cache = rules;
       tags = tag_limit;
     }) tags) cache) choice
 
@@ -154,11 +192,11 @@ shell_task_in request =
     shell_with request.image (choice_in request.policy) (cache_of request.cache) (tags_of request.tags)
 
 -- the workload with these values; `None` where one is bad
-abbrev pub load_with : Option ℕ → Option ℕ → Option ℕ → Option LoadTask
+abbrev pub load_with : Option ℕ → Option CacheSize → Option ℕ → Option LoadTask
 load_with count cache tags =
-    option_and_then (λ blocks. option_and_then (λ rule_limit. option_map (λ tag_limit. record {
+    option_and_then (λ blocks. option_and_then (λ rules. option_map (λ tag_limit. record {
       count = blocks;
-      cache = rule_limit;
+      cache = rules;
       tags = tag_limit;
     }) tags) cache) count
 

@@ -4,11 +4,12 @@ ghost use Rattle.std.specs.Prelude.{◌≡◌, ◌≢◌, Some, None, IfOk, IfEr
 ghost use Rattle.clap.specs.Words.{first_of, found_of, kind_of, rows_of, subcommand_rows_of};
 ghost use Rattle.pump_line.specs.Request.{assemble_asked, assemble_in, disassemble_asked, disassemble_in, load_asked};
 ghost use Rattle.pump_line.specs.Request.{load_in, request_at, request_by, run_asked, run_in, shell_asked, shell_in};
-ghost use Rattle.pump_line.specs.Task.{AllowsTags, task_in, task_of};
+ghost use Rattle.pump_line.specs.Task.{AllowsRules, AllowsTags, task_in, task_of};
 ghost use Rattle.pump_line.specs.Told.{task_value, text_value, texts_of};
 
 use crate::command::pump_command;
 use crate::values::{choice_from, read_cache, read_count, read_tags, read_turns};
+use cache_size::CacheSize;
 use clap::error::ErrorKind;
 use clap::{ArgMatches, Error};
 use policy_choice::Choice;
@@ -36,8 +37,8 @@ pub struct RunTask<'a> {
     pub image: &'a str,
     /// The policies that are chosen.
     pub choice: Choice,
-    /// The most rules that are kept: 0 to 65,536.
-    pub cache: u32,
+    /// How many rules are kept: 0 to 65,536 in one set, or in up to 64 sets.
+    pub cache: CacheSize,
     /// The most tags that may have words: 1 to 1,048,576.
     pub tags: u32,
     /// The most turns: 1 to 1,000,000,000.
@@ -51,8 +52,8 @@ pub struct ShellTask<'a> {
     pub image: &'a str,
     /// The policies that are chosen.
     pub choice: Choice,
-    /// The most rules that are kept: 0 to 65,536.
-    pub cache: u32,
+    /// How many rules are kept: 0 to 65,536 in one set, or in up to 64 sets.
+    pub cache: CacheSize,
     /// The most tags that may have words: 1 to 1,048,576.
     pub tags: u32,
 }
@@ -78,8 +79,8 @@ pub struct DisassembleTask<'a> {
 pub struct LoadTask {
     /// How many blocks the workload has: 1 to 1,000.
     pub count: u32,
-    /// The most rules that are kept: 0 to 65,536.
-    pub cache: u32,
+    /// How many rules are kept: 0 to 65,536 in one set, or in up to 64 sets.
+    pub cache: CacheSize,
     /// The most tags that may have words: 1 to 1,048,576.
     pub tags: u32,
 }
@@ -223,10 +224,11 @@ fn end_of(error: &Error) -> WordsEnd
 }
 
 /// What the words ask for, the first being the program's name:
-/// `run IMAGE [--policy LIST] [--cache N] [--tags N] [--turns N]`, `shell IMAGE [--policy LIST] [--cache N] [--tags N]`,
-/// `asm SOURCE IMAGE`, `dis IMAGE` or `load COUNT [--cache N] [--tags N]`, the options in any order before or after the
+/// `run IMAGE [--policy LIST] [--cache SIZE] [--tags N] [--turns N]`, `shell IMAGE [--policy LIST] [--cache SIZE] [--tags N]`,
+/// `asm SOURCE IMAGE`, `dis IMAGE` or `load COUNT [--cache SIZE] [--tags N]`, the options in any order before or after the
 /// operand, each at most once; `asm` and `dis` have none. LIST is `none`, or names among `seal`, `comp`, `flow` and `heap` with commas between, none twice; it is `none`
-/// where it isn't there. N is 1 to 10 decimal digits that write 0 to 65,536 for `--cache` (1,024 where it isn't there), 1 to
+/// where it isn't there. SIZE is N, the rules of one set, 0 to 65,536 (1,024 where it isn't there), or SxW, S sets of W ways each, 1 to 64
+/// and 1 to 65,536, which make 65,536 rules at most. N is 1 to 10 decimal digits, as S and W are, that write 1 to
 /// 1,048,576 for `--tags` (65,536) and 1 to 1,000,000,000 for `--turns` (1,000,000). COUNT is 1 to 10 decimal digits that write
 /// 1 to 1,000. So some tag may have a word in every task that starts an image. SOURCE and IMAGE are names of files, of any
 /// text: no file is looked at. This is the project's own
@@ -234,6 +236,7 @@ fn end_of(error: &Error) -> WordsEnd
 pub fn read_task<'a>(alloc: Global, words: &'a Vec<String>) -> Result<Task<'a>, WordsEnd>
     ensures task { IfOk result (λ t. task_of (texts_of words.now.items) ≡ Some (task_value t)) }
     ensures tags { IfOk result (λ t. AllowsTags (task_value t)) }
+    ensures rules { IfOk result (λ t. AllowsRules (task_value t)) }
     ensures bad { IfErr result (λ e. e ≡ WordsEnd.Bad
         → task_of (texts_of words.now.items) ≡ None) }
 {

@@ -1,12 +1,16 @@
 //! The start that suits how many rules may be kept.
 
-ghost use Rattle.std.specs.Prelude.{◌≡◌, ◌≤◌};
+ghost use Rattle.std.specs.Prelude.{◌≡◌, ◌<◌, ◌≤◌, false, true};
+ghost use Rattle.cache_size.specs.Sizes.{IsCacheSize, keeps_no_rule};
 ghost use Rattle.pump_loader.specs.ChosenLoads.{chosen_start_of, start_of_chosen};
 
 use crate::load::PumpLoad;
 use crate::plain_load::PlainLoad;
+use cache_size::CacheSize;
 use image_format::Image;
 use policy_choice::Basis;
+use rule_cache::RuleCache;
+use set_cache::SetCache;
 use std::alloc::Global;
 
 /// The start of an image under the chosen policies, on the engine that suits how many rules may be kept. A caller that runs it has
@@ -15,32 +19,39 @@ use std::alloc::Global;
 pub enum ChosenLoad<'a> {
     /// No rules are kept: every turn asks the policies, and no tag has a word.
     Asked(PlainLoad<'a>),
-    /// Some rules may be kept.
-    Kept(PumpLoad<'a>),
+    /// Some rules may be kept, in one set.
+    Kept(PumpLoad<'a, RuleCache>),
+    /// Some rules may be kept, in several sets.
+    InSets(PumpLoad<'a, SetCache>),
 }
 
-/// The start of this image on this basis, with at most `cache` rules kept, 0 for none, and with words for at most `tags` tags where
-/// some may be.
+/// The start of this image on this basis, with room for so many rules, and with words for at most `tags` tags where some may be kept.
 pub fn chosen_load<'a>(
     alloc: Global,
     image: &'a Image,
     basis: Basis,
-    cache: u32,
+    cache: CacheSize,
     tags: u32,
 ) -> ChosenLoad<'a>
-    requires { 1 ≤ tags }
+    requires rules { IsCacheSize cache }
+    requires tags { 1 ≤ tags }
 
     // Which it is.
-    ensures asked { cache ≡ 0
+    ensures asked { keeps_no_rule cache ≡ true
         → result ≡ ChosenLoad.Asked (record { image = image.now; basis = basis }) }
-    ensures kept { 1 ≤ cache → result ≡ ChosenLoad.Kept
+    ensures kept { keeps_no_rule cache ≡ false → cache.sets ≡ 1 → result ≡ ChosenLoad.Kept
+        (record { image = image.now; basis = basis; cache = cache; tags = tags }) }
+    ensures in_sets { keeps_no_rule cache ≡ false → 1 < cache.sets → result ≡ ChosenLoad.InSets
         (record { image = image.now; basis = basis; cache = cache; tags = tags }) }
 
     // What it starts.
     ensures starts { start_of_chosen result ≡ chosen_start_of basis cache tags image.now }
 {
-    if cache == 0 {
+    if cache.keeps_no_rule() {
         return ChosenLoad::Asked(PlainLoad::new(alloc, image, basis));
     }
-    ChosenLoad::Kept(PumpLoad::new(alloc, image, basis, cache, tags))
+    if cache.sets == 1 {
+        return ChosenLoad::Kept(PumpLoad::new(alloc, image, basis, cache, tags));
+    }
+    ChosenLoad::InSets(PumpLoad::new(alloc, image, basis, cache, tags))
 }

@@ -1,6 +1,7 @@
 //! A session, from its setup, its image and its input.
 
 ghost use Rattle.std.specs.Prelude.{◌≡◌, ◌+◌, ◌<◌, ◌≤◌, Err, IfOk, IfSome, IsTrue, Ok, length, true};
+ghost use Rattle.cache_size.specs.Sizes.{IsCacheSize};
 ghost use Rattle.host_io.specs.Prefixes.{LosesPrefix};
 ghost use Rattle.engine_trait.specs.Accounts.{is_over};
 ghost use Rattle.shell_turns.specs.Cuts.{PutsOut};
@@ -71,7 +72,8 @@ pub fn run_session<S: Source, K: Sink>(
     limit: usize,
     out: &mut K,
 ) -> Result<SessionEnd, SessionCut>
-    requires { 1 ≤ setup.tags }
+    requires rules { IsCacheSize setup.cache }
+    requires tags { 1 ≤ setup.tags }
 
     // Where the input tells its bytes, the replies and the end are those of the definition.
     ensures done { IfOk result (λ end. IfSome (S.left input.old) (λ bytes.
@@ -102,5 +104,6 @@ pub fn run_session<S: Source, K: Sink>(
     match chosen_load(alloc, image, setup.basis, setup.cache, setup.tags) {
         ChosenLoad::Asked(loader) => run_from(alloc, loader, input, limit, out),
         ChosenLoad::Kept(loader) => run_from(alloc, loader, input, limit, out),
+        ChosenLoad::InSets(loader) => run_from(alloc, loader, input, limit, out),
     }
 }

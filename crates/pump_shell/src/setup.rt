@@ -1,5 +1,6 @@
 //! What a session starts with, beside its image.
 
+use cache_size::CacheSize;
 use policy_choice::Basis;
 
 /// What its start rests on, and the room of the engine that keeps rules.
@@ -7,8 +8,8 @@ use policy_choice::Basis;
 pub struct Setup {
     /// What the start rests on beside the image: the policies that are chosen.
     pub basis: Basis,
-    /// The most rules that are kept; with 0 every turn asks the policies.
-    pub cache: u32,
+    /// How many rules are kept; where none are, every turn asks the policies.
+    pub cache: CacheSize,
     /// The most tags that may have words, at least 1. Where no rules are kept, no tag has a word.
     pub tags: u32,
 }

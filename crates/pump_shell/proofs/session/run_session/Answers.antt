@@ -1,5 +1,5 @@
 use Rattle.pump_loader.specs.ChosenLoads.{start_of_chosen}
-use Rattle.pump_loader.specs.declared.chosen.ChosenLoad.TheVariants.{Asked, Kept}
+use Rattle.pump_loader.specs.declared.chosen.ChosenLoad.TheVariants.{Asked, InSets, Kept}
 use Rattle.pump_shell.proofs.StartLemmas.{done_as_set, over_as_chosen, over_as_set, puts_as_set, replies_as_set}
 use Rattle.pump_shell.proofs.session.run_session.Goals as goal
 
@@ -46,3 +46,25 @@ returns-in-Kept-clause-out_of_tags g c out =
 pub returns-in-Kept-clause-over : goal.returns-in-Kept-clause-over
 returns-in-Kept-clause-over g c over =
     c.run_from-in-Kept.ensures.over (over_as_chosen c.args.setup c.args.image.now (start_of_chosen (Kept c.in-Kept.loader)) c.in-Kept.ensures.starts over)
+
+pub returns-in-InSets-clause-done : goal.returns-in-InSets-clause-done
+returns-in-InSets-clause-done g c =
+    done_as_set c.args.setup c.args.image.now (start_of_chosen (InSets c.in-InSets.loader)) c.in-InSets.ensures.starts c.args.limit (g.S.Source.left c.args.input.now) c.run_from-in-InSets.result c.run_from-in-InSets.ensures.done
+
+pub returns-in-InSets-clause-puts : goal.returns-in-InSets-clause-puts
+returns-in-InSets-clause-puts g c =
+    puts_as_set c.args.setup c.args.image.now (start_of_chosen (InSets c.in-InSets.loader)) c.in-InSets.ensures.starts c.args.limit (g.S.Source.left c.args.input.now) c.run_from-in-InSets.result
+    (g.K.Sink.taken c.args.out.now) (g.K.Sink.taken c.run_from-in-InSets.new.out) c.run_from-in-InSets.ensures.puts
+
+pub returns-in-InSets-clause-replied : goal.returns-in-InSets-clause-replied
+returns-in-InSets-clause-replied g c failed =
+    replies_as_set c.args.setup c.args.image.now (start_of_chosen (InSets c.in-InSets.loader)) c.in-InSets.ensures.starts c.args.limit (g.S.Source.left c.args.input.now) _ _ _
+    (c.run_from-in-InSets.ensures.replied failed)
+
+pub returns-in-InSets-clause-out_of_tags : goal.returns-in-InSets-clause-out_of_tags
+returns-in-InSets-clause-out_of_tags g c out =
+    over_as_set c.args.setup c.args.image.now (start_of_chosen (InSets c.in-InSets.loader)) c.in-InSets.ensures.starts (c.run_from-in-InSets.ensures.out_of_tags out)
+
+pub returns-in-InSets-clause-over : goal.returns-in-InSets-clause-over
+returns-in-InSets-clause-over g c over =
+    c.run_from-in-InSets.ensures.over (over_as_chosen c.args.setup c.args.image.now (start_of_chosen (InSets c.in-InSets.loader)) c.in-InSets.ensures.starts over)

@@ -8,22 +8,22 @@ use Rattle.word_loader.specs.CachedStart.{cached_account, cached_standing}
 use Rattle.pump_loader.proofs.load.PumpLoadLoader.load.Goals as goal
 
 pub returns-clause-start : goal.returns-clause-start
-returns-clause-start c =
+returns-clause-start g c =
     let load = c.self.inside in
     subst (λ (load : CachedLoad). IfOk c.start_cached.result (λ engine. standing_by_words all engine ≡ cached_start_of_load load)) c.self.view_is
-    (subst (λ (policy : AllState). IfOk c.start_cached.result (λ engine. standing_by_words all engine ≡ cached_standing all_eq all policy load.image.now 1 load.cache load.tags))
+    (subst (λ (policy : AllState). IfOk c.start_cached.result (λ engine. standing_by_words all engine ≡ cached_standing all_eq all policy load.image.now load.cache.sets load.cache.ways load.tags))
     c.in-Ok.ensures.value c.start_cached.ensures.start)
 
 pub returns-clause-within : goal.returns-clause-within
-returns-clause-within c =
+returns-clause-within g c =
     let load = c.self.inside in
     subst (λ (load : CachedLoad). IfOk c.start_cached.result (λ engine. is_over (cached_start_of_load load).account ≡ false)) c.self.view_is
-    (subst (λ (policy : AllState). IfOk c.start_cached.result (λ engine. is_over (cached_account all_eq all policy load.image.now 1 load.cache load.tags) ≡ false))
+    (subst (λ (policy : AllState). IfOk c.start_cached.result (λ engine. is_over (cached_account all_eq all policy load.image.now load.cache.sets load.cache.ways load.tags) ≡ false))
     c.in-Ok.ensures.value c.start_cached.ensures.within)
 
 pub returns-clause-out : goal.returns-clause-out
-returns-clause-out c =
+returns-clause-out g c =
     let load = c.self.inside in
     subst (λ (load : CachedLoad). c.start_cached.result ≡ Err load_end.TagsOut → is_over (cached_start_of_load load).account ≡ true) c.self.view_is
-    (subst (λ (policy : AllState). c.start_cached.result ≡ Err load_end.TagsOut → is_over (cached_account all_eq all policy load.image.now 1 load.cache load.tags) ≡ true)
+    (subst (λ (policy : AllState). c.start_cached.result ≡ Err load_end.TagsOut → is_over (cached_account all_eq all policy load.image.now load.cache.sets load.cache.ways load.tags) ≡ true)
     c.in-Ok.ensures.value c.start_cached.ensures.out)
