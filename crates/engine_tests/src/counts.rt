@@ -90,6 +90,7 @@ fn a_rule_is_asked_where_it_is_not_kept(rt: HostRuntime) -> Result<(), Fail> {
             turns: u64::from(row.turns),
             hits: row.hits,
             misses: row.misses,
+            sweeps: 0,
         };
         let (counts, asked) = counts_of(rt.alloc(), row)?;
         assert!(rt; counts == expected, "row {at}");

@@ -1,5 +1,5 @@
 -- What a turn leaves of the account.
-use Rattle.std.proofs.Common.{◌≡◌, ℕ, ◌≤◌, ◌==◌, Bool, true, false, List, [], ◌∷◌, Option, Some, None, Result, Ok, Err, filter, not, take, refl, ap, sym, ◌∙◌, length, if◌then◌else◌, slice_index_or, slice_set, arith}
+use Rattle.std.proofs.Common.{◌≡◌, ℕ, ◌≤◌, ◌==◌, Bool, false, List, [], ◌∷◌, Option, Some, None, Result, Ok, Err, filter, not, take, refl, ap, sym, ◌∙◌, length, if◌then◌else◌, slice_index_or, slice_set, arith}
 use Rattle.std.proofs.lemmas.Bool.{le-ltb}
 use Rattle.std.proofs.lemmas.Bool.Decides.{nat_tests}
 use Rattle.std.specs.List.{list_any}
@@ -9,11 +9,11 @@ use Rattle.policy_trait.specs.declared.rules.Outs.{Outs}
 use Rattle.monitor_calls.specs.Service.{Job}
 use Rattle.turn_steps.specs.declared.look.Look.{Look}
 use Rattle.turn_steps.specs.declared.stop.Stop.{Stop}
-use Rattle.engine_trait.specs.Accounts.{Account, IsUncached, Key, account_after_turn, after_look, after_rule, after_service, is_kept, is_over, keeping, key_of, look_counted, looked_up, rule_counted, rule_kept, same_key, seeing, set_keys, set_of, with_tags, written_tags}
+use Rattle.engine_trait.specs.Accounts.{Account, IsUncached, Key, account_after_turn, after_look, after_rule, after_service, is_kept, is_over, keeping, key_of, look_counted, looked_up, rule_counted, rule_kept, same_key, seeing, served_tags, service_counted, set_keys, set_of, standing_tags, with_room, with_tags, written_tags}
 use Rattle.shared_terms.specs.Counts.{next_count}
 use Rattle.engine_trait.specs.Machine.{Machine}
 use Rattle.engine_trait.specs.Turn.{rule_answer, job_at, preparation}
-use Rattle.engine_trait.specs.declared.ends.Halt.{Halt}
+use Rattle.engine_trait.proofs.RoomLemmas.{either_halt, either_same, room_halt, room_kept}
 
 -- room for some rules is not room for none
 pub keeps_some : (rules : ℕ) → 1 ≤ rules → (rules == 0) ≡ false
@@ -42,18 +42,22 @@ module _ {T : Type 0} (eq : T → T → Bool) (a : Account T) (plain : IsUncache
       ∙ ap (λ sets. record a { sets = sets }) (sym plain.sets)
 
   seeing_none : (tags : List T) → seeing eq tags a ≡ a
-  seeing_none tags = ap (λ n. if n == 0 then a else record a { seen = with_tags eq a.seen tags }) plain.ways
+  seeing_none tags = ap (λ n. if n == 0 then a else record a { table = with_tags eq a.table tags }) plain.ways
 
   rule_kept_none : {E : Type 0} (key : Key T) (answer : Result (Outs T) E) → rule_kept eq key answer a ≡ a
   rule_kept_none key (Ok outs) = ap (λ kept. seeing eq (outs.pc ∷ outs.result ∷ []) kept) (keeping_none key) ∙ seeing_none (outs.pc ∷ outs.result ∷ [])
   rule_kept_none key (Err why) = refl
 
   pub never_over : is_over a ≡ false
-  never_over = le-ltb a.limit (length a.seen) (let empty : length a.seen ≡ 0 = ap length plain.seen in omega (arith, empty))
+  never_over = le-ltb a.limit (length a.table) (let empty : length a.table ≡ 0 = ap length plain.table in omega (arith, empty))
 
   -- nor with whatever tags that come
   pub seeing_never_over : (tags : List T) → is_over (seeing eq tags a) ≡ false
   seeing_never_over tags = ap is_over (seeing_none tags) ∙ never_over
+
+  -- so that a step which leaves it as it is needs no sweep
+  pub room_none : (standing : List T) (step : Account T → Account T) → step a ≡ a → with_room eq standing step a ≡ a
+  room_none standing step same = room_kept eq standing step a (ap is_over same ∙ never_over) ∙ same
 
 module _ {S T : Type 0} (eq : T → T → Bool) (m : PolicyModel T S) (s : Machine S T) (h : ℕ) where
   after_rule_none : (found : Result Look Stop) (a : Account T) → IsUncached a → after_rule eq m s h found a ≡ a
@@ -72,24 +76,34 @@ module _ {S T : Type 0} (eq : T → T → Bool) (m : PolicyModel T S) (s : Machi
   abbrev turned : Account T → ℕ → Account T
   turned account turns = record account { turns = next_count turns }
 
+  -- the rule and the service leave what the look-up left
+  settled_rule : (a b : Account T) → IsUncached b → look_counted eq m s h a ≡ b → rule_counted eq m s h a ≡ b
+  unfolding rule_counted
+  settled_rule a b plain looked =
+      ap (with_room eq (standing_tags m s) (after_rule eq m s h (preparation m s h))) looked
+      ∙ room_none eq b plain (standing_tags m s) (after_rule eq m s h (preparation m s h)) (after_rule_none (preparation m s h) b plain)
+
+  settled_service : (a b : Account T) → IsUncached b → look_counted eq m s h a ≡ b → service_counted eq m s h a ≡ b
+  unfolding service_counted
+  settled_service a b plain looked =
+      ap (with_room eq (served_tags m s h) (after_service eq m s h (job_at m s h))) (settled_rule a b plain looked)
+      ∙ room_none eq b plain (served_tags m s h) (after_service eq m s h (job_at m s h)) (after_service_none (job_at m s h) b plain)
+
   -- only the look-up and the turn are counted
   settled_account : (a b : Account T) → IsUncached b → look_counted eq m s h a ≡ b → account_after_turn eq m s h a ≡ record b { turns = next_count a.turns }
-  unfolding account_after_turn rule_counted
+  unfolding account_after_turn
   settled_account a b plain looked =
-      ap (λ c. turned (after_service eq m s h (job_at m s h) (after_rule eq m s h (preparation m s h) c)) a.turns) looked
-      ∙ ap (λ c. turned (after_service eq m s h (job_at m s h) c) a.turns) (after_rule_none (preparation m s h) b plain)
-      ∙ ap (λ c. turned c a.turns) (after_service_none (job_at m s h) b plain)
+      ap (λ c. turned c a.turns)
+      (either_same (is_over (rule_counted eq m s h a)) (rule_counted eq m s h a) (service_counted eq m s h a) b (settled_rule a b plain looked) (settled_service a b plain looked))
 
   pub look_counted_missed : (a : Account T) (look : Look) → IsUncached a → preparation m s h ≡ Ok look → look_counted eq m s h a ≡ record a { misses = next_count a.misses }
   unfolding look_counted
   look_counted_missed a look plain looked = ap (λ found. after_look eq m s h found a) looked ∙ looked_up_missed eq a plain (key_of eq m s h look)
 
   pub rule_counted_missed : (a : Account T) (look : Look) → IsUncached a → preparation m s h ≡ Ok look → rule_counted eq m s h a ≡ record a { misses = next_count a.misses }
-  unfolding rule_counted
   rule_counted_missed a look plain looked =
-      let missed = look_counted_missed a look plain looked in
-      ap (λ b. after_rule eq m s h (preparation m s h) b) missed
-      ∙ after_rule_none (preparation m s h) (record a { misses = next_count a.misses }) (record { ways = plain.ways; seen = plain.seen; sets = plain.sets })
+      settled_rule a (record a { misses = next_count a.misses }) (record { ways = plain.ways; table = plain.table; sets = plain.sets })
+      (look_counted_missed a look plain looked)
 
   look_counted_none : (a : Account T) (why : Stop) → preparation m s h ≡ Err why → look_counted eq m s h a ≡ a
   unfolding look_counted
@@ -98,7 +112,7 @@ module _ {S T : Type 0} (eq : T → T → Bool) (m : PolicyModel T S) (s : Machi
   pub accounted_missed : (a : Account T) (look : Look) → IsUncached a → preparation m s h ≡ Ok look
       → account_after_turn eq m s h a ≡ record a { misses = next_count a.misses; turns = next_count a.turns }
   accounted_missed a look plain looked =
-      settled_account a (record a { misses = next_count a.misses }) (record { ways = plain.ways; seen = plain.seen; sets = plain.sets })
+      settled_account a (record a { misses = next_count a.misses }) (record { ways = plain.ways; table = plain.table; sets = plain.sets })
       (look_counted_missed a look plain looked)
 
   pub accounted_checked : (a : Account T) (why : Stop) → IsUncached a → preparation m s h ≡ Err why → account_after_turn eq m s h a ≡ record a { turns = next_count a.turns }
@@ -112,16 +126,12 @@ module _ {S T : Type 0} (eq : T → T → Bool) (m : PolicyModel T S) (s : Machi
   pub accounted_plain : (a : Account T) → IsUncached a → (n : ℕ) × (account_after_turn eq m s h a ≡ record a { misses = n; turns = next_count a.turns })
   accounted_plain a plain =
       let looked = look_counted_plain a plain in
-      (looked.0, settled_account a (record a { misses = looked.0 }) (record { ways = plain.ways; seen = plain.seen; sets = plain.sets }) looked.1)
+      (looked.0, settled_account a (record a { misses = looked.0 }) (record { ways = plain.ways; table = plain.table; sets = plain.sets }) looked.1)
 
 -- ---- any account: a turn leaves the halt, and counts itself once
 
-either_halt : {T : Type 0} (halt : Option Halt) (test : Bool) (x y : Account T) → x.halt ≡ halt → y.halt ≡ halt → (if test then x else y).halt ≡ halt
-either_halt halt true x y first second = first
-either_halt halt false x y first second = second
-
 seeing_halt : {T : Type 0} (eq : T → T → Bool) (tags : List T) (a : Account T) → (seeing eq tags a).halt ≡ a.halt
-seeing_halt eq tags a = either_halt a.halt (a.ways == 0) a (record a { seen = with_tags eq a.seen tags }) refl refl
+seeing_halt eq tags a = either_halt a.halt (a.ways == 0) a (record a { table = with_tags eq a.table tags }) refl refl
 
 looked_up_halt : {T : Type 0} (eq : T → T → Bool) (key : Key T) (a : Account T) → (looked_up eq key a).halt ≡ a.halt
 looked_up_halt eq key a = either_halt a.halt (is_kept eq key a) (record (keeping eq key a) { hits = next_count a.hits }) (record a { misses = next_count a.misses }) refl refl
@@ -150,11 +160,18 @@ module _ {S T : Type 0} (eq : T → T → Bool) (m : PolicyModel T S) (s : Machi
 
   rule_counted_halt : (a : Account T) → (rule_counted eq m s h a).halt ≡ a.halt
   unfolding rule_counted
-  rule_counted_halt a = after_rule_halt (preparation m s h) (look_counted eq m s h a) ∙ look_counted_halt a
+  rule_counted_halt a =
+      room_halt eq (standing_tags m s) (after_rule eq m s h (preparation m s h)) (look_counted eq m s h a) (after_rule_halt (preparation m s h)) ∙ look_counted_halt a
+
+  service_counted_halt : (a : Account T) → (service_counted eq m s h a).halt ≡ a.halt
+  unfolding service_counted
+  service_counted_halt a =
+      room_halt eq (served_tags m s h) (after_service eq m s h (job_at m s h)) (rule_counted eq m s h a) (after_service_halt (job_at m s h)) ∙ rule_counted_halt a
 
   pub accounted_halt : (a : Account T) → (account_after_turn eq m s h a).halt ≡ a.halt
   unfolding account_after_turn
-  accounted_halt a = after_service_halt (job_at m s h) (rule_counted eq m s h a) ∙ rule_counted_halt a
+  accounted_halt a =
+      either_halt a.halt (is_over (rule_counted eq m s h a)) (rule_counted eq m s h a) (service_counted eq m s h a) (rule_counted_halt a) (service_counted_halt a)
 
   pub accounted_turns : (a : Account T) → (account_after_turn eq m s h a).turns ≡ next_count a.turns
   unfolding account_after_turn

@@ -2,6 +2,9 @@ pub mod AccountLemmas
 pub mod MachineLemmas
 pub mod MapLemmas
 pub mod MirrorLemmas
+pub mod RoomLemmas
 pub mod StepLemmas
+pub mod TagLemmas
 pub mod TurnLemmas
+pub mod UnsweptLemmas
 pub mod ValueLemmas

@@ -144,7 +144,7 @@ module _ {S T : Type 0} (eq : T → T → Bool) (m : PolicyModel T S) (e : Stand
   plain_within : IsUncached e.account → is_over (account_after_turn eq m e.machine h e.account) ≡ false
   plain_within plain =
       let after = accounted_plain eq m e.machine h e.account plain in
-      ap is_over after.1 ∙ never_over eq (record e.account { misses = after.0; turns = next_count e.account.turns }) (record { ways = plain.ways; seen = plain.seen; sets = plain.sets })
+      ap is_over after.1 ∙ never_over eq (record e.account { misses = after.0; turns = next_count e.account.turns }) (record { ways = plain.ways; table = plain.table; sets = plain.sets })
 
   pub plain_step : IsUncached e.account → is_ready e h ≡ true → step eq m e feed h ≡ made_step eq m e feed h
   plain_step plain ready = step_made ready (plain_within plain)
@@ -152,7 +152,7 @@ module _ {S T : Type 0} (eq : T → T → Bool) (m : PolicyModel T S) (e : Stand
   plain_made : IsUncached e.account → IsUncached (account_after_turn eq m e.machine h e.account)
   plain_made plain =
       let after = accounted_plain eq m e.machine h e.account plain in
-      subst IsUncached (sym after.1) (record { ways = plain.ways; seen = plain.seen; sets = plain.sets })
+      subst IsUncached (sym after.1) (record { ways = plain.ways; table = plain.table; sets = plain.sets })
 
   plain_hits : IsUncached e.account → (account_after_turn eq m e.machine h e.account).hits ≡ e.account.hits
   plain_hits plain = ap (λ account. account.hits) (accounted_plain eq m e.machine h e.account plain).1

@@ -12,8 +12,8 @@ use Rattle.monitor_calls.specs.Service.{Job}
 use Rattle.turn_steps.specs.declared.look.Look.{Look}
 use Rattle.turn_steps.specs.declared.stop.Stop.{Stop}
 use Rattle.shared_terms.specs.Counts.{next_count}
-use Rattle.engine_trait.specs.Machine.{Machine}
-use Rattle.engine_trait.specs.Turn.{job_at, preparation, rule_answer, rule_inputs}
+use Rattle.engine_trait.specs.Machine.{Machine, core_tags}
+use Rattle.engine_trait.specs.Turn.{job_at, preparation, rule_answer, rule_at, rule_inputs}
 use Rattle.engine_trait.specs.declared.ends.Counts.{Counts}
 use Rattle.engine_trait.specs.declared.ends.Halt.{Halt}
 
@@ -56,8 +56,8 @@ pub record Key (T : Type 0) : Type 0 where
 
 -- what an engine has counted and keeps beside its machine, and why it is stopped as a whole, if it is
 pub record Account (T : Type 0) : Type 0 where
-  -- the tags that have words, in the order of their first appearance, and how many may have
-  pub seen : List T
+  -- the tags that have words, none twice, and how many may have; nothing that is told rests on their order
+  pub table : List T
   pub limit : ℕ
   -- the keys of the rules that are kept, a list for each set, the most recent first, and how many each set may have. With 0
   -- there are no words, no limit and no kept rules.
@@ -66,21 +66,26 @@ pub record Account (T : Type 0) : Type 0 where
   pub turns : ℕ
   pub hits : ℕ
   pub misses : ℕ
+  pub sweeps : ℕ
   pub halt : Option Halt
 
 -- the account of an engine that keeps no rules: no tag has a word
 pub record IsUncached {T : Type 0} (account : Account T) : Type 0 where
   pub ways : account.ways ≡ 0
-  pub seen : account.seen ≡ []
+  pub table : account.table ≡ []
   pub sets : account.sets ≡ [] ∷ []
 
 -- what an engine tells of its counts
 abbrev pub counts_of : {T : Type 0} → Account T → Counts
-counts_of account = record { turns = account.turns; hits = account.hits; misses = account.misses }
+counts_of account = record { turns = account.turns; hits = account.hits; misses = account.misses; sweeps = account.sweeps }
 
 -- an engine that keeps no rules, at the start
 abbrev pub plain_account : {T : Type 0} → Account T
-plain_account = record { seen = []; limit = 0; sets = [] ∷ []; ways = 0; turns = 0; hits = 0; misses = 0; halt = None }
+plain_account = record { table = []; limit = 0; sets = [] ∷ []; ways = 0; turns = 0; hits = 0; misses = 0; sweeps = 0; halt = None }
+
+-- more tags have words than may have
+abbrev pub is_over : {T : Type 0} → Account T → Bool
+is_over account = nat_lt account.limit (length account.table)
 
 module _ {T : Type 0} (eq : T → T → Bool) where
   -- a tag that is new goes to the end
@@ -124,16 +129,22 @@ module _ {T : Type 0} (eq : T → T → Bool) where
 
   -- the tags have words from now on
   abbrev pub seeing : List T → Account T → Account T
-  seeing tags account = if account.ways == 0 then account else record account { seen = with_tags account.seen tags }
+  seeing tags account = if account.ways == 0 then account else record account { table = with_tags account.table tags }
 
   -- an allowed rule is kept, and its outputs have words
   abbrev pub rule_kept : {E : Type 0} → Key T → Result (Outs T) E → Account T → Account T
   rule_kept key (Ok outs) account = seeing (outs.pc ∷ outs.result ∷ []) (keeping key account)
   rule_kept key (Err why) account = account
 
--- more tags have words than may have
-abbrev pub is_over : {T : Type 0} → Account T → Bool
-is_over account = nat_lt account.limit (length account.seen)
+  -- a sweep, which is counted: just these tags have words from now on, and no rule is kept
+  abbrev pub swept : List T → Account T → Account T
+  swept tags account =
+      record account { table = with_tags [] tags; sets = map (λ keys. []) account.sets; sweeps = next_count account.sweeps }
+
+  -- A step in which tags get words. Where more would have one than may, a sweep comes first, which leaves theirs to the tags that
+  -- stand somewhere.
+  abbrev pub with_room : List T → (Account T → Account T) → Account T → Account T
+  with_room standing step account = if is_over (step account) then step (swept standing account) else step account
 
 -- the tag of an answer
 abbrev pub answer_tags : {T : Type 0} → Option (Answer T) → List T
@@ -147,6 +158,19 @@ written_tags job = map (λ word. word.2) job.words ++ answer_tags job.plan.answe
 -- the first of them, if there is any
 abbrev pub first_written : {T : Type 0} → Job T → List T
 first_written job = take 1 (written_tags job)
+
+-- the outputs of a rule that allows
+abbrev pub ruled_tags : {T E : Type 0} → Result (Outs T) E → List T
+ruled_tags (Ok outs) = outs.pc ∷ outs.result ∷ []
+ruled_tags (Err why) = []
+
+-- the tags that stand somewhere before a turn, the plain one first
+abbrev pub standing_tags : {S T : Type 0} → PolicyModel T S → Machine S T → List T
+standing_tags m s = m.plain s.policy ∷ core_tags s.core
+
+-- and before its service: the outputs of its rule too
+abbrev pub served_tags : {S T : Type 0} → PolicyModel T S → Machine S T → ℕ → List T
+served_tags m s h = standing_tags m s ++ ruled_tags (rule_at m s h)
 
 module _ {S T : Type 0} (eq : T → T → Bool) (m : PolicyModel T S) (s : Machine S T) (h : ℕ) where
   -- the key that the rule of a look is kept under
@@ -175,13 +199,19 @@ module _ {S T : Type 0} (eq : T → T → Bool) (m : PolicyModel T S) (s : Machi
 
   -- the account after the rule of a turn, if it came to one
   unfoldable pub rule_counted : Account T → Account T
-  rule_counted account = after_rule (preparation m s h) (look_counted account)
+  rule_counted account = with_room eq (standing_tags m s) (after_rule (preparation m s h)) (look_counted account)
 
-  -- the account after a turn that is made
+  -- the account after the service of a turn, if it came to one
+  unfoldable pub service_counted : Account T → Account T
+  service_counted account = with_room eq (served_tags m s h) (after_service (job_at m s h)) (rule_counted account)
+
+  -- the account after a turn that is made. One whose rule needs more words than there may be never comes to its service.
   unfoldable pub account_after_turn : Account T → Account T
-  account_after_turn account = record (after_service (job_at m s h) (rule_counted account)) { turns = next_count account.turns }
+  account_after_turn account =
+      record (if is_over (rule_counted account) then rule_counted account else service_counted account) { turns = next_count account.turns }
 
-  -- the account before the step that needs more words than there may be: that of the rule's outputs, or that of the tags
-  -- that the service writes
-  abbrev pub before_out : Account T → Account T
-  before_out account = if is_over (rule_counted account) then look_counted account else rule_counted account
+  -- the account of the step that needs more words than there may be, after its sweep: that of the rule's outputs, or that of
+  -- the tags that the service writes
+  abbrev pub account_out : Account T → Account T
+  account_out account =
+      if is_over (rule_counted account) then swept eq (standing_tags m s) (look_counted account) else swept eq (served_tags m s h) (rule_counted account)

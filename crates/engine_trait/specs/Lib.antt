@@ -7,3 +7,4 @@ pub mod Mirrored
 pub mod Runs
 pub mod Standing
 pub mod Turn
+pub mod Unswept

@@ -1,8 +1,9 @@
 -- The state of a machine: the policy's value, and the core of harts with their stops and of memory. The feed stands
 -- beside it.
-use Rattle.std.specs.Prelude.{◌≡◌, ℕ, ◌≤◌, Bool, true, false, ◌&&◌, nat_lt, List, All, length, Option, Some, None, replicate, slice_index_or, slice_set}
+use Rattle.std.specs.Prelude.{◌≡◌, ℕ, ◌≤◌, Bool, true, false, ◌&&◌, nat_lt, List, ◌++◌, All, length, Option, Some, None, replicate, slice_index_or, slice_set}
 use Rattle.policy_trait.specs.Model.{PolicyModel}
-use Rattle.tag_memory.specs.Hart.{HartState, IsHartOf, fresh_hart}
+use Rattle.std.specs.List.{flat_map}
+use Rattle.tag_memory.specs.Hart.{HartState, IsHartOf, fresh_hart, hart_tags}
 use Rattle.tag_memory.specs.Ram.{IsRamOf, RamState, ram_bytes}
 use Rattle.turn_steps.specs.Values.{HartHasWords, RamHasWords}
 use Rattle.turn_steps.specs.declared.stop.Stop.{Stop}
@@ -37,6 +38,10 @@ pub record IsMachine {S T : Type 0} (m : PolicyModel T S) (s : Machine S T) : Ty
   pub harts : All (IsHartOf (m.plain s.policy)) s.core.harts
   pub ram : IsRamOf (m.plain s.policy) s.core.ram
   pub room : m.room s.policy ≤ ram_bytes s.core.ram
+
+-- the tags that stand somewhere: those of each hart, and those of memory
+abbrev pub core_tags : {T : Type 0} → CoreState T → List T
+core_tags core = flat_map hart_tags core.harts ++ core.ram.tags
 
 -- no hart has stopped
 abbrev pub fresh_core : {T : Type 0} → List (HartState T) → RamState T → CoreState T

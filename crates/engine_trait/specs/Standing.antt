@@ -1,10 +1,10 @@
 -- An engine as its callers see it, and one step of it: the turn of a hart with what it leaves of the account.
-use Rattle.std.specs.Prelude.{◌≡◌, ◌⊎◌, ℕ, Bool, true, false, ◌&&◌, Option, Some, None, Ok, IsOk}
+use Rattle.std.specs.Prelude.{◌≡◌, ◌⊎◌, ℕ, Bool, true, false, ◌&&◌, List, Option, Some, None, Ok, IsOk}
 use Rattle.policy_trait.specs.Model.{PolicyModel}
 use Rattle.monitor_calls.specs.Service.{Job}
-use Rattle.engine_trait.specs.Accounts.{Account, account_after_turn, before_out, first_written, is_over, look_counted, rule_counted, seeing}
+use Rattle.engine_trait.specs.Accounts.{Account, account_after_turn, account_out, after_rule, first_written, is_over, look_counted, rule_counted, seeing, served_tags, standing_tags, swept}
 use Rattle.engine_trait.specs.Machine.{Machine, is_ready_in}
-use Rattle.engine_trait.specs.Turn.{job_at, rule_at, stopped_at, turn_of}
+use Rattle.engine_trait.specs.Turn.{job_at, preparation, rule_at, stopped_at, turn_of}
 use Rattle.engine_trait.specs.declared.ends.Halt.{Halt}
 use Rattle.engine_trait.specs.declared.ends.Halt.TheVariants as halt
 use Rattle.turn_steps.specs.Feeds.{Tape}
@@ -37,18 +37,28 @@ is_ready e h = is_running e.account.halt && is_ready_in e.machine.core h
 abbrev pub wanting : {T : Type 0} → Account T → Account T
 wanting account = record account { halt = Some halt.Memory }
 
-module _ {S T : Type 0} (eq : T → T → Bool) (m : PolicyModel T S) (e : Standing S T) (h : ℕ) where
-  -- Memory ran out as the rule was asked, whose outputs can all have words: the look-up is counted, and the rule is not kept.
-  pub record GivesUpAtRule (account : Account T) : Type 0 where
-    pub fits : is_over (rule_counted eq m e.machine h e.account) ≡ false
-    pub left : account ≡ wanting (look_counted eq m e.machine h e.account)
+module _ {T : Type 0} (eq : T → T → Bool) where
+  -- Memory ran out behind a sweep, in a step for which there was room then.
+  pub record WantsSwept (standing : List T) (step : Account T → Account T) (before after : Account T) : Type 0 where
+    pub fits : is_over (step (swept eq standing before)) ≡ false
+    pub left : after ≡ wanting (swept eq standing before)
 
-  -- Memory ran out in a service that nothing refuses, and the first tag that it writes can have a word: the rule is kept.
+  -- Memory ran out in a step in which tags get words, or in the sweep before it.
+  abbrev pub Wants : List T → (Account T → Account T) → Account T → Account T → Type 0
+  Wants standing step before after = (after ≡ wanting before) ⊎ WantsSwept standing step before after
+
+module _ {S T : Type 0} (eq : T → T → Bool) (m : PolicyModel T S) (e : Standing S T) (h : ℕ) where
+  -- as the rule was asked: the look-up is counted, and the rule is not kept
+  abbrev pub GivesUpAtRule : Account T → Type 0
+  GivesUpAtRule =
+      Wants eq (standing_tags m e.machine) (after_rule eq m e.machine h (preparation m e.machine h)) (look_counted eq m e.machine h e.account)
+
+  -- in a service that nothing refuses: the rule is kept, unless a sweep came
   pub record GivesUpAtService (account : Account T) : Type 0 where
     pub job : Job T
     pub served : job_at m e.machine h ≡ Ok (Some job)
-    pub fits : is_over (seeing eq (first_written job) (rule_counted eq m e.machine h e.account)) ≡ false
-    pub left : account ≡ wanting (rule_counted eq m e.machine h e.account)
+    pub ruled : is_over (rule_counted eq m e.machine h e.account) ≡ false
+    pub wants : Wants eq (served_tags m e.machine h) (seeing eq (first_written job)) (rule_counted eq m e.machine h e.account) account
 
 module _ {S T : Type 0} (eq : T → T → Bool) (m : PolicyModel T S) (e : Standing S T) (feed : Tape) (h : ℕ) where
   -- the turn is made: it is the machine's, and it is counted
@@ -59,11 +69,11 @@ module _ {S T : Type 0} (eq : T → T → Bool) (m : PolicyModel T S) (e : Stand
     ended = (turn_of m e.machine feed h).ended;
   }
 
-  -- the engine ran out of tag numbers: the look-up is counted, and the rule is kept where its outputs have words; the turn is
-  -- not counted, and nothing else changes
+  -- the engine ran out of tag numbers: the look-up is counted, and the sweep, behind which no rule is kept; the turn is not
+  -- counted, and nothing else changes
   abbrev pub out_of_words : Stepped S T
   out_of_words = record {
-    standing = record e { account = record (before_out eq m e.machine h e.account) { halt = Some halt.TagNumbers } };
+    standing = record e { account = record (account_out eq m e.machine h e.account) { halt = Some halt.TagNumbers } };
     feed = feed;
     ended = ends.TagsOut;
   }
@@ -82,8 +92,8 @@ module _ {S T : Type 0} (eq : T → T → Bool) (m : PolicyModel T S) (e : Stand
   unfoldable pub step : Stepped S T
   step = step_by (is_ready e h) (is_over (account_after_turn eq m e.machine h e.account))
 
-  -- Memory ran out in a turn whose rule allows, and not where tag numbers had run out: the engine is stopped, the turn is not
-  -- counted, and nothing else changes.
+  -- Memory ran out in a turn whose rule allows, and not where tag numbers had run out behind a sweep: the engine is stopped, the
+  -- turn is not counted, and nothing else of the machine changes.
   pub record GivesUp (f : Standing S T) (fed : Tape) : Type 0 where
     pub ready : is_ready e h ≡ true
     pub allowed : IsOk (rule_at m e.machine h)

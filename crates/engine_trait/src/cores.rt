@@ -1,19 +1,23 @@
 //! The core of an engine: harts, their stops, and memory.
 
-ghost use Rattle.std.specs.Prelude.{◌≡◌, ◌≢◌, ◌+◌, ◌%◌, ◌<◌, ◌≤◌, false, None, Ok, IfOk, IfSome, OnOk, length};
-ghost use Rattle.std.specs.List.{All};
+ghost use Rattle.std.specs.Prelude.{◌≡◌, ◌≢◌, ◌+◌, ◌++◌, ◌%◌, ◌<◌, ◌≤◌, false, None, Ok, IfOk, IfSome, OnOk, length, map, slice_index};
+ghost use Rattle.std.specs.List.{All, flat_map};
+ghost use Rattle.tag_memory.specs.Hart.{hart_tags};
+ghost use Rattle.tag_memory.specs.Maps.{hart_by};
 ghost use Rattle.tag_memory.specs.Ram.{IsPlace, ram_bytes};
 ghost use Rattle.turn_steps.specs.Effects.{IsSound};
 ghost use Rattle.turn_steps.specs.Feeds.{Tape};
 ghost use Rattle.turn_steps.specs.Looks.{is_call, is_system, look_result, unless_system};
 ghost use Rattle.turn_steps.specs.Services.{args_on};
-ghost use Rattle.engine_trait.specs.Machine.{CoreState, fresh_core, hart_at, stop_at, stopping};
+ghost use Rattle.engine_trait.specs.Machine.{CoreState, core_tags, fresh_core, hart_at, stop_at, stopping};
+ghost use Rattle.engine_trait.specs.Maps.{core_by};
 ghost use Rattle.engine_trait.specs.Standing.{IsFailure};
 ghost use Rattle.engine_trait.specs.Turn.{carried_at, core_effected, core_served, end_of, rule_inputs, violation};
 
 use crate::ends::TurnEnd;
 use policy_trait::{Answer, Args, Ins, InsAt, Outs, Refused};
 use rv_step::Fault;
+use std::alloc::{AllocError, Global};
 use std::marker::Model;
 use tag_memory::{Hart, Ram};
 use turn_steps::{
@@ -232,5 +236,46 @@ impl<T: Copy> Core<T> {
         let hart = &mut self.harts[h as usize];
         answer_to(hart, answer);
         hart.set_pc(next, pc_tag);
+    }
+
+    /// The tags that stand in the core: those of each hart in turn, then those of memory. The only
+    /// error is running out of memory.
+    pub fn tags(&self, alloc: Global) -> Result<Vec<T>, AllocError>
+        ensures { IfOk result (λ tags. tags.items ≡ core_tags self.now) }
+    {
+        let mut tags = Vec::new(alloc);
+        push_all_tags(&self.harts, &mut tags)?;
+        self.ram.push_tags(&mut tags)?;
+        Ok(tags)
+    }
+}
+
+impl Core<u32> {
+    /// Gives each tag, the plain ones too, the number that stands at its place in `numbers`, 0 for
+    /// one past its end. Values, words and stops stay. It takes no memory.
+    pub fn renumber(&mut self, numbers: &[u32])
+        ensures { self.new ≡ core_by (slice_index numbers.now) self.old }
+    {
+        renumber_harts(&mut self.harts, numbers);
+        self.ram.renumber(numbers);
+    }
+}
+
+// Adds the tags that stand in each hart to a list.
+fn push_all_tags<T: Copy>(harts: &[Hart<T>], list: &mut Vec<T>) -> Result<(), AllocError>
+    ensures { OnOk result (list.new.items ≡ list.old.items ++ flat_map hart_tags harts.now) }
+{
+    for hart in harts {
+        hart.push_tags(list)?;
+    }
+    Ok(())
+}
+
+// Gives each tag of each hart the number that stands at its place in `numbers`.
+fn renumber_harts(harts: &mut [Hart<u32>], numbers: &[u32])
+    ensures { harts.new ≡ map (hart_by (slice_index numbers.now)) harts.old }
+{
+    for hart in harts.iter_mut() {
+        hart.renumber(numbers);
     }
 }

@@ -13,9 +13,9 @@ pub enum TurnEnd {
     Stopped(Stop),
     /// The hart or the engine had stopped before, and nothing changed.
     Idle,
-    /// The engine ran out of tag numbers, and is stopped. Nothing else changed.
+    /// The engine ran out of tag numbers, behind a sweep, and is stopped. Nothing of the machine changed.
     TagsOut,
-    /// Memory ran out, and the engine is stopped. Nothing else changed.
+    /// Memory ran out, and the engine is stopped. Nothing of the machine changed.
     Memory,
 }
 
@@ -28,13 +28,14 @@ pub enum Halt {
     Memory,
 }
 
-/// How many turns were made, and how many look-ups of rules hit the rule cache and missed it. Each count stands still
-/// at 2^64 - 1.
+/// How many turns were made, how many look-ups of rules hit the rule cache and missed it, and how many sweeps gave tag numbers
+/// back. Each count stands still at 2^64 - 1.
 #[derive(Clone, Copy, PartialEq, Eq)]
 pub struct Counts {
     pub turns: u64,
     pub hits: u64,
     pub misses: u64,
+    pub sweeps: u64,
 }
 
 /// Why a start gave no engine.

@@ -122,7 +122,7 @@ pub trait Engine {
     fn policy(&self) -> &Self::P
         ensures { result.now ≡ (standing self.now).machine.policy };
 
-    /// How many turns, hits and misses there were.
+    /// How many turns, hits, misses and sweeps there were.
     fn counts(&self) -> Counts
         ensures { result ≡ counts_of (standing self.now).account };
 }

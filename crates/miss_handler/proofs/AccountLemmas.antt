@@ -60,7 +60,7 @@ module _ {T : Type 0} (eq : T → T → Bool) (laws : IsEquivalence eq) (exact :
     looked_tells None is =
         let miss : is_some (lookup_of key store) ≡ false = ap is_some is in
         record {
-          seen = rw (found_alike ∙ miss) tells.seen;
+          tags = rw (found_alike ∙ miss) tells.tags;
           limit = rw (found_alike ∙ miss) tells.limit;
           rules = subst (λ at. IsAccountOf read (looked_up eq (key_by read key) account) (counted_as key at store)) is
               (miss_alike read eq key account store tells.rules apart miss);
@@ -69,7 +69,7 @@ module _ {T : Type 0} (eq : T → T → Bool) (laws : IsEquivalence eq) (exact :
     looked_tells (Some words) is =
         let hit : is_some (lookup_of key store) ≡ true = ap is_some is in
         record {
-          seen = rw (found_alike ∙ hit) tells.seen;
+          tags = rw (found_alike ∙ hit) tells.tags;
           limit = rw (found_alike ∙ hit) tells.limit;
           rules = subst (λ at. IsAccountOf read (looked_up eq (key_by read key) account) (counted_as key at store)) is
               (hit_alike read eq key account store tells.rules apart hit);

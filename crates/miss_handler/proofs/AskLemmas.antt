@@ -3,6 +3,7 @@ use Rattle.std.proofs.Common.{◌≡◌, ℕ, Bool, Some, None, Ok, Err, is_some
 use Rattle.std.specs.Cmp.{IsEquivalence}
 use Rattle.std.specs.Result.{OnErr, OnOk}
 use Rattle.std.proofs.lemmas.Option.{slice_get_within}
+use Rattle.std.proofs.lemmas.Result.{on_ok_weaker}
 use Rattle.rv_decode.specs.declared.groups.Group.{Group}
 use Rattle.pump_words.specs.Same.{TellsApart}
 use Rattle.policy_trait.specs.declared.rules.Ins.{Ins}
@@ -102,7 +103,7 @@ module _ {T : Type 0} (eq : T → T → Bool) (book : Rulebook T) (table : Table
         hit_still =
             subst (λ (s : Store). AreRules book table.tags s.sets) (sym next_is) (hit_rules book table.tags store key asked.rules outs is)
 
-    -- ---- the rule is not found, and asked
+    -- ---- the rule is asked
 
     pub miss_answer : (new : TableState T) (outs : Outs ℕ) → IsAnswered eq book table new key outs
         → answer_on book table.tags group words ≡ Ok (outs_on book new.tags outs)
@@ -113,40 +114,55 @@ module _ {T : Type 0} (eq : T → T → Bool) (book : Rulebook T) (table : Table
     extends_by new (Ok outs) is same = grows eq asked.laws book table new key outs is
     extends_by new (Err why) is same = subst (λ (t : TableState T). Extends table.tags t.tags) (sym same) (extends_same table.tags)
 
+    module _ (before next : Store) (before_rules : AreRules book table.tags before.sets) (new : TableState T) where
+      module _ (outs : Outs ℕ) (is : IsAnswered eq book table new key outs) (next_is : next ≡ store_with key outs before) where
+        -- it is kept, and its outputs have words
+        answered_tells : (account : Account T) → Tells book.plain table before account
+            → Tells book.plain new next (rule_kept eq {E = Refused} (tag_key book table.tags group words) (answer_on book table.tags group words) account)
+        answered_tells account tells =
+            subst (λ answer. Tells book.plain new next (rule_kept eq {E = Refused} (tag_key book table.tags group words) answer account))
+            (sym (answer_is ∙ is.allowed))
+            (subst (λ s. Tells book.plain new s (rule_kept eq {E = Refused} (tag_key book table.tags group words) (Ok is.outs) account)) (sym next_is)
+            (subst (λ k. Tells book.plain new (store_with key outs before) (rule_kept eq {E = Refused} k (Ok is.outs) account)) key_told
+            (keeping_tells eq asked.laws book table new key outs is asked.exact before asked.distinct key_below before_rules account tells)))
+
+        answered_still : AreRules book new.tags next.sets
+        answered_still =
+            subst (λ (s : Store). AreRules book new.tags s.sets) (sym next_is)
+            (kept_rules eq asked.laws book table new key outs is before key_words before_rules)
+
+      -- ---- by how the question ends
+
+      module _ {E : Type 0} where
+        pub kept_anew : (end : Result (Outs ℕ) E) → IfOk end (IsAnswered eq book table new key) → IfOk end (λ outs. next ≡ store_with key outs before)
+            → OnOk end ((account : Account T) → Tells book.plain table before account
+            → Tells book.plain new next (rule_kept eq {E = Refused} (tag_key book table.tags group words) (answer_on book table.tags group words) account))
+        kept_anew (Ok outs) is next_is = answered_tells outs is next_is
+        kept_anew (Err why) is next_is = tt
+
+        pub still_anew : (end : Result (Outs ℕ) E) → IfOk end (IsAnswered eq book table new key) → IfOk end (λ outs. next ≡ store_with key outs before)
+            → OnErr end (new ≡ table) → OnErr end (next ≡ before) → AreRules book new.tags next.sets
+        still_anew (Ok outs) is next_is same unkept = answered_still outs is next_is
+        still_anew (Err why) is next_is same unkept =
+            subst (λ (t : TableState T). AreRules book t.tags next.sets) (sym same)
+            (subst (λ (s : Store). AreRules book table.tags s.sets) (sym unkept) before_rules)
+
+    -- ---- the rule is not found, and asked
+
     module _ (none : lookup_of key store ≡ None) (middle next : Store) (middle_is : middle ≡ looked_for key store) (new : TableState T) where
       -- the look-up changes no rule
       middle_rules : AreRules book table.tags middle.sets
       middle_rules =
           subst (AreRules book table.tags) (sym (ap (λ (s : Store). s.sets) middle_is ∙ ap (λ at. (counted_as key at store).sets) none)) asked.rules
 
-      module _ (outs : Outs ℕ) (is : IsAnswered eq book table new key outs) (next_is : next ≡ store_with key outs middle) where
-        miss_tells : (account : Account T) → Tells book.plain table store account
-            → Tells book.plain new next (rule_kept eq {E = Refused} (tag_key book table.tags group words) (answer_on book table.tags group words)
-            (looked_up eq (tag_key book table.tags group words) account))
-        miss_tells account tells =
-            subst (λ answer. Tells book.plain new next (rule_kept eq {E = Refused} (tag_key book table.tags group words) answer
-            (looked_up eq (tag_key book table.tags group words) account))) (sym (answer_is ∙ is.allowed))
-            (subst (λ s. Tells book.plain new s (rule_kept eq {E = Refused} (tag_key book table.tags group words) (Ok is.outs)
-            (looked_up eq (tag_key book table.tags group words) account))) (sym next_is)
-            (subst (λ k. Tells book.plain new (store_with key outs middle)
-            (rule_kept eq {E = Refused} k (Ok is.outs) (looked_up eq (tag_key book table.tags group words) account))) key_told
-            (keeping_tells eq asked.laws book table new key outs is asked.exact middle asked.distinct key_below middle_rules
-            (looked_up eq (tag_key book table.tags group words) account) (looked_tells account tells middle middle_is))))
-
-        miss_still : AreRules book new.tags next.sets
-        miss_still =
-            subst (λ (s : Store). AreRules book new.tags s.sets) (sym next_is)
-            (kept_rules eq asked.laws book table new key outs is middle key_words middle_rules)
-
-      -- ---- by how the question ends
-
       module _ {E : Type 0} where
         pub kept_by : (end : Result (Outs ℕ) E) → IfOk end (IsAnswered eq book table new key) → IfOk end (λ outs. next ≡ store_with key outs middle)
             → OnOk end ((account : Account T) → Tells book.plain table store account
             → Tells book.plain new next (rule_kept eq {E = Refused} (tag_key book table.tags group words) (answer_on book table.tags group words)
             (looked_up eq (tag_key book table.tags group words) account)))
-        kept_by (Ok outs) is next_is = miss_tells outs is next_is
-        kept_by (Err why) is next_is = tt
+        kept_by end is next_is =
+            on_ok_weaker end (λ kept account tells. kept (looked_up eq (tag_key book table.tags group words) account) (looked_tells account tells middle middle_is))
+            (kept_anew middle next middle_rules new end is next_is)
 
         pub unkept_by : (end : Result (Outs ℕ) E) → OnErr end (new ≡ table) → OnErr end (next ≡ middle)
             → OnErr end ((account : Account T) → Tells book.plain table store account
@@ -158,7 +174,4 @@ module _ {T : Type 0} (eq : T → T → Bool) (book : Rulebook T) (table : Table
 
         pub still_by : (end : Result (Outs ℕ) E) → IfOk end (IsAnswered eq book table new key) → IfOk end (λ outs. next ≡ store_with key outs middle)
             → OnErr end (new ≡ table) → OnErr end (next ≡ middle) → AreRules book new.tags next.sets
-        still_by (Ok outs) is next_is same unkept = miss_still outs is next_is
-        still_by (Err why) is next_is same unkept =
-            subst (λ (t : TableState T). AreRules book t.tags next.sets) (sym same)
-            (subst (λ (s : Store). AreRules book table.tags s.sets) (sym unkept) middle_rules)
+        still_by = still_anew middle next middle_rules new

@@ -89,11 +89,11 @@ module _ {T : Type 0} (eq : T → T → Bool) (laws : IsEquivalence eq) where
   keeping_found key account hit = rw hit (keeping_twice key account (next_count account.hits))
 
   -- tags that have words change no account
-  seeing_known : (tags : List T) (account : Account T) → with_tags eq account.seen tags ≡ account.seen → seeing eq tags account ≡ account
+  seeing_known : (tags : List T) (account : Account T) → with_tags eq account.table tags ≡ account.table → seeing eq tags account ≡ account
   seeing_known tags account known = elim (account.ways == 0) as (λ none.
-      (if none then account else record account { seen = with_tags eq account.seen tags }) ≡ account) [
+      (if none then account else record account { table = with_tags eq account.table tags }) ≡ account) [
         | true ↦ refl
-        | false ↦ ap (λ seen. record account { seen = seen }) known
+        | false ↦ ap (λ seen. record account { table = seen }) known
       ]
 
   -- outputs that have words add no tag
@@ -143,7 +143,7 @@ module _ {T : Type 0} (eq : T → T → Bool) (laws : IsEquivalence eq) (exact :
       let are = outs_words book table.tags words (hit_rule book table.tags store key rules words is).outs in
       ap (seeing eq (outs.pc ∷ outs.result ∷ [])) (keeping_found eq laws read account hit)
       ∙ seeing_known eq laws (outs.pc ∷ outs.result ∷ []) (looked_up eq read account)
-      (ap (λ seen. with_outs eq seen outs) look.seen ∙ known_outs eq laws table.tags outs words are ∙ sym look.seen)
+      (ap (λ seen. with_outs eq seen outs) look.tags ∙ known_outs eq laws table.tags outs words are ∙ sym look.tags)
 
   -- so the account after the look-up is that with the rule kept
   pub hit_tells : Tells book.plain table (looked_for key store) (rule_kept eq {E = Refused} read (Ok (outs_on book table.tags words)) (looked_up eq read account))

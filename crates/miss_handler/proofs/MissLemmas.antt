@@ -51,24 +51,24 @@ module _ {T : Type 0} (eq : T → T → Bool) (tags : List T) (account : Account
   -- tags that get words change no kept key and no count
   seeing_counts : (tag_of : ℕ → T) (store : Store) → IsAccountOf tag_of account store → IsAccountOf tag_of (seeing eq tags account) store
   seeing_counts tag_of store is = elim (account.ways == 0) as (λ none.
-      IsAccountOf tag_of (if none then account else record account { seen = with_tags eq account.seen tags }) store) [
+      IsAccountOf tag_of (if none then account else record account { table = with_tags eq account.table tags }) store) [
         | true ↦ is
         | false ↦ record { sets = is.sets; ways = is.ways; hits = is.hits; misses = is.misses }
       ]
 
   seeing_limit : (seeing eq tags account).limit ≡ account.limit
   seeing_limit = elim (account.ways == 0) as (λ none.
-      (if none then account else record account { seen = with_tags eq account.seen tags }).limit ≡ account.limit) [
+      (if none then account else record account { table = with_tags eq account.table tags }).limit ≡ account.limit) [
         | true ↦ refl
         | false ↦ refl
       ]
 
-  seeing_seen : 1 ≤ account.ways → (seeing eq tags account).seen ≡ with_tags eq account.seen tags
-  seeing_seen room = by (account.ways == 0) refl
+  seeing_table : 1 ≤ account.ways → (seeing eq tags account).table ≡ with_tags eq account.table tags
+  seeing_table room = by (account.ways == 0) refl
     where
-      by : (none : Bool) → (account.ways == 0) ≡ none → (seeing eq tags account).seen ≡ with_tags eq account.seen tags
+      by : (none : Bool) → (account.ways == 0) ≡ none → (seeing eq tags account).table ≡ with_tags eq account.table tags
       by true none = let zero : account.ways ≡ 0 = eqb-true account.ways 0 none in absurd (omega (arith, room, zero))
-      by false some = ap (λ none. (if none then account else record account { seen = with_tags eq account.seen tags }).seen) some
+      by false some = ap (λ none. (if none then account else record account { table = with_tags eq account.table tags }).table) some
 
 -- ---- a rule that allows
 
@@ -128,14 +128,14 @@ module _ {T : Type 0} (eq : T → T → Bool) (laws : IsEquivalence eq) (book : 
     -- the account is that with the rule kept and the outputs seen
     pub keeping_tells : Tells book.plain new (store_with key words store) (rule_kept eq {E = Refused} read (Ok is.outs) account)
     keeping_tells =
-        let tags = is.outs.pc ∷ is.outs.result ∷ [] in
+        let outs = is.outs.pc ∷ is.outs.result ∷ [] in
         let room : 1 ≤ account.ways = subst (λ n. 1 ≤ n) (sym tells.rules.ways) tells.room in
         record {
-          seen =
-              seeing_seen eq tags (accounts.keeping eq read account) room ∙ ap (λ seen. with_outs eq seen is.outs) tells.seen
+          tags =
+              seeing_table eq outs (accounts.keeping eq read account) room ∙ ap (λ tags. with_outs eq tags is.outs) tells.tags
               ∙ sym (ap (λ (t : TableState T). t.tags) is.grown);
           limit =
-              seeing_limit eq tags (accounts.keeping eq read account) ∙ tells.limit ∙ sym (ap (λ (t : TableState T). t.limit) is.grown);
-          rules = seeing_counts eq tags (accounts.keeping eq read account) (tag_at book.plain new.tags) (store_with key words store) keeping_told;
+              seeing_limit eq outs (accounts.keeping eq read account) ∙ tells.limit ∙ sym (ap (λ (t : TableState T). t.limit) is.grown);
+          rules = seeing_counts eq outs (accounts.keeping eq read account) (tag_at book.plain new.tags) (store_with key words store) keeping_told;
           room = tells.room;
         }

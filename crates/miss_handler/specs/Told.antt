@@ -9,7 +9,7 @@ use Rattle.tag_intern.specs.Words.{tag_at}
 -- the tags that have words are those of the table; the kept keys and the counts are those of the store, each of whose
 -- sets may keep a rule
 pub record Tells {T : Type 0} (plain : T) (table : TableState T) (store : Store) (account : Account T) : Type 0 where
-  pub seen : account.seen ≡ table.tags
+  pub tags : account.table ≡ table.tags
   pub limit : account.limit ≡ table.limit
   pub rules : IsAccountOf (tag_at plain table.tags) account store
   pub room : 1 ≤ store.ways

@@ -1,4 +1,5 @@
-//! `ask`: the answer of a kept rule, or that of the policy's, which is kept then.
+//! `ask`: the answer of a kept rule, or that of the policy's, which is kept then. `settle`: the
+//! policy's alone.
 
 ghost use Rattle.std.specs.Prelude.{◌≡◌, ◌↔◌, ◌+◌, ◌<◌, ◌≤◌, [], ◌∷◌, Err, IfOk, IsOk, IsOkAnd, OnErr, OnOk, Ok, Some, if◌then◌else◌, true, is_some, length, slice_get};
 ghost use Rattle.policy_trait.specs.declared.rules.Refused.{Refused};
@@ -8,6 +9,7 @@ ghost use Rattle.rule_cache.specs.Stores.{lookup_of, store_with};
 ghost use Rattle.tag_intern.specs.Table.{Extends};
 ghost use Rattle.miss_handler.specs.Asked.{AreInWords, AreOutWords, AreRules, answer_on, outs_on, tag_key, word_key};
 ghost use Rattle.miss_handler.specs.Answered.{AreWordsOf, IsAnswered, with_outs};
+ghost use Rattle.miss_handler.specs.Books.{IgnoresMasked};
 ghost use Rattle.miss_handler.specs.Told.{Tells};
 
 use crate::ends::AskEnd;
@@ -104,6 +106,79 @@ pub fn ask<T: TagTable, C: RuleStore, R: Rules<Tag = T::Tag>>(
         words: key.words,
     };
     missed(tags, store, rules, key)
+}
+
+/// The outputs of the policy's rule of a group at five tags, all as words, where no rule is kept
+/// for them, as behind a sweep: `ask` without a look-up. That was counted before.
+///
+/// The policy's rule is asked once. Where it refuses, it is not kept. Where it allows, its outputs
+/// get words, that of the pc first, and the rule is kept; where they can't, nothing is appended and
+/// it is not kept.
+#[inline(never)]
+pub fn settle<T: TagTable, C: RuleStore, R: Rules<Tag = T::Tag>>(
+    tags: &mut T,
+    store: &mut C,
+    rules: &mut R,
+    group: Group,
+    words: InWords,
+) -> Result<OutWords, AskEnd>
+    requires plain_word { slice_get (T.state tags.old).tags 0 ≡ Some (R.book rules.old).plain }
+    requires in_words { AreInWords (length (T.state tags.old).tags) words }
+    requires rules { AreRules (R.book rules.old) (T.state tags.old).tags (C.state store.old).sets }
+
+    // The answer is that of the policy's rule.
+    ensures answer { IfOk result (λ outs.
+        answer_on (R.book rules.old) (T.state tags.old).tags group words
+        ≡ Ok (outs_on (R.book rules.old) (T.state tags.new).tags outs)) }
+    ensures out_words { IfOk result (AreOutWords (length (T.state tags.new).tags)) }
+    ensures stopped { (refused : Refused) → (result ≡ Err (AskEnd.Stopped refused))
+        ↔ (answer_on (R.book rules.old) (T.state tags.old).tags group words ≡ Err refused) }
+
+    // Beside the account of an engine, an allowed rule is kept and its outputs have words. No
+    // look-up is counted.
+    ensures kept { OnOk result ((account : Account T.Tag)
+        → Tells (R.book rules.old).plain (T.state tags.old) (C.state store.old) account
+        → Tells (R.book rules.old).plain (T.state tags.new) (C.state store.new)
+        (rule_kept T.Tag.eq (tag_key (R.book rules.old) (T.state tags.old).tags group words)
+        (answer_on (R.book rules.old) (T.state tags.old).tags group words)
+        account)) }
+    ensures unkept { OnErr result (C.state store.new ≡ C.state store.old) }
+    ensures refused { OnErr result (T.state tags.new ≡ T.state tags.old) }
+
+    // It is out of words only where the outputs need more than there may be.
+    ensures tags_out { result ≡ Err AskEnd.TagsOut
+        → IsOkAnd (answer_on (R.book rules.old) (T.state tags.old).tags group words)
+        (λ outs. (T.state tags.old).limit
+        < length (with_tags T.Tag.eq (T.state tags.old).tags (outs.pc ∷ outs.result ∷ []))) }
+
+    // Memory ran out only where the rule allows and all its outputs can have words.
+    ensures memory { result ≡ Err AskEnd.Memory
+        → IsOkAnd (answer_on (R.book rules.old) (T.state tags.old).tags group words)
+        (λ outs. length (with_tags T.Tag.eq (T.state tags.old).tags (outs.pc ∷ outs.result ∷ []))
+        ≤ (T.state tags.old).limit) }
+    ensures within { length (T.state tags.new).tags ≤ (T.state tags.new).limit }
+    ensures extends { Extends (T.state tags.old).tags (T.state tags.new).tags }
+    ensures answers { R.answers rules.new ≡ next_count (R.answers rules.old) }
+
+    // The rules stay what they are, and each kept one is the policy's answer still.
+    ensures book { R.book rules.new ≡ R.book rules.old }
+    ensures rules { AreRules (R.book rules.old) (T.state tags.new).tags (C.state store.new).sets }
+{
+    let _len = tags.len(); // for the proof: no tag has two words
+    let key = key_of(rules, group, words);
+    answered_anew(tags, store, rules, key)
+}
+
+/// The key that the rule of a group is kept under, in which each input that it ignores is plain.
+fn key_of<R: Rules>(rules: &R, group: Group, words: InWords) -> Key
+    ensures key { result ≡ word_key (R.book rules.now) group words }
+    ensures law { IgnoresMasked (R.book rules.now) }
+{
+    let mask = rules.mask(group);
+    Key {
+        group,
+        words: mask.masked(words),
+    }
 }
 
 /// What the policy's rule answers to a key that is not kept. Where it allows, its outputs get words and the rule is kept;

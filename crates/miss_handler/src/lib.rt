@@ -8,7 +8,7 @@ mod rules;
 mod word_mask;
 
 pub use ends::AskEnd;
-pub use handler::ask;
+pub use handler::{ask, settle};
 pub use masks::Masks;
 pub use rules::{Asking, Rules};
 pub use word_mask::WordMask;

@@ -1,5 +1,5 @@
 -- Steps of an engine that keeps no rules, by where the turn ended.
-use Rattle.std.proofs.Common.{◌≡◌, ℕ, Bool, true, false, Option, Some, None, Result, Ok, Err, IsOk, refl, ap, sym, ◌∙◌, inr, subst, if◌then◌else◌}
+use Rattle.std.proofs.Common.{◌≡◌, ℕ, Bool, true, false, Option, Some, None, Result, Ok, Err, IsOk, refl, ap, sym, ◌∙◌, inl, inr, subst, if◌then◌else◌}
 use Rattle.std.proofs.lemmas.Bool.{false≢true}
 use Rattle.policy_trait.specs.Model.{PolicyModel}
 use Rattle.shared_terms.specs.Steps.{◌>>=◌}
@@ -10,14 +10,14 @@ use Rattle.turn_steps.specs.Feeds.{Tape}
 use Rattle.turn_steps.specs.Looks.{is_call}
 use Rattle.turn_steps.specs.declared.look.Look.{Look}
 use Rattle.turn_steps.specs.declared.stop.Stop.{Stop}
-use Rattle.engine_trait.specs.Accounts.{Account, IsUncached, account_after_turn, first_written, is_over, seeing}
+use Rattle.engine_trait.specs.Accounts.{Account, IsUncached, account_after_turn, is_over}
 use Rattle.shared_terms.specs.Counts.{next_count}
 use Rattle.engine_trait.specs.Machine.{Machine, hart_at}
 use Rattle.engine_trait.specs.Standing.{GivesUp, Standing, Stepped, is_ready, step, wanting}
 use Rattle.engine_trait.specs.Turn.{Turned, rule_answer, turn_effect, is_job, is_served, job_at, or_unserved, turn_job, preparation, service_on, settlement, stopped_at, turn_of}
 use Rattle.engine_trait.specs.declared.ends.TurnEnd.{TurnEnd}
 use Rattle.engine_trait.specs.declared.ends.TurnEnd.TheVariants as ends
-use Rattle.engine_trait.proofs.AccountLemmas.{accounted_checked, accounted_missed, rule_counted_missed, seeing_never_over}
+use Rattle.engine_trait.proofs.AccountLemmas.{accounted_checked, accounted_missed, never_over, rule_counted_missed}
 use Rattle.engine_trait.proofs.StepLemmas.{plain_step, ready_parts}
 use Rattle.engine_trait.proofs.TurnLemmas.{job_ruled, rule_looked, turn_checked, turn_refused, turn_ruled}
 use Rattle.plain_engine.specs.Plain.{EndsService, after_asked, after_look_up, after_turn, allowed_turn, given_up}
@@ -124,7 +124,7 @@ module _ {S T : Type 0} (eq : T → T → Bool) (m : PolicyModel T S) (e : Stand
       let there = call_job m e.machine h look outs looked ruled call given in
       let counted = rule_counted_missed eq m e.machine h e.account look plain looked in
       let missed : Account T = record e.account { misses = next_count e.account.misses } in
-      let still : IsUncached missed = record { ways = plain.ways; seen = plain.seen; sets = plain.sets } in
+      let still : IsUncached missed = record { ways = plain.ways; table = plain.table; sets = plain.sets } in
       subst (λ (x : Standing S T). GivesUp eq m e feed h x feed) (sym f_is) (record {
         ready = ready;
         allowed = subst IsOk (sym (rule_looked m e.machine h look looked ∙ ruled)) refl;
@@ -133,7 +133,7 @@ module _ {S T : Type 0} (eq : T → T → Bool) (m : PolicyModel T S) (e : Stand
         account = inr (record {
           job = there.0;
           served = there.1;
-          fits = ap (λ a. is_over (seeing eq (first_written there.0) a)) counted ∙ seeing_never_over eq missed still (first_written there.0);
-          left = ap wanting (sym counted);
+          ruled = ap is_over counted ∙ never_over eq missed still;
+          wants = inl (ap wanting (sym counted));
         });
       })

@@ -460,6 +460,7 @@ impl<P: Policy> Engine for Plain<P> {
             turns: self.asked.saturating_add(self.unasked),
             hits: 0,
             misses: self.asked.saturating_add(unended),
+            sweeps: 0,
         }
     }
 }

@@ -73,7 +73,7 @@ none_start basis g none = start_plain all_eq all (choice_state basis g) (none_ha
 
 -- an account where just the plain tag has a word, and that of an engine that keeps no rules
 pub none_shows : (basis : Basis) (g : Picture) (s : Machine AllState AllTag) (a : Account AllTag) (turns from : ℕ) (feed : Tape) → is_none basis.choice ≡ true
-    → s.policy ≡ choice_state basis g → a.seen ≡ all.plain s.policy ∷ [] → 1 ≤ a.limit → a.halt ≡ None
+    → s.policy ≡ choice_state basis g → a.table ≡ all.plain s.policy ∷ [] → 1 ≤ a.limit → a.halt ≡ None
     → ShowsSame (rounds all_eq all turns from (record { machine = s; account = a }) feed) (rounds all_eq all turns from (record { machine = s; account = plain_account }) feed)
 none_shows basis g s a turns from feed none policy seen some_tags runs =
     beside_same all_eq all (choice_state basis g) (none_has_one basis g none) turns from (record { machine = s; account = a }) (record { machine = s; account = plain_account }) feed
@@ -81,8 +81,8 @@ none_shows basis g s a turns from feed none policy seen some_tags runs =
       machine = refl;
       policy_is = policy;
       halt = sym runs;
-      one_word = record { seen = seen; some_tags = some_tags };
-      uncached = record { ways = refl; seen = refl; sets = refl };
+      one_word = record { table = seen; some_tags = some_tags };
+      uncached = record { ways = refl; table = refl; sets = refl };
     })
 
 -- an engine that keeps rules, from the image's start, shows the same as one that keeps none

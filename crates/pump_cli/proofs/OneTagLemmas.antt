@@ -11,11 +11,12 @@ use Rattle.policy_trait.specs.declared.rules.Outs.{Outs}
 use Rattle.monitor_calls.specs.Service.{Job}
 use Rattle.turn_steps.specs.declared.look.Look.{Look}
 use Rattle.turn_steps.specs.declared.stop.Stop.{Stop}
-use Rattle.engine_trait.specs.Accounts.{Account, Key, account_after_turn, after_look, after_rule, after_service, is_kept, is_over, keeping, key_of, look_counted, looked_up, rule_counted, rule_kept, seeing, with_tag, with_tags}
+use Rattle.engine_trait.specs.Accounts.{Account, Key, account_after_turn, after_look, after_rule, after_service, is_kept, is_over, keeping, key_of, look_counted, looked_up, rule_counted, rule_kept, seeing, served_tags, service_counted, standing_tags, with_room, with_tag, with_tags}
 use Rattle.shared_terms.specs.Counts.{next_count}
 use Rattle.engine_trait.specs.Machine.{Machine, hart_at}
 use Rattle.engine_trait.specs.Turn.{job_at, or_violation, preparation, rule_answer, rule_inputs}
 use Rattle.engine_trait.proofs.MirrorLemmas.{prepared_own}
+use Rattle.engine_trait.proofs.RoomLemmas.{room_kept}
 use Rattle.engine_trait.proofs.TurnLemmas.{planned_own}
 
 -- the policy allows everything and offers no service, and each tag that it gives is the plain one, which is the same as itself
@@ -28,7 +29,7 @@ pub record HasOneTag {S T : Type 0} (eq : T → T → Bool) (m : PolicyModel T S
 
 -- this tag alone has a word, and it may
 pub record HasOneWord {T : Type 0} (plain : T) (account : Account T) : Type 0 where
-  pub seen : account.seen ≡ plain ∷ []
+  pub table : account.table ≡ plain ∷ []
   pub some_tags : 1 ≤ account.limit
 
 -- ---- accounts
@@ -50,29 +51,29 @@ module _ {T : Type 0} (eq : T → T → Bool) (plain : T) (same : eq plain plain
   seeing_plain : (a : Account T) (tags : List T) → All (λ tag. tag ≡ plain) tags → HasOneWord plain a → HasOneWord plain (seeing eq tags a)
   seeing_plain a tags all one = either (a.ways == 0)
     where
-      either : (test : Bool) → HasOneWord plain (if test then a else record a { seen = with_tags eq a.seen tags })
+      either : (test : Bool) → HasOneWord plain (if test then a else record a { table = with_tags eq a.table tags })
       either true = one
-      either false = record { seen = ap (λ seen. with_tags eq seen tags) one.seen ∙ with_plain tags all; some_tags = one.some_tags }
+      either false = record { table = ap (λ seen. with_tags eq seen tags) one.table ∙ with_plain tags all; some_tags = one.some_tags }
 
   looked_up_plain : (key : Key T) (a : Account T) → HasOneWord plain a → HasOneWord plain (looked_up eq key a)
   looked_up_plain key a one = either (is_kept eq key a)
     where
       either : (test : Bool) → HasOneWord plain (if test then record (keeping eq key a) { hits = next_count a.hits } else record a { misses = next_count a.misses })
-      either true = record { seen = one.seen; some_tags = one.some_tags }
-      either false = record { seen = one.seen; some_tags = one.some_tags }
+      either true = record { table = one.table; some_tags = one.some_tags }
+      either false = record { table = one.table; some_tags = one.some_tags }
 
   rule_kept_plain : {E : Type 0} (key : Key T) (a : Account T) (answer : Result (Outs T) E) → answer ≡ Ok (record { pc = plain; result = plain }) → HasOneWord plain a
       → HasOneWord plain (rule_kept eq key answer a)
   rule_kept_plain {E} key a answer is one =
       subst (λ (given : Result (Outs T) E). HasOneWord plain (rule_kept eq key given a)) (sym is)
-      (seeing_plain (keeping eq key a) (plain ∷ plain ∷ []) both_plain (record { seen = one.seen; some_tags = one.some_tags }))
+      (seeing_plain (keeping eq key a) (plain ∷ plain ∷ []) both_plain (record { table = one.table; some_tags = one.some_tags }))
     where
       both_plain : All (λ tag. tag ≡ plain) (plain ∷ plain ∷ [])
       both_plain = All-cons (λ tag. tag ≡ plain) plain (plain ∷ []) refl (All-cons (λ tag. tag ≡ plain) plain [] refl (All-nil (λ tag. tag ≡ plain)))
 
   -- so it never runs out
   pub within : (a : Account T) → HasOneWord plain a → is_over a ≡ false
-  within a one = le-ltb a.limit (length a.seen) (let single : length a.seen ≡ 1 = ap length one.seen in let some = one.some_tags in omega (arith, single, some))
+  within a one = le-ltb a.limit (length a.table) (let single : length a.table ≡ 1 = ap length one.table in let some = one.some_tags in omega (arith, single, some))
 
 -- ---- a turn
 
@@ -121,13 +122,30 @@ module _ {S T : Type 0} (eq : T → T → Bool) (m : PolicyModel T S) (s : Machi
   unfolding look_counted
   look_counted_plain a one = after_look_plain (preparation m s h) a one
 
+  -- so there is room without a sweep
+  room_plain : (standing : List T) (step : Account T → Account T) (a : Account T) → OneWord (step a) → OneWord (with_room eq standing step a)
+  room_plain standing step a one =
+      subst OneWord (sym (room_kept eq standing step a (within eq (m.plain s.policy) one_tag.same (step a) one))) one
+
   rule_counted_plain : (a : Account T) → OneWord a → OneWord (rule_counted eq m s h a)
   unfolding rule_counted
-  rule_counted_plain a one = after_rule_plain (preparation m s h) (look_counted eq m s h a) (look_counted_plain a one)
+  rule_counted_plain a one =
+      room_plain (standing_tags m s) (after_rule eq m s h (preparation m s h)) (look_counted eq m s h a)
+      (after_rule_plain (preparation m s h) (look_counted eq m s h a) (look_counted_plain a one))
+
+  service_counted_plain : (a : Account T) → OneWord a → OneWord (service_counted eq m s h a)
+  unfolding service_counted
+  service_counted_plain a one =
+      room_plain (served_tags m s h) (after_service eq m s h (job_at m s h)) (rule_counted eq m s h a)
+      (after_service_plain (job_at m s h) (rule_counted eq m s h a) no_work (rule_counted_plain a one))
 
   -- whatever the turn came to
   pub accounted_plain : (a : Account T) → OneWord a → OneWord (account_after_turn eq m s h a)
   unfolding account_after_turn
   accounted_plain a one =
-      let served = after_service_plain (job_at m s h) (rule_counted eq m s h a) no_work (rule_counted_plain a one) in
-      record { seen = served.seen; some_tags = served.some_tags }
+      let counted = either (is_over (rule_counted eq m s h a)) in
+      record { table = counted.table; some_tags = counted.some_tags }
+    where
+      either : (over : Bool) → OneWord (if over then rule_counted eq m s h a else service_counted eq m s h a)
+      either true = rule_counted_plain a one
+      either false = service_counted_plain a one

@@ -133,7 +133,7 @@ run_of_load task =
 
 -- the counts of an engine that made no turn
 abbrev pub no_counts : Counts
-no_counts = record { turns = 0; hits = 0; misses = 0 }
+no_counts = record { turns = 0; hits = 0; misses = 0; sweeps = 0 }
 
 -- what its turns show goes nowhere: one line on standard output tells its counts and its status
 abbrev pub outcome_of_counts : ℕ → Counts → Status → Outcome

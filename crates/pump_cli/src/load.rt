@@ -52,6 +52,7 @@ const NO_COUNTS: Counts = Counts {
     turns: 0,
     hits: 0,
     misses: 0,
+    sweeps: 0,
 };
 
 /// The image of a workload of so many blocks, whose source has the limit of a file.

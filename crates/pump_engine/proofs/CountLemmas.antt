@@ -23,7 +23,7 @@ use Rattle.engine_trait.proofs.MapLemmas.{hart_at_by, rule_inputs_by}
 use Rattle.engine_trait.proofs.MirrorLemmas.{ready_by}
 use Rattle.engine_trait.proofs.TurnLemmas.{rule_looked}
 use Rattle.pump_engine.specs.Pump.{PumpState, account_by_words, decode, machine_by_words, standing_by_words}
-use Rattle.pump_engine.specs.Steps.{answer_in, key_in, looked_in, ruled_in}
+use Rattle.pump_engine.specs.Steps.{answer_in, key_in, looked_in, ruled_in, ruling_in}
 use Rattle.pump_engine.proofs.StepLemmas.{look_counted_at, rule_counted_at}
 
 -- a rule that allows has no stop
@@ -75,6 +75,12 @@ module _ {S T : Type 0} (m : PolicyModel T S) (p : PumpState S T) where
     unfolding rule_answer
     allowed_at = λ j. or_violation (hart_at_by (decode m p) p.core h j).pc (m.rule p.policy look.group (rule_inputs_by (decode m p) p.core h look j))
 
+    -- what the rule adds to an account, as the words have it
+    pub ruling_by_words : (account : Account T) → ruling_in eq m p h look account ≡ rule_kept eq (key_in eq m p h look) (answer_in eq m p h look) account
+    ruling_by_words account =
+        (λ j. rule_kept eq (key_by_words j) (allowed_at j) account)
+        ∙ kept_alike eq (key_in eq m p h look) (hart_at p.core h).pc (answer_in eq m p h look) account
+
     module _ (found : preparation m (machine_by_words m p) h ≡ Ok look) where
       pub rule_allows : IsOk (answer_in eq m p h look) → IsOk (rule_at m (machine_by_words m p) h)
       rule_allows allows =
@@ -89,5 +95,3 @@ module _ {S T : Type 0} (m : PolicyModel T S) (p : PumpState S T) where
       pub rule_counted_by_words : rule_counted eq m (machine_by_words m p) h (account_by_words m p) ≡ ruled_in eq m p h look
       rule_counted_by_words =
           rule_counted_at eq m (machine_by_words m p) h look found (account_by_words m p) (looked_in eq m p h look) look_counted_by_words
-          ∙ (λ j. rule_kept eq (key_by_words j) (allowed_at j) (looked_in eq m p h look))
-          ∙ kept_alike eq (key_in eq m p h look) (hart_at p.core h).pc (answer_in eq m p h look) (looked_in eq m p h look)

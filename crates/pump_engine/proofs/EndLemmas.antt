@@ -172,15 +172,9 @@ ends_made (done.Stepped byte) = (λ out. cc, λ idle. cc)
 ends_made done.Broke = (λ out. cc, λ idle. cc)
 ends_made (done.Exited code) = (λ out. cc, λ idle. cc)
 
-module _ {T : Type 0} (new mid old : CoreState T) (same : mid ≡ old) where
-  pub count_stays : {U : Type 0} (f g : T → U) → length new.harts ≡ length mid.harts
-      → length (map (hart_by f) new.harts) ≡ length (map (hart_by g) old.harts)
-  count_stays f g count =
-      length-map new.harts (hart_by f) ∙ count ∙ ap (λ (c : CoreState T). length c.harts) same
-      ∙ sym (length-map old.harts (hart_by g))
-
-  pub bytes_stay : ram_bytes new.ram ≡ ram_bytes mid.ram → ram_bytes new.ram ≡ ram_bytes old.ram
-  bytes_stay bytes = bytes ∙ ap (λ (c : CoreState T). ram_bytes c.ram) same
+pub count_stays : {T U : Type 0} (new mid old : CoreState T) → length mid.harts ≡ length old.harts → (f g : T → U) → length new.harts ≡ length mid.harts
+    → length (map (hart_by f) new.harts) ≡ length (map (hart_by g) old.harts)
+count_stays new mid old same f g count = length-map new.harts (hart_by f) ∙ count ∙ same ∙ sym (length-map old.harts (hart_by g))
 
 module _ {S T : Type 0} (p q : PumpState S T) (h : ℕ) (why : Stop) (state : q ≡ after_stop p h why) where
   pub stopped_count : length q.core.harts ≡ length p.core.harts

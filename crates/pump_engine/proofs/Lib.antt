@@ -2,7 +2,10 @@ mod AskLemmas
 mod CountLemmas
 mod EndLemmas
 mod LowLemmas
+mod OutLemmas
 mod ServiceLemmas
+mod SettleLemmas
 mod StayLemmas
 mod StepLemmas
+mod SweepLemmas
 mod TurnLemmas

@@ -1,5 +1,5 @@
 -- What is done to a core of words below a count is done to a core of such words: the result is one too.
-use Rattle.std.proofs.Common.{◌≡◌, ℕ, zero, suc, ◌<◌, ◌≤◌, List, [], ◌∷◌, All, Option, Some, None, option_map, refl, ap, sym, ◌∙◌, subst, arith}
+use Rattle.std.proofs.Common.{◌≡◌, ℕ, zero, suc, ◌<◌, ◌≤◌, List, [], ◌∷◌, All, Option, Some, None, option_map, slice_index, refl, ap, sym, ◌∙◌, subst, arith}
 use Rattle.policy_trait.specs.Maps.{answer_by, ins_by}
 use Rattle.policy_trait.specs.declared.rules.Ins.{Ins}
 use Rattle.policy_trait.specs.declared.rules.Outs.{Outs}
@@ -79,6 +79,15 @@ module _ (n : ℕ) (core : CoreState ℕ) (is : IsLowCore n core) where
 
   pub low_grown : (k : ℕ) → n ≤ k → IsLowCore k core
   low_grown k more = record { low = core_by (raised n k more) is.low; is = is.is ∙ sym (core_on (raised n k more) number is.low) }
+
+  -- with other numbers, each below a count
+  pub low_swept : (k : ℕ) (numbers : List ℕ) → ((word : ℕ) → slice_index numbers word < k) → IsLowCore k (core_by (slice_index numbers) core)
+  low_swept k numbers below =
+      let renumbered : Low n → Low k = λ word. record { word = slice_index numbers word.word; below = below word.word } in
+      record {
+        low = core_by renumbered is.low;
+        is = ap (core_by (slice_index numbers)) is.is ∙ core_on number (slice_index numbers) is.low ∙ sym (core_on renumbered number is.low);
+      }
 
   -- functions that agree on its words change it alike
   pub low_same : {T : Type 0} (f g : ℕ → T) → ((w : ℕ) → w < n → f w ≡ g w) → core_by f core ≡ core_by g core

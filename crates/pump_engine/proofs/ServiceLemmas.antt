@@ -1,8 +1,6 @@
 -- A service of the policy where tags are words: what it is asked with, and what it leaves.
-use Rattle.std.proofs.Common.{◌≡◌, ℕ, ◌%◌, ◌<◌, ◌≤◌, Bool, true, false, not, nat_lt, List, [], ◌∷◌, All, length, map, Option, option_map, Result, Ok, Err, IfOk, IsOkAnd, OnErr, OnOk, is_err, take, refl, sym, ap, ◌∙◌, subst, if◌then◌else◌, arith}
-use Rattle.std.specs.Prelude.{◌↔◌, IsTrue}
+use Rattle.std.proofs.Common.{◌≡◌, inl, ℕ, ◌%◌, ◌<◌, ◌≤◌, Bool, true, false, nat_lt, List, All, length, map, Option, option_map, Result, Ok, Err, IsOkAnd, OnErr, OnOk, is_err, take, refl, sym, ap, ◌∙◌, subst, if◌then◌else◌}
 use Rattle.std.proofs.lemmas.Bool.{false≢true, le-ltb, lt-ltb}
-use Rattle.std.proofs.lemmas.Result.{IfOk-weaker}
 use Rattle.policy_trait.specs.PolicyLaws.{KeepsLaws}
 use Rattle.policy_trait.specs.Maps.{answer_by, args_by}
 use Rattle.policy_trait.specs.Model.{IsGiven, PolicyModel}
@@ -16,7 +14,7 @@ use Rattle.tag_memory.proofs.MapLemmas.{ram_tag_by}
 use Rattle.monitor_calls.specs.Service.{Job, service_job}
 use Rattle.turn_steps.specs.Services.{args_on}
 use Rattle.turn_steps.specs.declared.look.Look.{Look}
-use Rattle.engine_trait.specs.Accounts.{first_written, is_over, seeing, with_tag, with_tags, written_tags}
+use Rattle.engine_trait.specs.Accounts.{first_written, is_over, seeing, with_tags, written_tags}
 use Rattle.shared_terms.specs.Counts.{next_count}
 use Rattle.engine_trait.specs.Machine.{hart_at}
 use Rattle.engine_trait.specs.Maps.{core_by, words_by}
@@ -29,15 +27,17 @@ use Rattle.engine_trait.proofs.MapLemmas.{args_on_by, hart_at_by}
 use Rattle.rule_cache.specs.Named.{keys_by}
 use Rattle.tag_intern.specs.Table.{Extends, TableState, cut_to}
 use Rattle.tag_intern.specs.Words.{tag_at}
+use Rattle.tag_intern.specs.declared.table.InternEnd.{InternEnd}
+use Rattle.tag_intern.specs.declared.table.InternEnd.TheVariants as intern_end
 use Rattle.tag_intern.proofs.TableLemmas.{prefix}
 use Rattle.miss_handler.specs.Asked.{AreOutWords}
 use Rattle.miss_handler.specs.Books.{rulebook_of}
 use Rattle.word_service.specs.Written.{IsAnswerBelow, IsWordBelow}
 use Rattle.miss_handler.proofs.RuleLemmas.{rules_grown, sets_below, sets_grown}
 use Rattle.pump_engine.specs.Pump.{IsPump, PumpState, account_by_words, decode, machine_by_words, pump_of}
-use Rattle.pump_engine.specs.Steps.{CarriesOut, EndsService, Serves, after_halt, after_stop, first_in, job_over, service_in, written_in}
+use Rattle.pump_engine.specs.Steps.{CarriesOut, EndsService, Serves, TriesOut, after_halt, after_stop, first_in, job_over, service_in}
 use Rattle.engine_trait.proofs.AccountLemmas.{keeps_some}
-use Rattle.pump_engine.proofs.StepLemmas.{first_over, first_within}
+use Rattle.pump_engine.proofs.StepLemmas.{first_within}
 use Rattle.pump_engine.proofs.StayLemmas.{after_service, decode_grown, machine_grown, machine_served, pump_grown, pump_served}
 
 -- ---- what it is asked with
@@ -93,7 +93,7 @@ module _ {S T : Type 0} (eq : T → T → Bool) (m : PolicyModel T S) (holds : S
 
   -- the engine with these words
   abbrev pub grown : PumpState S T
-  grown = pump_of p.policy p.core table p.store p.turns p.halt
+  grown = pump_of p.policy p.core table p.store p.turns p.sweeps p.halt
 
   -- and after the service
   abbrev pub left : PumpState S T
@@ -127,20 +127,20 @@ module _ {S T : Type 0} (eq : T → T → Bool) (m : PolicyModel T S) (holds : S
           core = core_served (same_core j) h (written.words_are (m.plain p.policy) j) (written.answer_is (m.plain p.policy) j) look.effect.next (pc_stays j);
         })
 
-    account_left : account_by_words m left ≡ record (written_in eq m p h look outs job) { turns = next_count p.turns }
+    account_left : account_by_words m left ≡ record (seeing eq (written_tags job) (account_by_words m p)) { turns = next_count p.turns }
     account_left =
         (λ j. record (account_by_words m p) {
-          seen = written.seen j;
+          table = written.seen j;
           limit = written.limit j;
           sets = (ap (λ plain. map (keys_by (tag_at plain table.tags)) p.store.sets) plain_stays
               ∙ sets_grown (m.plain p.policy) p.table.tags table.tags written.extends p.store.sets (sets_below (rulebook_of m p.policy) p.table.tags p.store.sets is.rules)) j;
           turns = next_count p.turns;
         })
-        ∙ sym (ap (λ is_none. record (if is_none then account_by_words m p else record (account_by_words m p) { seen = with_tags eq p.table.tags (written_tags job) }) { turns = next_count p.turns })
+        ∙ sym (ap (λ is_none. record (if is_none then account_by_words m p else record (account_by_words m p) { table = with_tags eq p.table.tags (written_tags job) }) { turns = next_count p.turns })
         (keeps_some p.store.ways is.room))
 
-    pub serves : Serves eq m p h look outs job left
-    serves = record { machine = machine_left; account = account_left; within = le-ltb table.limit (length table.tags) written.within }
+    pub serves : Serves eq m p h look outs job (seeing eq (written_tags job) (account_by_words m p)) left
+    serves = record { machine = machine_left; account_is = account_left; within = le-ltb table.limit (length table.tags) written.within }
 
 -- ---- how a call of a service ends
 
@@ -188,12 +188,8 @@ module _ {S T : Type 0} (eq : T → T → Bool) (m : PolicyModel T S) (p : PumpS
   -- with tags that come, there are too many exactly where the table has
   seeing_counted : (tags : List T) → is_over (seeing eq tags (account_by_words m p)) ≡ nat_lt p.table.limit (length (with_tags eq p.table.tags tags))
   seeing_counted tags =
-      ap (λ is_none. is_over (if is_none then account_by_words m p else record (account_by_words m p) { seen = with_tags eq p.table.tags tags }))
+      ap (λ is_none. is_over (if is_none then account_by_words m p else record (account_by_words m p) { table = with_tags eq p.table.tags tags }))
       (keeps_some p.store.ways is.room)
-
-  first_counted : (job : Job T) (tag : T) → first_written job ≡ tag ∷ [] → is_over (first_in eq m p h look outs job) ≡ nat_lt p.table.limit (length (with_tag eq p.table.tags tag))
-  first_counted job tag first =
-      seeing_counted (first_written job) ∙ ap (λ tags. nat_lt p.table.limit (length (with_tags eq p.table.tags tags))) first
 
   -- where all that it writes has words, the first has
   pub written_fits : (job : Job T) (table : TableState T) → table.tags ≡ with_tags eq p.table.tags (written_tags job) → table.limit ≡ p.table.limit → length table.tags ≤ table.limit
@@ -202,50 +198,19 @@ module _ {S T : Type 0} (eq : T → T → Bool) (m : PolicyModel T S) (p : PumpS
       first_within eq (written_tags job) (account_by_words m p)
       (seeing_counted (written_tags job) ∙ (λ j. nat_lt (sym limit j) (length (sym seen j))) ∙ le-ltb table.limit (length table.tags) within)
 
-  room_told : (room : Bool) (count : ℕ) → IsTrue room ↔ (count ≤ p.table.limit) → nat_lt p.table.limit count ≡ not room
-  room_told true count fits = le-ltb p.table.limit count (fits.0 refl)
-  room_told false count fits = lt-ltb p.table.limit count (let full = λ (within : count ≤ p.table.limit). false≢true (fits.1 within) in omega (arith, full))
+  -- what it writes has no words without a sweep: nothing changed
+  pub tries_refused : (job : Job T) (q : PumpState S T) (end : InternEnd) → q ≡ p
+      → (end ≡ intern_end.Full → p.table.limit < length (with_tags eq p.table.tags (written_tags job)))
+      → (end ≡ intern_end.Memory → length (with_tags eq p.table.tags (first_written job)) ≤ p.table.limit) → TriesOut eq m p h look outs job q (Err end)
+  tries_refused job q intern_end.Full same full memory = (same, seeing_counted (written_tags job) ∙ lt-ltb _ _ (full refl))
+  tries_refused job q intern_end.Memory same full memory = (same, seeing_counted (first_written job) ∙ le-ltb _ _ (memory refl))
 
-  pub first_fits : (given : Result (Job T) PlanEnd) → service_in eq m p h look outs ≡ given → (tag : T)
-      → IfOk given (λ job. 1 ≤ length job.words → first_written job ≡ tag ∷ []) → (room : Bool) → IsTrue room ↔ (length (with_tag eq p.table.tags tag) ≤ p.table.limit)
-      → IfOk (service_in eq m p h look outs) (λ job. 1 ≤ length job.words → is_over (first_in eq m p h look outs job) ≡ not room)
-  first_fits given same tag told room fits =
-      subst (λ defined. IfOk defined (λ job. 1 ≤ length job.words → is_over (first_in eq m p h look outs job) ≡ not room)) (sym same)
-      (IfOk-weaker given (λ job. 1 ≤ length job.words → first_written job ≡ tag ∷ []) (λ job. 1 ≤ length job.words → is_over (first_in eq m p h look outs job) ≡ not room)
-      (λ job first some. first_counted job tag (first some) ∙ room_told room (length (with_tag eq p.table.tags tag)) fits) told)
+-- ---- a service that nothing refuses, and whose plan finds no memory
 
-  pub no_first : (given : Result (Job T) PlanEnd) → service_in eq m p h look outs ≡ given → IfOk given (λ job. 1 ≤ length job.words → ⊥)
-      → IfOk (service_in eq m p h look outs) (λ job. 1 ≤ length job.words → is_over (first_in eq m p h look outs job) ≡ not true)
-  no_first given same told =
-      subst (λ defined. IfOk defined (λ job. 1 ≤ length job.words → is_over (first_in eq m p h look outs job) ≡ not true)) (sym same)
-      (IfOk-weaker given (λ job. 1 ≤ length job.words → ⊥) (λ job. 1 ≤ length job.words → is_over (first_in eq m p h look outs job) ≡ not true) (λ job never some. absurd (never some)) told)
-
--- ---- a service that nothing refuses, and whose words find no memory
-
-module _ {S T : Type 0} (eq : T → T → Bool) (m : PolicyModel T S) (p : PumpState S T) (h : ℕ) (look : Look) (outs : Outs ℕ)
-    (some : IsOkAnd (service_in eq m p h look outs) (λ job. 1 ≤ length job.words)) (room : Bool)
-    (told : IfOk (service_in eq m p h look outs) (λ job. 1 ≤ length job.words → is_over (first_in eq m p h look outs job) ≡ not room)) where
-  first_told : (job : Job T) → service_in eq m p h look outs ≡ Ok job → is_over (first_in eq m p h look outs job) ≡ not room
-  first_told job is =
-      subst (λ given. IfOk given (λ job. 1 ≤ length job.words → is_over (first_in eq m p h look outs job) ≡ not room)) is told
-      (subst (λ given. IsOkAnd given (λ job. 1 ≤ length job.words)) is some)
-
-  unrefused : (end : PlanEnd) → service_in eq m p h look outs ≡ Err end → ⊥
-  unrefused end is = subst (λ given. IsOkAnd given (λ job. 1 ≤ length job.words)) is some
-
-  ends_by : (f g : PumpState S T) (ended end : TurnEnd) → ((job : Job T) → service_in eq m p h look outs ≡ Ok job → CarriesOut eq m p h look outs job g end)
-      → f ≡ g → ended ≡ end → EndsService eq m p h look outs f ended
-  ends_by f g ended end each f_is ended_is =
-      subst (λ (q : PumpState S T). EndsService eq m p h look outs q ended) (sym f_is)
-      (subst (EndsService eq m p h look outs g) (sym ended_is) (record { served = each; stopped = λ why is. absurd (unrefused why is) }))
-
-  -- where the first tag that it writes can have a word
-  pub wants_memory : (f : PumpState S T) (ended : TurnEnd) → room ≡ true → f ≡ after_halt p halt.Memory → ended ≡ ends.Memory → EndsService eq m p h look outs f ended
-  wants_memory f ended fits =
-      ends_by f (after_halt p halt.Memory) ended ends.Memory (λ job is. (refl, first_told job is ∙ ap not fits))
-
-  -- and where it can't
-  pub wants_words : (f : PumpState S T) (ended : TurnEnd) → room ≡ false → f ≡ after_halt p halt.TagNumbers → ended ≡ ends.TagsOut → EndsService eq m p h look outs f ended
-  wants_words f ended over =
-      ends_by f (after_halt p halt.TagNumbers) ended ends.TagsOut
-      (λ job is. (refl, first_over eq (written_tags job) (account_by_words m p) (first_told job is ∙ ap not over)))
+pub plan_wants : {S T : Type 0} (eq : T → T → Bool) (m : PolicyModel T S) (p : PumpState S T) (h : ℕ) (look : Look) (outs : Outs ℕ) (q : PumpState S T) (ended : TurnEnd) (P : Job T → Type 0)
+    → IsOkAnd (service_in eq m p h look outs) P → q ≡ after_halt p halt.Memory → ended ≡ ends.Memory → EndsService eq m p h look outs q ended
+plan_wants eq m p h look outs q ended P unrefused q_is ended_is =
+    subst (EndsService eq m p h look outs q) (sym ended_is) (record {
+      served = λ job is. inl (record { machine = ap (machine_by_words m) q_is; account = ap (account_by_words m) q_is });
+      stopped = λ end is. absurd (subst (λ given. IsOkAnd given P) is unrefused);
+    })

@@ -64,10 +64,10 @@ module _ {S T : Type 0} (m : PolicyModel T S) (p q : PumpState S T) where
 -- ---- the engine after a turn
 
 -- the core may be written otherwise; the turns and the halt are no part of what holds
-pub pump_at : {S T : Type 0} (m : PolicyModel T S) (p : PumpState S T) → IsPump m p → (core : CoreState ℕ) → core ≡ p.core → (turns : ℕ) (halt : Option Halt)
-    → IsPump m (pump_of p.policy core p.table p.store turns halt)
-pump_at m p is core core_is turns halt =
-    subst (λ (c : CoreState ℕ). IsPump m (pump_of p.policy c p.table p.store turns halt)) (sym core_is) (record {
+pub pump_at : {S T : Type 0} (m : PolicyModel T S) (p : PumpState S T) → IsPump m p → (core : CoreState ℕ) → core ≡ p.core → (turns sweeps : ℕ) (halt : Option Halt)
+    → IsPump m (pump_of p.policy core p.table p.store turns sweeps halt)
+pump_at m p is core core_is turns sweeps halt =
+    subst (λ (c : CoreState ℕ). IsPump m (pump_of p.policy c p.table p.store turns sweeps halt)) (sym core_is) (record {
       machine = is.machine;
       plain_word = is.plain_word;
       within = is.within;

@@ -11,23 +11,25 @@ use Rattle.turn_steps.specs.Feeds.{Tape}
 use Rattle.turn_steps.specs.Looks.{is_call}
 use Rattle.turn_steps.specs.declared.look.Look.{Look}
 use Rattle.turn_steps.specs.declared.stop.Stop.{Stop}
-use Rattle.engine_trait.specs.Accounts.{Account, first_written, is_over, look_counted, rule_counted, seeing}
+use Rattle.engine_trait.specs.Accounts.{Account, after_rule, first_written, is_over, look_counted, rule_counted, seeing, served_tags, standing_tags, swept}
 use Rattle.shared_terms.specs.Counts.{next_count}
-use Rattle.engine_trait.specs.Machine.{CoreState, Machine, hart_at}
-use Rattle.engine_trait.specs.Standing.{GivesUp, GivesUpAtRule, GivesUpAtService, Standing, is_ready, step, wanting}
+use Rattle.engine_trait.specs.Machine.{Machine, hart_at}
+use Rattle.engine_trait.specs.Standing.{GivesUp, GivesUpAtRule, GivesUpAtService, Standing, Stepped, Wants, is_ready, step, wanting}
 use Rattle.engine_trait.specs.Turn.{Turned, rule_answer, carried_at, end_of, is_job, is_served, job_at, or_unserved, or_violation, turn_job, preparation, stopped_at, service_stop, violation}
+use Rattle.engine_trait.specs.declared.ends.Halt.{Halt}
 use Rattle.engine_trait.specs.declared.ends.Halt.TheVariants as halt
 use Rattle.engine_trait.specs.declared.ends.TurnEnd.{TurnEnd}
 use Rattle.engine_trait.specs.declared.ends.TurnEnd.TheVariants as ends
 use Rattle.engine_trait.proofs.MapLemmas.{carried_at_by, core_effected_by, hart_at_by}
+use Rattle.engine_trait.proofs.RoomLemmas.{room_swept}
 use Rattle.engine_trait.proofs.StepLemmas.{step_idle}
 use Rattle.engine_trait.proofs.TurnLemmas.{job_ruled, planned_own}
 use Rattle.miss_handler.specs.declared.ends.AskEnd.{AskEnd}
 use Rattle.miss_handler.specs.declared.ends.AskEnd.TheVariants as ask_end
 use Rattle.pump_engine.specs.Pump.{PumpState, account_by_words, decode, machine_by_words, standing_by_words}
-use Rattle.pump_engine.specs.Steps.{Allows, CarriesOut, HasParts, Serves, Unanswered, after_effect, after_halt, after_stop, after_unanswered, answer_in, looked_in, ruled_in, service_in, unanswered_end, written_in}
+use Rattle.pump_engine.specs.Steps.{Allows, CarriesOut, Halts, HasParts, LeavesAccount, Serves, Unruled, after_effect, after_halt, after_stop, after_unanswered, answer_in, looked_in, outs_standing, ruled_in, ruling_in, service_in, swept_in, swept_served, unanswered_end, written_in}
 use Rattle.pump_engine.proofs.CountLemmas.{allowed_at, look_counted_by_words, rule_allows, rule_counted_by_words}
-use Rattle.pump_engine.proofs.StepLemmas.{accounted_ruled, checked_step, out_at_rule, out_at_service, planned_call, refused_step, ruled_step, stepped_to}
+use Rattle.pump_engine.proofs.StepLemmas.{checked_step, out_at_rule, out_at_service, planned_call, refused_step, room_idle, ruled_step, served_are, standing_ruled, stepped_to}
 
 module _ {S T : Type 0} (eq : T → T → Bool) (m : PolicyModel T S) (p : PumpState S T) (feed : Tape) (h : ℕ) where
   -- the step of what the words stand for ends so
@@ -82,11 +84,18 @@ module _ {S T : Type 0} (eq : T → T → Bool) (m : PolicyModel T S) (p : PumpS
         asked_prepared : preparation m asked.machine h ≡ Ok look
         asked_prepared = ap (λ s. preparation m s h) machine ∙ found
 
+        -- the pc is no tag
+        same_pc : (hart_at q.core h).pc ≡ (hart_at p.core h).pc
+        same_pc =
+            sym (ap (λ (hart : HartState T). hart.pc) (hart_at_by (decode m q) q.core h))
+            ∙ ap (λ (s : Machine S T). (hart_at s.core h).pc) machine
+            ∙ ap (λ (hart : HartState T). hart.pc) (hart_at_by (decode m p) p.core h)
+
         asked_allowed : rule_answer m asked.machine h look ≡ or_violation (hart_at q.core h).pc (answer_in eq m p h look)
         asked_allowed =
             ap (λ s. rule_answer m s h look) machine
             ∙ allowed_at m p h look eq
-            ∙ ap (λ (core : CoreState ℕ). or_violation (hart_at core h).pc (answer_in eq m p h look)) (sym parts.core)
+            ∙ ap (λ pc. or_violation pc (answer_in eq m p h look)) (sym same_pc)
 
         look_counted_asked : look_counted eq m asked.machine h asked.account ≡ looked_in eq m p h look
         look_counted_asked = ap (λ s. look_counted eq m s h asked.account) machine ∙ look_counted_by_words m p h look eq found
@@ -95,21 +104,20 @@ module _ {S T : Type 0} (eq : T → T → Bool) (m : PolicyModel T S) (p : PumpS
         rule_counted_asked = ap (λ s. rule_counted eq m s h asked.account) machine ∙ rule_counted_by_words m p h look eq found
 
       -- memory ran out in a turn whose rule allows
-      given_up : (f : PumpState S T) → f ≡ after_halt q halt.Memory → machine_by_words m q ≡ machine_by_words m p → IsOk (answer_in eq m p h look)
-          → GivesUpAtRule eq m (standing_by_words m p) h (wanting (account_by_words m q)) ⊎ GivesUpAtService eq m (standing_by_words m p) h (wanting (account_by_words m q))
+      given_up : (f : PumpState S T) → machine_by_words m f ≡ machine_by_words m p → IsOk (answer_in eq m p h look)
+          → GivesUpAtRule eq m (standing_by_words m p) h (account_by_words m f) ⊎ GivesUpAtService eq m (standing_by_words m p) h (account_by_words m f)
           → GivesUp eq m (standing_by_words m p) feed h (standing_by_words m f) feed
-      given_up f f_is machine allows left =
-          subst (λ g. GivesUp eq m (standing_by_words m p) feed h (standing_by_words m g) feed) (sym f_is) (record {
-            ready = ready;
-            allowed = rule_allows m p h look eq found allows;
-            machine = machine;
-            unfed = refl;
-            account = left;
-          })
+      given_up f machine allows left = record {
+        ready = ready;
+        allowed = rule_allows m p h look eq found allows;
+        machine = machine;
+        unfed = refl;
+        account = left;
+      }
 
       -- ---- without outputs
 
-      refused_turn : (refusal : Refused) → Unanswered eq m p h look q (ask_end.Stopped refusal)
+      refused_turn : (refusal : Refused) → Unruled eq m p h look q (ask_end.Stopped refusal)
           → StepsTo (after_stop q h (violation (hart_at q.core h).pc refusal)) feed (ends.Stopped (violation (hart_at q.core h).pc refusal))
       refused_turn refusal given =
           let why = violation (hart_at q.core h).pc refusal in
@@ -119,31 +127,54 @@ module _ {S T : Type 0} (eq : T → T → Bool) (m : PolicyModel T S) (p : PumpS
           (look_counted_asked given.machine ∙ sym given.account) given.within
           ∙ counts_on (account_by_words m q) (record { machine = stopped_at (machine_by_words m q) h why; feed = feed; ended = ends.Stopped why }))
 
-      out_turn : Unanswered eq m p h look q ask_end.TagsOut → StepsTo (after_halt q halt.TagNumbers) feed ends.TagsOut
+      -- a step that stops the engine with an account
+      halted_with : (why : Halt) (ended : TurnEnd) (a b : Account T) (s : Machine S T) → a ≡ b → ◌≡◌ {A = Stepped S T}
+          (record { standing = record { machine = s; account = record a { halt = Some why } }; feed = feed; ended = ended })
+          (record { standing = record { machine = s; account = record b { halt = Some why } }; feed = feed; ended = ended })
+      halted_with why ended a b s same = λ j. record { standing = record { machine = s; account = record (same j) { halt = Some why } }; feed = feed; ended = ended }
+
+      ruled_swept : is_over (ruling_in eq m p h look (looked_in eq m p h look)) ≡ true → ruled_in eq m p h look ≡ ruling_in eq m p h look (swept_in eq m p h look)
+      ruled_swept = room_swept eq (standing_tags m (machine_by_words m p)) (ruling_in eq m p h look) (looked_in eq m p h look)
+
+      out_turn : Unruled eq m p h look q ask_end.TagsOut → StepsTo (after_halt q halt.TagNumbers) feed ends.TagsOut
       out_turn given =
           by_asked given.machine (after_halt q halt.TagNumbers) feed ends.TagsOut
-          (out_at_rule eq m (asked given.machine) feed h (asked_ready given.machine) (account_by_words m q) (ruled_in eq m p h look)
-          (look_counted_asked given.machine ∙ sym given.account) (rule_counted_asked given.machine) (given.over refl))
+          (out_at_rule eq m (asked given.machine) feed h (asked_ready given.machine) (looked_in eq m p h look) (ruled_in eq m p h look)
+          (look_counted_asked given.machine) (rule_counted_asked given.machine) (ap is_over (ruled_swept (given.over refl)) ∙ given.account.1)
+          ∙ halted_with halt.TagNumbers ends.TagsOut (swept eq (standing_tags m (machine_by_words m q)) (looked_in eq m p h look)) (account_by_words m q) (machine_by_words m q)
+          (ap (λ (s : Machine S T). swept eq (standing_tags m s) (looked_in eq m p h look)) given.machine ∙ sym given.account.0))
 
-      unanswered_by : (end : AskEnd) → Unanswered eq m p h look q end → end ≢ ask_end.Memory
+      unanswered_by : (end : AskEnd) → Unruled eq m p h look q end → end ≢ ask_end.Memory
           → StepsTo (after_unanswered q h end) feed (unanswered_end (hart_at q.core h).pc end)
       unanswered_by (ask_end.Stopped refusal) given has_memory = refused_turn refusal given
       unanswered_by ask_end.TagsOut given has_memory = out_turn given
       unanswered_by ask_end.Memory given has_memory = absurd (has_memory refl)
 
-      pub unanswered_turn : (f : PumpState S T) (end : AskEnd) (ended : TurnEnd) → Unanswered eq m p h look q end
+      pub unanswered_turn : (f : PumpState S T) (end : AskEnd) (ended : TurnEnd) → Unruled eq m p h look q end
           → f ≡ after_unanswered q h end → ended ≡ unanswered_end (hart_at q.core h).pc end → end ≢ ask_end.Memory → StepsTo f feed ended
       unanswered_turn f end ended given f_is ended_is has_memory =
           told f (after_unanswered q h end) feed feed ended (unanswered_end (hart_at q.core h).pc end) (unanswered_by end given has_memory) f_is refl ended_is
 
       -- memory ran out: the rule isn't kept
-      pub unanswered_gives_up : (f : PumpState S T) (end : AskEnd) → Unanswered eq m p h look q end → f ≡ after_unanswered q h end → end ≡ ask_end.Memory
+      counted_by_words : look_counted eq m (machine_by_words m p) h (account_by_words m p) ≡ looked_in eq m p h look
+      counted_by_words = look_counted_by_words m p h look eq found
+
+      rule_wants : LeavesAccount eq m p h look ask_end.Memory (account_by_words m q)
+          → GivesUpAtRule eq m (standing_by_words m p) h (wanting (account_by_words m q))
+      rule_wants (inl unswept) = inl (ap wanting (unswept ∙ sym counted_by_words))
+      rule_wants (inr (is, fits)) = inr (record {
+        fits = (λ j. is_over (after_rule eq m (machine_by_words m p) h (found j) (swept eq (standing_tags m (machine_by_words m p)) (counted_by_words j)))) ∙ fits;
+        left = ap wanting (is ∙ ap (swept eq (standing_tags m (machine_by_words m p))) (sym counted_by_words));
+      })
+
+      wants_given_up : Unruled eq m p h look q ask_end.Memory → GivesUp eq m (standing_by_words m p) feed h (standing_by_words m (after_halt q halt.Memory)) feed
+      wants_given_up given = given_up (after_halt q halt.Memory) given.machine (given.allowed refl) (inl (rule_wants given.account))
+
+      pub unanswered_gives_up : (f : PumpState S T) (end : AskEnd) → Unruled eq m p h look q end → f ≡ after_unanswered q h end → end ≡ ask_end.Memory
           → GivesUp eq m (standing_by_words m p) feed h (standing_by_words m f) feed
       unanswered_gives_up f end given f_is end_is =
-          given_up f (f_is ∙ ap (after_unanswered q h) end_is) given.machine (given.allowed end_is) (inl (record {
-            fits = ap is_over (rule_counted_by_words m p h look eq found) ∙ given.fits end_is;
-            left = ap wanting (given.account ∙ sym (look_counted_by_words m p h look eq found));
-          }))
+          subst (λ g. GivesUp eq m (standing_by_words m p) feed h (standing_by_words m g) feed) (sym (f_is ∙ ap (after_unanswered q h) end_is))
+          (wants_given_up (subst (Unruled eq m p h look q) end_is given))
 
       -- ---- with outputs
 
@@ -169,6 +200,7 @@ module _ {S T : Type 0} (eq : T → T → Bool) (m : PolicyModel T S) (p : PumpS
             by_asked rule.machine (after_effect q feed h look outs) (carried_at q.core feed h look outs).feed (end_of (carried_at q.core feed h look outs).done)
             (ruled_step eq m now feed h (asked_ready rule.machine) look prepared_now outs_now (Ok None) allowed_now
             (planned_own m now.machine h look outs_now own) (account_by_words m q) counted_now rule.within
+            (account_by_words m q) (room_idle eq (standing_ruled eq m now.machine h look prepared_now outs_now allowed_now) (account_by_words m q) rule.within) rule.within
             ∙ λ j. record {
               standing = record {
                 machine = record { policy = q.policy; core = core_effected_by (decode m q) q.core feed h look outs j };
@@ -198,6 +230,7 @@ module _ {S T : Type 0} (eq : T → T → Bool) (m : PolicyModel T S) (p : PumpS
               (planned_call m now.machine h look outs_now (Err end) call ends_so
               ∙ ap (λ (hart : HartState T). or_unserved hart.pc look.service (Err end)) (hart_at_by (decode m q) q.core h))
               (account_by_words m q) counted_now rule.within
+              (account_by_words m q) (room_idle eq (standing_ruled eq m now.machine h look prepared_now outs_now allowed_now) (account_by_words m q) rule.within) rule.within
               ∙ counts_on (account_by_words m q) (record { machine = stopped_at (machine_by_words m q) h why; feed = feed; ended = ends.Stopped why }))
 
           -- which isn't served
@@ -212,26 +245,34 @@ module _ {S T : Type 0} (eq : T → T → Bool) (m : PolicyModel T S) (p : PumpS
             planned_now : turn_job m now.machine h look outs_now ≡ Ok (Some job)
             planned_now = planned_call m now.machine h look outs_now (Ok job) call serves
 
-            served_by : Serves eq m q h look outs job f → StepsTo f feed (ends.Ran None)
+            -- the account before its effect is counted
+            abbrev written : Account T
+            written = written_in eq m q h look outs job
+
+            served_by : Serves eq m q h look outs job written f → StepsTo f feed (ends.Ran None)
             served_by done =
                 by_asked rule.machine f feed (ends.Ran None)
                 (ruled_step eq m now feed h (asked_ready rule.machine) look prepared_now outs_now (Ok (Some job)) allowed_now planned_now
-                (account_by_words m q) counted_now (ap is_over (sym done.account) ∙ done.within)
+                (account_by_words m q) counted_now rule.within written refl (ap is_over (sym done.account_is) ∙ done.within)
                 ∙ λ j. record {
                   standing = record {
                     machine = sym done.machine j;
-                    account = (ap (λ (n : ℕ). record (written_in eq m q h look outs job) { turns = next_count n }) (sym parts.turns) ∙ sym done.account) j;
+                    account = (ap (λ (n : ℕ). record written { turns = next_count n }) (sym parts.turns) ∙ sym done.account_is) j;
                   };
                   feed = feed;
                   ended = ends.Ran None;
                 })
 
-            out_by : is_over (written_in eq m q h look outs job) ≡ true → StepsTo (after_halt q halt.TagNumbers) feed ends.TagsOut
-            out_by over =
-                by_asked rule.machine (after_halt q halt.TagNumbers) feed ends.TagsOut
-                (out_at_service eq m now feed h (asked_ready rule.machine) (account_by_words m q)
-                (record (written_in eq m q h look outs job) { turns = next_count p.turns }) counted_now rule.within
-                (accounted_ruled eq m now.machine h look prepared_now outs_now (Ok (Some job)) now.account (account_by_words m q) allowed_now planned_now counted_now) over)
+            out_by : Halts m q (swept_served eq m q h look outs) halt.TagNumbers f → is_over written ≡ true → StepsTo f feed ends.TagsOut
+            out_by halts over =
+                by_asked rule.machine f feed ends.TagsOut
+                (out_at_service eq m now feed h (asked_ready rule.machine) look prepared_now outs_now (Ok (Some job)) allowed_now planned_now
+                (account_by_words m q) counted_now rule.within over
+                ∙ λ j. record {
+                  standing = record { machine = sym halts.machine j; account = sym halts.account j };
+                  feed = feed;
+                  ended = ends.TagsOut;
+                })
 
             -- which is carried out, or writes more tags than can have words
             pub served_turn : (ended : TurnEnd) → CarriesOut eq m q h look outs job f ended → ended ≢ ends.Memory → StepsTo f feed ended
@@ -240,8 +281,7 @@ module _ {S T : Type 0} (eq : T → T → Bool) (m : PolicyModel T S) (p : PumpS
             served_turn ends.Break never has_memory = absurd never
             served_turn (ends.Stopped why) never has_memory = absurd never
             served_turn ends.Idle never has_memory = absurd never
-            served_turn ends.TagsOut out has_memory =
-                told f (after_halt q halt.TagNumbers) feed feed ends.TagsOut ends.TagsOut (out_by out.1) out.0 refl refl
+            served_turn ends.TagsOut out has_memory = out_by out.0 out.1
             served_turn ends.Memory halted has_memory = absurd (has_memory refl)
 
             -- the turn comes to it
@@ -252,15 +292,41 @@ module _ {S T : Type 0} (eq : T → T → Bool) (m : PolicyModel T S) (p : PumpS
             pub served_now : is_served m (machine_by_words m p) h ≡ true
             served_now = ap is_job job_there
 
-            -- memory ran out: the rule is kept
+            -- ---- memory ran out
+
+            ruled_then : rule_counted eq m (machine_by_words m p) h (account_by_words m p) ≡ account_by_words m q
+            ruled_then = rule_counted_by_words m p h look eq found ∙ sym rule.account
+
+            standing_then : served_tags m (machine_by_words m p) h ≡ outs_standing eq m q h look outs
+            standing_then =
+                ap (λ (s : Machine S T). served_tags m s h) (sym rule.machine)
+                ∙ served_are eq m now.machine h look prepared_now outs_now allowed_now
+
+            abbrev Left : Type 0
+            Left = GivesUpAtService eq m (standing_by_words m p) h (account_by_words m f)
+
+            gives_up_by : Wants eq (served_tags m (machine_by_words m p) h) (seeing eq (first_written job))
+                (rule_counted eq m (machine_by_words m p) h (account_by_words m p)) (account_by_words m f) → Left
+            gives_up_by wants = record {
+              job = job;
+              served = job_there;
+              ruled = ap is_over ruled_then ∙ rule.within;
+              wants = wants;
+            }
+
+            -- without a sweep, or behind one
+            service_wants : CarriesOut eq m q h look outs job f ends.Memory → (machine_by_words m f ≡ machine_by_words m p) × Left
+            service_wants (inl halts) = (halts.machine ∙ rule.machine, gives_up_by (inl (halts.account ∙ ap wanting (sym ruled_then))))
+            service_wants (inr (halts, fits)) = (
+              halts.machine ∙ rule.machine,
+              gives_up_by (inr (record {
+                fits = (λ j. is_over (seeing eq (first_written job) (swept eq (standing_then j) (ruled_then j)))) ∙ fits;
+                left = halts.account ∙ λ j. wanting (swept eq (sym standing_then j) (sym ruled_then j));
+              })),
+            )
+
             pub served_gives_up : (ended : TurnEnd) → CarriesOut eq m q h look outs job f ended → ended ≡ ends.Memory
                 → GivesUp eq m (standing_by_words m p) feed h (standing_by_words m f) feed
             served_gives_up ended halted ended_is =
-                let wants = subst (CarriesOut eq m q h look outs job f) ended_is halted in
-                let counted = rule_counted_by_words m p h look eq found in
-                given_up f wants.0 rule.machine (subst IsOk (sym rule.rule) refl) (inr (record {
-                  job = job;
-                  served = job_there;
-                  fits = ap (λ account. is_over (seeing eq (first_written job) account)) (counted ∙ sym rule.account) ∙ wants.1;
-                  left = ap wanting (rule.account ∙ sym counted);
-                }))
+                let wants = service_wants (subst (CarriesOut eq m q h look outs job f) ended_is halted) in
+                given_up f wants.0 (subst IsOk (sym rule.rule) refl) (inr wants.1)

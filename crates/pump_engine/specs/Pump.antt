@@ -17,19 +17,20 @@ use Rattle.miss_handler.specs.Asked.{AreRules}
 use Rattle.miss_handler.specs.Books.{rulebook_of}
 use Rattle.pump_engine.specs.Low.{IsLowCore}
 
--- the policy's value, the core of words, the table of tags, the kept rules with the counts of look-ups, the count of turns,
--- and why the engine is stopped as a whole
+-- the policy's value, the core of words, the table of tags, the kept rules with the counts of look-ups, the counts of turns and
+-- of sweeps, and why the engine is stopped as a whole
 pub record PumpState (S T : Type 0) : Type 0 where
   pub policy : S
   pub core : CoreState ℕ
   pub table : TableState T
   pub store : Store
   pub turns : ℕ
+  pub sweeps : ℕ
   pub halt : Option Halt
 
-abbrev pub pump_of : {S T : Type 0} → S → CoreState ℕ → TableState T → Store → ℕ → Option Halt → PumpState S T
-pump_of policy core table store turns halt =
-    record { policy = policy; core = core; table = table; store = store; turns = turns; halt = halt }
+abbrev pub pump_of : {S T : Type 0} → S → CoreState ℕ → TableState T → Store → ℕ → ℕ → Option Halt → PumpState S T
+pump_of policy core table store turns sweeps halt =
+    record { policy = policy; core = core; table = table; store = store; turns = turns; sweeps = sweeps; halt = halt }
 
 module _ {S T : Type 0} (m : PolicyModel T S) where
   -- what a word stands for
@@ -40,16 +41,17 @@ module _ {S T : Type 0} (m : PolicyModel T S) where
   abbrev pub machine_by_words : PumpState S T → Machine S T
   machine_by_words p = record { policy = p.policy; core = core_by (decode p) p.core }
 
-  -- its account: the table is what is seen, and the kept keys are those of the store
+  -- its account: the tags that have words are the table's, and the kept keys are those of the store
   abbrev pub account_by_words : PumpState S T → Account T
   account_by_words p = record {
-    seen = p.table.tags;
+    table = p.table.tags;
     limit = p.table.limit;
     sets = map (keys_by (decode p)) p.store.sets;
     ways = p.store.ways;
     turns = p.turns;
     hits = p.store.hits;
     misses = p.store.misses;
+    sweeps = p.sweeps;
     halt = p.halt;
   }
 

@@ -1,7 +1,7 @@
 //! The engine whose tags are words of a table, with a cache of rules.
 
-ghost use Rattle.std.specs.Prelude.{◌≡◌, ◌≢◌, ◌+◌, ◌%◌, ◌<◌, ◌≤◌, not, [], Err, Ok, Some, None, IfErr, IfOk, IfSome, IsOk, IsOkAnd, IsTrue, OnOk, false, true, length};
-ghost use Rattle.std.specs.List.{All};
+ghost use Rattle.std.specs.Prelude.{◌≡◌, ◌≢◌, ◌+◌, ◌%◌, ◌<◌, ◌≤◌, not, [], Err, Ok, Some, None, IfErr, IfOk, IfSome, IsOk, IsOkAnd, IsTrue, OnErr, OnOk, false, true, length};
+ghost use Rattle.std.specs.List.{All, AllByRecursion};
 ghost use Rattle.policy_trait.specs.Model.{IsGiven};
 ghost use Rattle.monitor_calls.specs.Ends.{EndsAs, job_by};
 ghost use Rattle.tag_memory.specs.Hart.{reg_tag, reg_value};
@@ -10,26 +10,27 @@ ghost use Rattle.turn_steps.specs.Effects.{IsSound};
 ghost use Rattle.turn_steps.specs.Feeds.{Tape};
 ghost use Rattle.turn_steps.specs.Looks.{is_call, is_system, look_result, unless_system};
 ghost use Rattle.turn_steps.specs.declared.look.Look.{Look as AnyLook};
-ghost use Rattle.engine_trait.specs.Accounts.{is_kept, is_over};
+ghost use Rattle.engine_trait.specs.Accounts.{is_kept, is_over, seeing, written_tags};
 ghost use Rattle.engine_trait.specs.Machine.{IsMachine, hart_at, stop_at};
 ghost use Rattle.engine_trait.specs.Standing.{GivesUp, IsFailure, StopsOnly, Unchanged, is_ready, step};
 ghost use Rattle.engine_trait.specs.Turn.{carried_at, end_of, is_offered, preparation};
 ghost use Rattle.miss_handler.specs.Asked.{AreOutWords};
 ghost use Rattle.pump_engine.specs.Pump.{IsPump, account_by_words, machine_by_words, standing_by_words};
-ghost use Rattle.pump_engine.specs.Steps.{Allows, CarriesOut, EndsService, HasParts, Unanswered, after_effect, after_halt, after_stop, after_unanswered, first_in, job_over, key_in, pump_start, service_in, takes_memory, unanswered_end};
+ghost use Rattle.pump_engine.specs.Steps.{Allows, CarriesOut, EndsService, HasParts, IsSwept, Settles, TriesOut, Unanswered, Unruled};
+ghost use Rattle.pump_engine.specs.Steps.{after_effect, after_halt, after_stop, after_unanswered, job_over, key_in, pump_start, service_in, takes_memory, unanswered_end};
 
 use engine_trait::{Core, Counts, Engine, Feed, Halt, Stop, TurnEnd};
-use miss_handler::{AskEnd, Asking, Masks, ask};
+use miss_handler::{AskEnd, Asking, Masks, ask, settle};
 use monitor_calls::{Job, ServeEnd, serve};
 use policy_trait::{Args, Policy, TagMap};
 use rule_cache::{OutWords, RuleStore};
 use rv_step::Fault;
-use std::alloc::Global;
+use std::alloc::{AllocError, Global};
 use std::marker::Model;
-use tag_intern::{Decoder, InternEnd, TagTable, has_room};
+use tag_intern::{Decoder, InternEnd, TagTable, remade, renumbering};
 use tag_memory::{Hart, Ram};
 use turn_steps::{Look, is_call};
-use word_service::{Decoded, WordJob, first_tag, intern_job};
+use word_service::{Decoded, intern_job};
 
 /// An engine whose tags are words of a table, and which asks its policy for a rule only where the rule is not kept.
 ///
@@ -44,6 +45,7 @@ pub struct Pump<P: Policy, T: TagTable<Tag = P::Tag>, C: RuleStore> {
     tags: T,
     store: C,
     turns: u64,
+    sweeps: u64,
     halt: Option<Halt>,
 }
 
@@ -63,10 +65,10 @@ impl<P: Policy, T: TagTable<Tag = P::Tag>, C: RuleStore> Model for Pump<P, T, C>
 
     ghost Value = { PumpState P P.Tag };
 
-    ghost view = { λ p. pump_of p.policy p.core (T.state p.tags) (C.state p.store) p.turns p.halt };
+    ghost view = { λ p. pump_of p.policy p.core (T.state p.tags) (C.state p.store) p.turns p.sweeps p.halt };
 
     ghost invariant = { λ p. IsMasked P.model p.masks
-        (pump_of p.policy p.core (T.state p.tags) (C.state p.store) p.turns p.halt) };
+        (pump_of p.policy p.core (T.state p.tags) (C.state p.store) p.turns p.sweeps p.halt) };
 }
 
 impl<P: Policy, T: TagTable<Tag = P::Tag>, C: RuleStore> Pump<P, T, C> {
@@ -92,6 +94,7 @@ impl<P: Policy, T: TagTable<Tag = P::Tag>, C: RuleStore> Pump<P, T, C> {
             tags,
             store,
             turns: 0,
+            sweeps: 0,
             halt: None,
         }
     }
@@ -190,7 +193,7 @@ impl<P: Policy, T: TagTable<Tag = P::Tag>, C: RuleStore> Pump<P, T, C> {
         TurnEnd::Memory
     }
 
-    /// The outputs of the rule as words, which is asked with the words as they stand.
+    /// The outputs of the rule as words, which is asked with the words as they stand, without a sweep.
     #[inline(always)]
     fn ask(&mut self, h: u32, look: &Look) -> Result<OutWords, AskEnd>
         requires hart { h < length self.old.core.harts }
@@ -213,6 +216,81 @@ impl<P: Policy, T: TagTable<Tag = P::Tag>, C: RuleStore> Pump<P, T, C> {
             look.group,
             self.core.inputs(h, look),
         )
+    }
+
+    /// Gives back the words of tags that stand nowhere any more: those in harts and memory, and those of the words that were made beside
+    /// them, have words after it, and no rule is kept. It gives the new number of each old word. All its memory is taken before anything
+    /// is changed; running out of it is its only error.
+    #[inline(never)]
+    fn sweep(&mut self, made: &[u32]) -> Result<Vec<u32>, AllocError>
+        requires { AllByRecursion (λ word. word < length self.old.table.tags) made.now }
+        ensures swept { IfOk result (λ numbers.
+            IsSwept P.Tag.eq P.model self.old made.now numbers.items self.new) }
+        ensures size { IfOk result
+            (λ numbers. length numbers.items ≡ length self.old.table.tags) }
+        ensures unswept { OnErr result (self.new ≡ self.old) }
+        ensures harts { length self.new.core.harts ≡ length self.old.core.harts }
+        ensures bytes { ram_bytes self.new.core.ram ≡ ram_bytes self.old.core.ram }
+    {
+        let plain = self.policy.plain();
+        let mut live = self.core.tags(self.alloc)?;
+        live.extend_from_slice(made)?;
+        let Ok(table) = remade(self.alloc, &self.tags, plain, &live) else {
+            return Err(AllocError);
+        };
+        let numbers = renumbering(self.alloc, &self.tags, &table, plain)?;
+        let _words = table.len(); // for the proof: no more tags have words than may
+        self.core.renumber(&numbers);
+        self.tags = table;
+        self.store.clear();
+        self.sweeps = self.sweeps.saturating_add(1);
+        Ok(numbers)
+    }
+
+    /// The outputs of the rule as words, behind a sweep: those that stood for them before need more words than there may be.
+    #[inline(never)]
+    fn ask_swept(&mut self, h: u32, look: &Look) -> Result<OutWords, AskEnd>
+        requires hart { h < length self.old.core.harts }
+        requires within { (hart_at self.old.core h).pc + 4 ≤ ram_bytes self.old.core.ram }
+        requires sound { IsSound (ram_bytes self.old.core.ram) look.now.effect }
+        ensures stays { HasParts self.old self.new }
+        ensures settled { Settles P.Tag.eq P.model self.old h look.now self.new result }
+        ensures harts { length self.new.core.harts ≡ length self.old.core.harts }
+        ensures bytes { ram_bytes self.new.core.ram ≡ ram_bytes self.old.core.ram }
+    {
+        let _words = self.words(); // for the proof: what the engine is
+        let Ok(_numbers) = self.sweep(&[]) else {
+            return Err(AskEnd::Memory);
+        };
+        let mut rules = Asking::new(&self.policy, &self.masks);
+        settle(
+            &mut self.tags,
+            &mut self.store,
+            &mut rules,
+            look.group,
+            self.core.inputs(h, look),
+        )
+    }
+
+    /// The outputs of the rule as words; a sweep comes first where they need more than there may be.
+    #[inline(always)]
+    fn answered(&mut self, h: u32, look: &Look) -> Result<OutWords, AskEnd>
+        requires hart { h < length self.old.core.harts }
+        requires within { (hart_at self.old.core h).pc + 4 ≤ ram_bytes self.old.core.ram }
+        requires sound { IsSound (ram_bytes self.old.core.ram) look.now.effect }
+        ensures stays { HasParts self.old self.new }
+        ensures allowed { IfOk result (Allows P.Tag.eq P.model self.old h look.now self.new) }
+        ensures unruled { IfErr result
+            (Unruled P.Tag.eq P.model self.old h look.now self.new) }
+        ensures kept { is_kept P.Tag.eq (key_in P.Tag.eq P.model self.old h look.now)
+            (account_by_words P.model self.old) ≡ true → IsOk result }
+        ensures harts { length self.new.core.harts ≡ length self.old.core.harts }
+        ensures bytes { ram_bytes self.new.core.ram ≡ ram_bytes self.old.core.ram }
+    {
+        match self.ask(h, look) {
+            Err(AskEnd::TagsOut) => self.ask_swept(h, &look.again()),
+            answer => answer,
+        }
     }
 
     /// Ends a turn whose rule gave no outputs.
@@ -333,46 +411,76 @@ impl<P: Policy, T: TagTable<Tag = P::Tag>, C: RuleStore> Pump<P, T, C> {
         )
     }
 
-    /// Whether the first tag can have a word that a service writes which nothing refuses and which has words to write.
-    fn has_room_for_first(&self, h: u32, look: &Look, outs: OutWords) -> bool
-        requires hart { h < length self.now.core.harts }
-        requires known { IsTrue (P.model.knows self.now.policy look.now.service) }
-        ensures { IfOk (service_in P.Tag.eq P.model self.now h look.now outs)
-            (λ job. 1 ≤ length job.words
-            → is_over (first_in P.Tag.eq P.model self.now h look.now outs job) ≡ not result) }
-    {
-        let call = self.service_call(h, outs);
-        match first_tag(
-            &self.policy,
-            look.service,
-            &call.arguments,
-            call.pc,
-            &call.memory,
-        ) {
-            Some(tag) => has_room(&self.tags, &tag),
-            None => true,
-        }
-    }
-
-    /// Ends a call of a service that nothing refuses, and whose words found no memory: tag numbers ran out where the
-    /// first tag that it writes can't have one.
-    fn end_without_memory(&mut self, h: u32, look: &Look, outs: OutWords) -> TurnEnd
+    /// Carries out a service that nothing refused, unless what it writes has no words without a sweep, which changes nothing. What it
+    /// writes gets words, and the policy takes note, before anything is written, since those alone can fail.
+    fn try_out(
+        &mut self,
+        h: u32,
+        look: &Look,
+        outs: OutWords,
+        job: &Job<P::Tag>,
+    ) -> Result<TurnEnd, InternEnd>
         requires hart { h < length self.old.core.harts }
-        requires known { IsTrue (P.model.knows self.old.policy look.now.service) }
-        requires unrefused { IsOkAnd (service_in P.Tag.eq P.model self.old h look.now outs)
-            (λ job. 1 ≤ length job.words) }
-        ensures ends { EndsService P.Tag.eq P.model self.old h look.now outs self.new result }
+        requires given { IsGiven P.model self.old.policy job.now.plan }
+        requires places { All (λ word. IsPlace (ram_bytes self.old.core.ram) word.0)
+            job.now.words.items }
+        requires aligned { look.now.effect.next % 4 ≡ 0 }
+        requires out_words { AreOutWords (length self.old.table.tags) outs }
+        ensures tries { TriesOut P.Tag.eq P.model self.old h look.now outs
+            (job_by job.now.plan job.now.words.items) self.new result }
         ensures harts { length self.new.core.harts ≡ length self.old.core.harts }
         ensures bytes { ram_bytes self.new.core.ram ≡ ram_bytes self.old.core.ram }
     {
-        if self.has_room_for_first(h, look, outs) {
-            return self.give_up();
+        let len = self.tags.len();
+        let written = match intern_job(self.alloc, &mut self.tags, job) {
+            Ok(written) => written,
+            Err(end) => return Err(end),
+        };
+        if self.policy.commit(&job.plan).is_err() {
+            self.tags.cut(len);
+            return Ok(self.give_up());
         }
-        self.run_out()
+        self.core.serve(
+            h,
+            &written.words,
+            written.answer,
+            look.effect.next(),
+            outs.pc,
+        );
+        self.turns = self.turns.saturating_add(1);
+        Ok(TurnEnd::Ran(None))
     }
 
-    /// Carries out a service that nothing refused. What it writes gets words, and the policy takes note, before anything
-    /// is written, since those alone can fail.
+    /// Carries out a service that nothing refused, behind a sweep: what it writes had no words.
+    fn carry_out_swept(&mut self, h: u32, look: &Look, outs: OutWords, job: &Job<P::Tag>) -> TurnEnd
+        requires hart { h < length self.old.core.harts }
+        requires given { IsGiven P.model self.old.policy job.now.plan }
+        requires places { All (λ word. IsPlace (ram_bytes self.old.core.ram) word.0)
+            job.now.words.items }
+        requires aligned { look.now.effect.next % 4 ≡ 0 }
+        requires out_words { AreOutWords (length self.old.table.tags) outs }
+        requires over { is_over (seeing P.Tag.eq (written_tags
+            (job_by job.now.plan job.now.words.items)) (account_by_words P.model self.old)) ≡ true }
+        ensures ends { CarriesOut P.Tag.eq P.model self.old h look.now outs
+            (job_by job.now.plan job.now.words.items) self.new result }
+        ensures harts { length self.new.core.harts ≡ length self.old.core.harts }
+        ensures bytes { ram_bytes self.new.core.ram ≡ ram_bytes self.old.core.ram }
+    {
+        let Ok(numbers) = self.sweep(&[outs.pc, outs.result]) else {
+            return self.give_up();
+        };
+        let moved = OutWords {
+            pc: numbers[outs.pc as usize],
+            result: numbers[outs.result as usize],
+        };
+        match self.try_out(h, look, moved, job) {
+            Ok(end) => end,
+            Err(InternEnd::Full) => self.run_out(),
+            Err(InternEnd::Memory) => self.give_up(),
+        }
+    }
+
+    /// Carries out a service that nothing refused; a sweep comes first where what it writes needs more words than there may be.
     fn carry_out(&mut self, h: u32, look: &Look, outs: OutWords, job: &Job<P::Tag>) -> TurnEnd
         requires hart { h < length self.old.core.harts }
         requires given { IsGiven P.model self.old.policy job.now.plan }
@@ -385,25 +493,11 @@ impl<P: Policy, T: TagTable<Tag = P::Tag>, C: RuleStore> Pump<P, T, C> {
         ensures harts { length self.new.core.harts ≡ length self.old.core.harts }
         ensures bytes { ram_bytes self.new.core.ram ≡ ram_bytes self.old.core.ram }
     {
-        let len = self.tags.len();
-        let written = match intern_job(self.alloc, &mut self.tags, job) {
-            Ok(written) => written,
-            Err(InternEnd::Full) => return self.run_out(),
-            Err(InternEnd::Memory) => return self.give_up(),
-        };
-        if self.policy.commit(&job.plan).is_err() {
-            self.tags.cut(len);
-            return self.give_up();
+        match self.try_out(h, look, outs, job) {
+            Ok(end) => end,
+            Err(InternEnd::Full) => self.carry_out_swept(h, look, outs, job),
+            Err(InternEnd::Memory) => self.give_up(),
         }
-        self.core.serve(
-            h,
-            &written.words,
-            written.answer,
-            look.effect.next(),
-            outs.pc,
-        );
-        self.turns = self.turns.saturating_add(1);
-        TurnEnd::Ran(None)
     }
 
     /// A call of a policy's service that the rule allowed.
@@ -424,7 +518,7 @@ impl<P: Policy, T: TagTable<Tag = P::Tag>, C: RuleStore> Pump<P, T, C> {
                 self.stop_hart(h, why)
             }
             Err(ServeEnd::Spent) => self.stop_hart(h, Stop::Fault(Fault::Spent(look.service))),
-            Err(ServeEnd::Memory) => self.end_without_memory(h, look, outs),
+            Err(ServeEnd::Memory) => self.give_up(),
         }
     }
 
@@ -459,7 +553,7 @@ impl<P: Policy, T: TagTable<Tag = P::Tag>, C: RuleStore> Pump<P, T, C> {
             Ok(look) => look,
             Err(why) => return self.stop_hart(h, why),
         };
-        let outs = match self.ask(h, &look) {
+        let outs = match self.answered(h, &look) {
             Ok(outs) => outs,
             Err(end) => return self.end_unanswered(h, end),
         };
@@ -535,7 +629,7 @@ impl<P: Policy, T: TagTable<Tag = P::Tag>, C: RuleStore> Engine for Pump<P, T, C
         let Some(look) = self.step_look(h) else {
             return self.rare_turn(h, feed);
         };
-        let outs = match self.ask(h, &look) {
+        let outs = match self.answered(h, &look) {
             Ok(outs) => outs,
             Err(end) => return self.end_unanswered(h, end),
         };
@@ -595,6 +689,7 @@ impl<P: Policy, T: TagTable<Tag = P::Tag>, C: RuleStore> Engine for Pump<P, T, C
             turns: self.turns,
             hits: self.store.hits(),
             misses: self.store.misses(),
+            sweeps: self.sweeps,
         }
     }
 }

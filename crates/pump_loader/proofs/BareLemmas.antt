@@ -47,6 +47,6 @@ bare_start_mirrors basis g none = record {
   policy = nothing_mirrors basis g (record {}) none;
   core = start_core_by no_tag all (choice_state basis g) nothing (record {}) (nothing_mirrors basis g (record {}) none) g;
   halt = refl;
-  uncached = record { ways = refl; seen = refl; sets = refl };
-  mirror_uncached = record { ways = refl; seen = refl; sets = refl };
+  uncached = record { ways = refl; table = refl; sets = refl };
+  mirror_uncached = record { ways = refl; table = refl; sets = refl };
 }

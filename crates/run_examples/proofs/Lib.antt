@@ -1,1 +1,2 @@
 mod ComputedLemmas
+mod CountedLemmas

@@ -3,4 +3,4 @@
 
 mod law;
 
-pub use law::example_law;
+pub use law::{counted_law, example_law};

@@ -2,6 +2,7 @@ mod AttackLemmas
 mod BirthLemmas
 mod ChosenLemmas
 mod EndLemmas
+pub mod EngineRunLemmas
 mod PartLemmas
 mod PartRunLemmas
 pub mod RunLemmas

@@ -1,5 +1,6 @@
 pub mod Attacks
 pub mod Ends
+pub mod EngineRuns
 pub mod Invariant
 pub mod Lenses
 pub mod Safe

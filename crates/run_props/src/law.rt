@@ -1,6 +1,6 @@
 //! Laws on runs.
 
-ghost use Rattle.std.specs.Prelude.{◌≡◌, ℕ, ◌+◌, List, [], map, Some, true};
+ghost use Rattle.std.specs.Prelude.{◌≡◌, ℕ, ◌+◌, List, [], map, None, Some, false, true};
 ghost use Rattle.image_format.specs.Conditions.{IsImage};
 ghost use Rattle.image_format.specs.Picture.{Picture};
 ghost use Rattle.turn_steps.specs.Feeds.{Tape};
@@ -22,7 +22,9 @@ ghost use Rattle.flow_runs.specs.FlowSafe.{FlowSafe};
 ghost use Rattle.heap_runs.specs.HeapSafe.{HeapSafe};
 ghost use Rattle.policy_trait.specs.declared.birth.Birth.{Birth};
 ghost use Rattle.engine_trait.specs.Events.{Call, Event, event_of};
+ghost use Rattle.engine_trait.specs.Accounts.{is_over};
 ghost use Rattle.engine_trait.specs.Machine.{Machine, is_ready_in};
+ghost use Rattle.engine_trait.specs.Standing.{Standing};
 ghost use Rattle.part_turns.specs.Maps.{event_with};
 ghost use Rattle.policy_choice.specs.All.{AllState, AllTag};
 ghost use Rattle.seal_runs.specs.SealInvariant.{SealInvariant};
@@ -35,10 +37,12 @@ ghost use Rattle.run_props.specs.Ends.{IsStopped};
 ghost use Rattle.run_props.specs.Invariant.{MeetsInvariant};
 ghost use Rattle.run_props.specs.Safe.{MeetsInvariants, IsSafe, heap_top, run_of};
 ghost use Rattle.run_props.specs.Lenses.{comp_lens, events_by, flow_lens, heap_lens, seal_lens};
+ghost use Rattle.run_props.specs.EngineRuns.{IsNeverOver, engine_along, unswept_along};
 
 use compartment_policy::CompartmentTag;
 use flow_policy::FlowTag;
 use heap_policy::HeapTag;
+use policy_trait::Policy;
 use sealing_policy::SealTag;
 
 /// Each of the four policies is a part of all of them together, wherever it is chosen.
@@ -148,4 +152,35 @@ pub fn heap_attack_law()
         → MissesBlock base top (block_book events)
         (event_with heap_lens.tag (event_of all s feed h))
         → IsStopped (event_of all s feed h) }
+{}
+
+/// Along any list of turns and fed bytes, under any policy, an engine that is not stopped as a whole
+/// at the end has had the machine's run, whatever it swept: machine, feed and events are the same.
+pub fn engine_law<P: Policy>()
+    ensures { (e : Standing P P.Tag) (feed : Tape) (items : List Item)
+        → (engine_along P.Tag.eq P.model e feed items).account.halt ≡ None
+        → (engine_along P.Tag.eq P.model e feed items).trace
+        ≡ run_along P.model e.machine feed items }
+{}
+
+/// Along any list of turns and fed bytes on which an engine that never sweeps would not run out of
+/// tag numbers, an engine that runs does not sweep, under any policy: machine, feed and events are
+/// those of the machine's run, and the account, with its counts, is that of the one that never
+/// sweeps. The words of that one are never fewer than before: room for them at the list's end is
+/// enough.
+pub fn sweep_law<P: Policy>()
+    ensures trace { (e : Standing P P.Tag) (feed : Tape) (items : List Item)
+        → e.account.halt ≡ None → IsNeverOver P.Tag.eq P.model e feed items
+        → (engine_along P.Tag.eq P.model e feed items).trace
+        ≡ run_along P.model e.machine feed items }
+    ensures account { (e : Standing P P.Tag) (feed : Tape) (items : List Item)
+        → e.account.halt ≡ None → IsNeverOver P.Tag.eq P.model e feed items
+        → (engine_along P.Tag.eq P.model e feed items).account
+        ≡ unswept_along P.Tag.eq P.model e.machine feed items e.account }
+    ensures sweeps { (e : Standing P P.Tag) (feed : Tape) (items : List Item)
+        → e.account.halt ≡ None → IsNeverOver P.Tag.eq P.model e feed items
+        → (engine_along P.Tag.eq P.model e feed items).account.sweeps ≡ e.account.sweeps }
+    ensures enough { (e : Standing P P.Tag) (feed : Tape) (items : List Item)
+        → is_over (unswept_along P.Tag.eq P.model e.machine feed items e.account) ≡ false
+        → IsNeverOver P.Tag.eq P.model e feed items }
 {}

@@ -117,6 +117,20 @@ impl Action {
         self.taken = taken;
     }
 
+    /// The same effect once more.
+    #[inline(always)]
+    pub fn again(&self) -> Action
+        ensures { result ≡ self.now }
+    {
+        Action {
+            next: self.next,
+            number: self.number,
+            stored: self.stored,
+            used: self.used,
+            taken: self.taken,
+        }
+    }
+
     /// The pc of the next instruction.
     #[inline(always)]
     pub fn next(&self) -> u32

@@ -1,5 +1,5 @@
 -- What the place of a rule in its set says: what a look-up of its key finds, and which rules are left beside it.
-use Rattle.std.proofs.Common.{◌≡◌, ℕ, zero, suc, ◌-◌, ◌<◌, ◌≤◌, true, false, [], ◌∷◌, ◌++◌, length, take, drop, slice_index_or, position, remove, Option, Some, None, inl, inr, refl, sym, ap, ◌∙◌, subst, arith}
+use Rattle.std.proofs.Common.{◌≡◌, ℕ, zero, suc, ◌-◌, ◌<◌, ◌≤◌, true, false, [], ◌∷◌, ◌++◌, length, take, drop, slice_index_or, position, remove, slice_set, Option, Some, None, inl, inr, refl, sym, ap, ◌∙◌, subst, arith}
 use Rattle.std.specs.List.{position_or_len}
 use Rattle.std.specs.Map.{lookup, lookup_entry, remove_entry}
 use Rattle.std.proofs.lemmas.Bool.{cases_lt, le-ltb, lt-ltb}
@@ -152,3 +152,10 @@ module _ (key : Key) where
         ap (remove more) last ∙ ap (λ rules. remove rules (length kept)) is
         ∙ (λ j. take_at kept (rule ∷ []) (length kept) refl j ++ drop_all (suc (length kept)) (kept ++ rule ∷ []) (omega arith) j)
         ∙ append-nil kept ∙ sym (take_all (ways - 1) kept (omega arith)) ∙ others_absent absent
+
+-- the first rule moved one back by itself
+pub second_put : (kept : Rules) (rule : Key × Outs ℕ) (d : Key × Outs ℕ) → 1 < length kept
+    → slice_set (slice_set kept 1 (slice_index_or kept 0 d)) 0 rule ≡ rule ∷ remove kept 1
+second_put [] rule d within = absurd (omega (arith, within))
+second_put (first ∷ []) rule d within = absurd (omega (arith, within))
+second_put (first ∷ second ∷ kept) rule d within = refl

@@ -96,12 +96,18 @@ fn place_of(rules: &[Rule], key: Key) -> Option<usize>
     rules.iter().position(|rule| key == rule.0)
 }
 
-// Moves the rules before this place one back, over what stands there, and puts a rule at the front.
+// Moves the rules before this place one back, over what stands there, and puts a rule at the front. Where that is the first rule alone, it
+// is moved by itself: most rules that are found behind the first one stand second.
+#[tactic(auto, using(crate::proofs::PlaceLemmas::second_put))]
 fn put_first(rules: &mut Vec<Rule>, place: usize, rule: Rule)
     requires { place < length rules.old.items }
     ensures put { rules.new.items ≡ rule ∷ remove rules.old.items place }
     ensures room { vec_capacity rules.new ≡ vec_capacity rules.old }
 {
-    rules.copy_within(..place, 1);
+    if place == 1 {
+        rules[1] = rules[0];
+    } else {
+        rules.copy_within(..place, 1);
+    }
     rules[0] = rule;
 }

@@ -3,13 +3,13 @@ use Rattle.std.proofs.Common.{◌≡◌, [], ◌∷◌, codes, refl}
 use Rattle.std.specs.Prelude.{⊤, Ok, Err, replicate}
 use Rattle.hex.proofs.OnLiterals.{hex_on_literals}
 use Rattle.shell_lang.specs.declared.bad_command.BadCommand.TheVariants.{UnknownWord, OperandCount, Malformed, OutOfRange, OddHexadecimal, TooLong}
-use Rattle.shell_lang.specs.declared.command.Command.TheVariants.{Blank, Step, Run, Turns, Feed, Regs, Pc, Mem, Tags, Dis, Why, Blocks, Stats, Break, Clear, Reset, Quit}
-use Rattle.shell_lang.specs.Grammar.{feed_command, hart_operand, hart_view, line_answer, machine_view, place_operand, plain_command, range_operands, run_command, running_command, session_command, step_command, turns_command}
+use Rattle.shell_lang.specs.declared.command.Command.TheVariants.{Blank, Step, Run, Turns, Feed, Regs, Pc, Mem, Tags, Dis, Why, Blocks, Stats, Sweeps, Break, Clear, Reset, Quit}
+use Rattle.shell_lang.specs.Grammar.{counts_view, feed_command, hart_operand, hart_view, line_answer, machine_view, place_operand, plain_command, range_operands, run_command, running_command, session_command, step_command, turns_command}
 use Rattle.shell_lang.specs.Words.{words_of}
 
 -- what computes on lines that are written out
 unfoldable on_rows : ⊤
-unfolding hex_on_literals words_of hart_operand place_operand range_operands plain_command step_command run_command turns_command feed_command running_command hart_view machine_view session_command line_answer
+unfolding hex_on_literals words_of hart_operand place_operand range_operands plain_command step_command run_command turns_command feed_command running_command hart_view machine_view counts_view session_command line_answer
 on_rows = tt
 
 -- ---- lines that ask for something
@@ -89,6 +89,11 @@ stats_row : line_answer (codes "stats") ≡ Ok Stats
 unfolding on_rows
 stats_row = refl
 
+-- the count of sweeps
+sweeps_row : line_answer (codes "sweeps") ≡ Ok Sweeps
+unfolding on_rows
+sweeps_row = refl
+
 -- a breakpoint
 break_row : line_answer (codes "break 1c") ≡ Ok (Break 28)
 unfolding on_rows
@@ -130,6 +135,11 @@ few_operands = refl
 many_operands : line_answer (codes "quit now") ≡ Err OperandCount
 unfolding on_rows
 many_operands = refl
+
+-- an operand where a command has none
+sweeps_operand : line_answer (codes "sweeps 1") ≡ Err OperandCount
+unfolding on_rows
+sweeps_operand = refl
 
 -- an operand that is badly written, beside one that is out of its range
 malformed : line_answer (codes " step  9 x ") ≡ Err Malformed

@@ -6,7 +6,7 @@ use Rattle.std.specs.Str.{bytes_eq}
 use Rattle.shell_lang.specs.declared.bad_command.BadCommand.{BadCommand}
 use Rattle.shell_lang.specs.declared.bad_command.BadCommand.TheVariants.{UnknownWord, TooLong}
 use Rattle.shell_lang.specs.declared.command.Command.{Command}
-use Rattle.shell_lang.specs.declared.command.Command.TheVariants.{Blank, Step, Run, Turns, Feed, Regs, Pc, Mem, Tags, Dis, Why, Blocks, Stats, Break, Clear, Reset, Quit}
+use Rattle.shell_lang.specs.declared.command.Command.TheVariants.{Blank, Step, Run, Turns, Feed, Regs, Pc, Mem, Tags, Dis, Why, Blocks, Stats, Sweeps, Break, Clear, Reset, Quit}
 use Rattle.shell_lang.specs.Operands.{no_operand, one_operand, two_operands, number_in, address_in, digits_in, bytes_in, within, word_address}
 use Rattle.shared_terms.specs.Steps.{◌>>=◌}
 use Rattle.shell_lang.specs.Words.{Text, words_of}
@@ -135,7 +135,13 @@ machine_view name operands =
     else if bytes_eq name (codes "tags") then Some (range_command Tags operands)
     else if bytes_eq name (codes "dis") then Some (range_command Dis operands)
     else if bytes_eq name (codes "blocks") then Some (plain_command Blocks operands)
-    else if bytes_eq name (codes "stats") then Some (plain_command Stats operands)
+    else None
+
+-- the commands that tell what was counted
+unfoldable pub counts_view : Text → List Text → Option Answer
+counts_view name operands =
+    if bytes_eq name (codes "stats") then Some (plain_command Stats operands)
+    else if bytes_eq name (codes "sweeps") then Some (plain_command Sweeps operands)
     else None
 
 -- the commands that set breakpoints, start again and end
@@ -151,7 +157,8 @@ session_command name operands =
 abbrev pub named_command : Text → List Text → Option Answer
 named_command name operands =
     option_or (running_command name operands)
-    (option_or (hart_view name operands) (option_or (machine_view name operands) (session_command name operands)))
+    (option_or (hart_view name operands)
+    (option_or (machine_view name operands) (option_or (counts_view name operands) (session_command name operands))))
 
 -- a line without words is executed as nothing
 abbrev pub words_answer : List Text → Answer

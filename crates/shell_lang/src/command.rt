@@ -31,6 +31,8 @@ pub enum Command {
     Blocks,
     /// `stats`: the counts of turns, hits and misses.
     Stats,
+    /// `sweeps`: the count of sweeps, which give tag numbers back.
+    Sweeps,
     /// `break A`: a breakpoint at address `A`.
     Break(u32),
     /// `clear A`: none there.

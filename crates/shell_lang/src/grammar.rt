@@ -3,7 +3,7 @@
 ghost use Rattle.std.specs.Prelude.{◌≡◌, ◌≤◌, ◌∷◌, length};
 ghost use Rattle.shell_lang.specs.Grammar.{hart_operand, place_operand, range_operands};
 ghost use Rattle.shell_lang.specs.Grammar.{feed_command, plain_command, run_command, step_command, turns_command};
-ghost use Rattle.shell_lang.specs.Grammar.{hart_view, machine_view, running_command, session_command};
+ghost use Rattle.shell_lang.specs.Grammar.{counts_view, hart_view, machine_view, running_command, session_command};
 ghost use Rattle.shell_lang.specs.Grammar.{line_answer, words_answer};
 ghost use Rattle.shell_lang.specs.Words.{words_of};
 
@@ -140,7 +140,18 @@ fn machine_view(name: &[u8], rest: &[u8]) -> Option<Result<Command, BadCommand>>
         b"tags" => Some(range_operands(rest).map(|(a, n)| Command::Tags(a, n))),
         b"dis" => Some(range_operands(rest).map(|(a, n)| Command::Dis(a, n))),
         b"blocks" => Some(plain_command(Command::Blocks, rest)),
+        _ => None,
+    }
+}
+
+/// The commands that tell what was counted; `None` for any other name.
+#[tactic(auto, unfolding(crate::specs::Grammar::counts_view))]
+fn counts_view(name: &[u8], rest: &[u8]) -> Option<Result<Command, BadCommand>>
+    ensures { result ≡ counts_view name.now (words_of rest.now) }
+{
+    match name {
         b"stats" => Some(plain_command(Command::Stats, rest)),
+        b"sweeps" => Some(plain_command(Command::Sweeps, rest)),
         _ => None,
     }
 }
@@ -167,6 +178,7 @@ fn named_command(name: &[u8], rest: &[u8]) -> Result<Command, BadCommand>
     running_command(name, rest)
         .or_else(|| hart_view(name, rest))
         .or_else(|| machine_view(name, rest))
+        .or_else(|| counts_view(name, rest))
         .or_else(|| session_command(name, rest))
         .unwrap_or(Err(BadCommand::UnknownWord))
 }

@@ -91,6 +91,7 @@ module _ {S T : Type 0} (eq : T → T → Bool) (m : PolicyModel T S) (s : Sessi
     gains_told (command.Why h) = same (command.Why h) before refl refl refl
     gains_told command.Blocks = same command.Blocks before refl refl refl
     gains_told command.Stats = same command.Stats before refl refl refl
+    gains_told command.Sweeps = same command.Sweeps before refl refl refl
     gains_told (command.Break a) = same (command.Break a) before refl refl refl
     gains_told (command.Clear a) = same (command.Clear a) before refl refl refl
     gains_told command.Reset = record { gained = []; run = refl; told = refl }
@@ -129,6 +130,7 @@ module _ {S T : Type 0} (eq : T → T → Bool) (m : PolicyModel T S) (s : Sessi
   start_kept (command.Why h) = kept_if (is_hart s h) _ refl
   start_kept command.Blocks = refl
   start_kept command.Stats = refl
+  start_kept command.Sweeps = refl
   start_kept (command.Break a) = kept_if (is_place s a) (breaking s a) (break_kept a (is_kept s a))
   start_kept (command.Clear a) = kept_if (is_place s a) (clearing s a) refl
   start_kept command.Reset = refl

@@ -107,6 +107,7 @@ module _ {S T : Type 0} (eq : T → T → Bool) (m : PolicyModel T S) (s : Sessi
   goes_on (command.Why h) = checked_stays (is_hart s h) _ refl
   goes_on command.Blocks = along
   goes_on command.Stats = along
+  goes_on command.Sweeps = along
   goes_on (command.Break a) = checked_goes (is_place s a) (breaking s a) (break_goes a (is_kept s a) (nat_lt (length s.breaks) 64))
   goes_on (command.Clear a) = checked_goes (is_place s a) (clearing s a) (with_breaks (clearing s a).after.breaks)
   goes_on command.Reset = record { machine = refl; feed = refl }

@@ -111,6 +111,7 @@ module _ {S T : Type 0} (s : SessionState S T) where
     ended_stays (command.Why h) = checked_lives (is_hart s h) _ refl
     ended_stays command.Blocks = refl
     ended_stays command.Stats = refl
+    ended_stays command.Sweeps = refl
     ended_stays (command.Break a) = checked_lives (is_place s a) (breaking s a) (break_lives a (is_kept s a))
     ended_stays (command.Clear a) = checked_lives (is_place s a) (clearing s a) refl
     ended_stays command.Reset = refl

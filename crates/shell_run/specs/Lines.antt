@@ -38,6 +38,10 @@ unfoldable pub stats_line : Counts → List ℕ
 stats_line counts =
     line (codes "stats turns " ++ decimal counts.turns ++ codes " hits " ++ decimal counts.hits ++ codes " misses " ++ decimal counts.misses)
 
+-- the count of sweeps
+unfoldable pub sweeps_line : ℕ → List ℕ
+sweeps_line count = line (codes "sweeps " ++ decimal count)
+
 -- how many turns of a command were counted
 unfoldable pub turns_line : ℕ → List ℕ
 turns_line count = line (codes "turns " ++ decimal count)

@@ -13,7 +13,7 @@ use Rattle.shell_turns.specs.Cuts.{PutsOut, TurnsCut, all_put, cut_by}
 use Rattle.shell_turns.specs.Order.{Order, listed as listed_harts, only, rounds_from}
 use Rattle.shell_turns.specs.Turns.{Turns, turns}
 use Rattle.shell_turns.specs.declared.ends.ObeyEnd.{ObeyEnd}
-use Rattle.shell_run.specs.Lines.{refusal_line, stats_line, turns_line}
+use Rattle.shell_run.specs.Lines.{refusal_line, stats_line, sweeps_line, turns_line}
 use Rattle.shell_run.specs.Session.{SessionState, bytes_in, is_hart, is_place, is_range}
 use Rattle.shell_run.specs.Shown.{blocks, lines_from, pc_of, register_of, statement_of, tag_of, why_line, word_of}
 
@@ -112,6 +112,10 @@ module _ {S T : Type 0} (eq : T → T → Bool) (m : PolicyModel T S) (s : Sessi
   abbrev pub stats_shown : List Piece
   stats_shown = out (stats_line (counts_of s.standing.account)) ∷ []
 
+  -- how many sweeps there were since then
+  abbrev pub sweeps_shown : List Piece
+  sweeps_shown = out (sweeps_line (counts_of s.standing.account).sweeps) ∷ []
+
   -- a line for each command
   unfoldable pub reply_to : Command → Reply S T
   reply_to command.Blank = silent s
@@ -127,6 +131,7 @@ module _ {S T : Type 0} (eq : T → T → Bool) (m : PolicyModel T S) (s : Sessi
   reply_to (command.Why h) = reply_if s (is_hart s h) (telling s (why_shown h))
   reply_to command.Blocks = telling s blocks_shown
   reply_to command.Stats = telling s stats_shown
+  reply_to command.Sweeps = telling s sweeps_shown
   reply_to (command.Break a) = reply_if s (is_place s a) (breaking s a)
   reply_to (command.Clear a) = reply_if s (is_place s a) (clearing s a)
   reply_to command.Reset = restarting s

@@ -98,6 +98,7 @@ impl<L: Loader> Session<L> {
             Command::Why(h) => self.why(*h, out),
             Command::Blocks => self.blocks(out),
             Command::Stats => self.stats(out),
+            Command::Sweeps => self.sweeps(out),
             Command::Break(a) => self.set_break(*a, out),
             Command::Clear(a) => self.clear_break(*a, out),
             Command::Reset => self.reset(),

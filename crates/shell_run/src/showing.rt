@@ -4,12 +4,12 @@ ghost use Rattle.std.specs.Prelude.{◌≡◌, ◌∷◌, []};
 ghost use Rattle.host_io.specs.Pieces.{out as piece};
 ghost use Rattle.shell_turns.specs.Cuts.{ObeyCause, PutsOut};
 ghost use Rattle.shell_run.specs.Lines.{refusal_line};
-ghost use Rattle.shell_run.specs.Replies.{blocks_shown, reply_if, pc_shown, registers_shown, statements_shown, stats_shown, tags_shown, telling, why_shown, words_shown};
+ghost use Rattle.shell_run.specs.Replies.{blocks_shown, reply_if, pc_shown, registers_shown, statements_shown, stats_shown, sweeps_shown, tags_shown, telling, why_shown, words_shown};
 ghost use Rattle.shell_run.specs.Session.{is_hart, is_range};
 
 use crate::listing::{Listing, put_blocks, put_listing};
 use crate::session::Session;
-use crate::texts::{put_pc, put_ready, put_refusal, put_stats};
+use crate::texts::{put_pc, put_ready, put_refusal, put_stats, put_sweeps};
 use engine_trait::{Engine, Loader};
 use host_io::Sink;
 use shell_turns::{ObeyEnd, put_stop_line};
@@ -148,5 +148,14 @@ impl<L: Loader> Session<L> {
         ensures cause { ObeyCause (K.faults out.old) (K.faults out.new) result }
     {
         put_stats(self.engine.counts(), out)
+    }
+
+    /// `sweeps`: the count of sweeps, which give tag numbers back.
+    pub(crate) fn sweeps<K: Sink>(&self, out: &mut K) -> Result<(), ObeyEnd>
+        ensures puts { PutsOut (K.taken out.old) (K.taken out.new)
+            (sweeps_shown L.E.P.Tag.eq L.E.P.model self.now) result }
+        ensures cause { ObeyCause (K.faults out.old) (K.faults out.new) result }
+    {
+        put_sweeps(self.engine.counts().sweeps, out)
     }
 }

@@ -1,10 +1,13 @@
 -- Tags that come to a table one after another.
-use Rattle.std.proofs.Common.{◌≡◌, ℕ, suc, ◌+◌, ◌<◌, Bool, true, false, List, [], ◌∷◌, ◌++◌, drop, get_or, length, map, take, Result, Err, slice_get, refl, sym, ap, subst, ◌∙◌, arith}
+use Rattle.std.proofs.Common.{◌≡◌, ℕ, suc, ◌+◌, ◌<◌, ◌≤◌, Bool, true, false, List, [], ◌∷◌, ◌++◌, drop, get_or, length, map, take, Result, Ok, Err, Some, slice_get, refl, sym, ap, subst, ◌∙◌, arith}
 use Rattle.std.specs.Cmp.{IsEquivalence}
 use Rattle.std.specs.List.{list_any}
 use Rattle.std.proofs.Math.Seq.{take-suc}
 use Rattle.std.proofs.lemmas.List.{map-append, take-append-drop}
 use Rattle.engine_trait.specs.Accounts.{with_tag, with_tags}
+use Rattle.tag_intern.specs.Table.{TableState, table_after}
+use Rattle.tag_intern.specs.declared.table.InternEnd.{InternEnd}
+use Rattle.tag_intern.specs.declared.table.InternEnd.TheVariants as intern_end
 use Rattle.tag_intern.proofs.TableLemmas.{extends_with_tags, longer, slice_get-last, with_known, with_new, with_word}
 
 module _ {T : Type 0} (eq : T → T → Bool) where
@@ -29,6 +32,16 @@ module _ {T : Type 0} (eq : T → T → Bool) (laws : IsEquivalence eq) (seen : 
       by false e =
           let pushed = with_new eq laws seen tag e in
           with_word eq laws (with_tag eq seen tag) tag (length seen) (ap (λ tags. slice_get tags (length seen)) pushed ∙ slice_get-last seen tag)
+
+-- a tag that has a word comes
+module _ {T : Type 0} (eq : T → T → Bool) (laws : IsEquivalence eq) (table : TableState T) (word : ℕ) (tag : T) (known : slice_get table.tags word ≡ Some tag) where
+  pub known_stays : table ≡ table_after eq table tag
+  known_stays = λ j. record table { tags = sym (with_word eq laws table.tags tag word known) j }
+
+  pub known_fits : length table.tags ≤ table.limit → table.limit < length (with_tag eq table.tags tag) → ⊥
+  known_fits within over =
+      let same : length (with_tag eq table.tags tag) ≡ length table.tags = ap length (with_word eq laws table.tags tag word known) in
+      omega (arith, same, within, over)
 
 -- the tag of the next item comes
 module _ {A T : Type 0} (f : A → T) (items : List A) (k : ℕ) (d : A) (lt : k < length items) where
@@ -62,3 +75,12 @@ failed end = Err end
 
 pub passed_on : {A B E : Type 0} (r : Result A E) (given told end : E) → r ≡ Err given → given ≡ told → r ≡ Err end → failed {A = B} told ≡ failed end
 passed_on r given told end e same f = ap (λ end. failed end) (sym same ∙ same_end r given end e f)
+
+-- ---- an end of a table
+
+abbrev done : {A : Type 0} → A → Result A InternEnd
+done x = Ok x
+
+-- what is done is not out of words
+pub never_full : {A : Type 0} (x : A) → done x ≡ Err intern_end.Full → ⊥
+never_full x full = cc

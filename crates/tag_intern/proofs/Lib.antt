@@ -1,3 +1,6 @@
 pub mod ComingLemmas
+mod LengthLemmas
+mod NumberLemmas
 pub mod RoomLemmas
+pub mod SweepLemmas
 pub mod TableLemmas

@@ -16,7 +16,7 @@ use Rattle.tag_intern.specs.Table.{Extends, HasNoRepeats, IsTable}
 module _ {T : Type 0} where
   -- ---- what stands at a word of a longer list
 
-  slice_get-append : (xs ys : List T) (i : ℕ) → i < length xs → slice_get (xs ++ ys) i ≡ slice_get xs i
+  pub slice_get-append : (xs ys : List T) (i : ℕ) → i < length xs → slice_get (xs ++ ys) i ≡ slice_get xs i
   slice_get-append [] ys i h = absurd (omega arith)
   slice_get-append (x ∷ xs) ys zero h = refl
   slice_get-append (x ∷ xs) ys (suc i) h = slice_get-append xs ys i (omega arith)
@@ -26,7 +26,7 @@ module _ {T : Type 0} where
   slice_get-last (y ∷ xs) x = slice_get-last xs x
 
   -- what stands behind a list with one more tag is that tag
-  at_end : (xs : List T) (x y : T) (i : ℕ) → length xs ≤ i → slice_get (xs ++ x ∷ []) i ≡ Some y → (i ≡ length xs) × (x ≡ y)
+  pub at_end : (xs : List T) (x y : T) (i : ℕ) → length xs ≤ i → slice_get (xs ++ x ∷ []) i ≡ Some y → (i ≡ length xs) × (x ≡ y)
   at_end [] x y zero h e = (refl, same_Some x y e)
   at_end [] x y (suc i) h e = absurd (none-some y e)
   at_end (z ∷ xs) x y zero h e = absurd (omega arith)

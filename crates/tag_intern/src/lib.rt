@@ -6,10 +6,12 @@ mod decoder;
 mod interner;
 mod law;
 mod room;
+mod sweep;
 mod table;
 
 pub use decoder::Decoder;
 pub use interner::Interner;
 pub use law::growth_law;
-pub use room::{has_room, has_word};
+pub use room::has_word;
+pub use sweep::{remade, renumbering};
 pub use table::{InternEnd, TagTable};

@@ -1,10 +1,12 @@
 -- What a list in pages has after each change of its pages.
 use Rattle.std.proofs.Common.{◌≡◌, ◌⊎◌, inl, inr, ◌≢◌, ℕ, zero, suc, ◌+◌, ◌-◌, ◌*◌, ◌/◌, ◌%◌, ◌<◌, ◌≤◌, Bool, true, false, not, Result, Ok, Err, IfOk, List, [], ◌∷◌, ◌++◌, filter, length, map, replicate, drop, take, slice_range, refl, ap, sym, subst, ◌∙◌, arith, slice_index, slice_index_or, slice_set, if◌then◌else◌}
 use Rattle.std.specs.List.{range_with_len}
+use Rattle.std.proofs.Math.ListN.{get_or-map}
 use Rattle.std.proofs.lemmas.Bool.{cases_eq, cases_lt}
 use Rattle.std.proofs.lemmas.Bool.Decides.{nat_tests}
-use Rattle.std.proofs.lemmas.List.{append-nil, append_assoc, get_or_append_left, get_or-append-add, get_or-drop, get_or-replicate, get_or-set_same, get_or-set_other, get_or-take, length-append, length-drop, length-replicate, length-set, length-take, replicate-append-replicate, replicate_more, take_all}
+use Rattle.std.proofs.lemmas.List.{append-nil, append_assoc, get_or_append_left, get_or-append-add, get_or-drop, get_or-replicate, get_or-set_same, get_or-set_other, get_or-take, length-append, length-drop, length-replicate, length-set, length-take, replicate-append-replicate, replicate_more, take_all, take_more}
 use Rattle.std.proofs.lemmas.List.FromFn.{length-map-range_with_len, map-range_with_len_more, get_or-map-range_with_len}
+use Rattle.std.proofs.lemmas.Simd.{map-map}
 use Rattle.tag_memory.specs.Pages.{ArePages, IsFirstSlot, PagesState, first_slot, item_of, items_of, shifts_to, slot_of}
 
 -- the slot of an item: so many behind the first one of its page as the item is behind the page's first
@@ -59,8 +61,28 @@ shifts_more old new place count k shift is at =
     ∙ ap (λ s. new ++ (shifts_to place count k ++ s ∷ [])) at
     ∙ ap (λ list. new ++ list) (sym more)
 
+-- each slot changed, and so each item
+pub items_by : {T U : Type 0} (f : T → U) (old : PagesState T) (new : PagesState U) → new.shifts ≡ old.shifts → new.slots ≡ map f old.slots
+    → new.count ≡ old.count → new.blank ≡ f old.blank → items_of new ≡ map f (items_of old)
+unfolding items_of
+items_by f old new shifts slots count blank =
+    (λ j. map (item_of (shifts j) (slots j) (blank j)) (range_with_len 0 (count j)))
+    ∙ (λ j. map (λ n. get_or-map f old.slots (slot_of old.shifts n) old.blank j) (range_with_len 0 old.count))
+    ∙ sym (map-map f (item_of old.shifts old.slots old.blank) (range_with_len 0 old.count))
+
 module _ {T : Type 0} where
   -- ---- lists by number
+
+  -- one item more of those that are added in their order
+  pub pushed_more : (first all old new : List T) (n : ℕ) (x : T) → n < length all → old ≡ first ++ take n all → new ≡ old ++ x ∷ []
+      → x ≡ slice_index_or all n x → new ≡ first ++ take (n + 1) all
+  pushed_more first all old new n x lt is pushed at =
+      pushed ∙ ap (λ list. list ++ x ∷ []) is ∙ append_assoc first (take n all) (x ∷ []) ∙ ap (λ y. first ++ (take n all ++ y ∷ [])) at
+      ∙ ap (λ list. first ++ list) (sym (take_more all n x lt))
+
+  -- all items were added
+  pub pushed_all : (first all list : List T) (n : ℕ) → list ≡ first ++ take n all → length all ≤ n → list ≡ first ++ all
+  pushed_all first all list n is le = is ∙ ap (λ items. first ++ items) (take_all n all le)
 
   -- a list that is made longer with an item over and over
   pub resized : (old new : List T) (n size added : ℕ) (x : T) → new ≡ take n old ++ replicate (n - size) x → size ≡ length old → n ≡ size + added

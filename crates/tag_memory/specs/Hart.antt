@@ -1,5 +1,5 @@
 -- A hart: the registers x1 to x31 with their tags, and the pc with its tag. x0 is not kept: it is 0 and plain.
-use Rattle.std.specs.Prelude.{◌≡◌, ℕ, ◌-◌, ◌%◌, ◌==◌, List, drop, length, replicate, slice_index, slice_index_or, slice_set, if◌then◌else◌}
+use Rattle.std.specs.Prelude.{◌≡◌, ℕ, ◌-◌, ◌%◌, ◌==◌, List, ◌∷◌, drop, length, replicate, slice_index, slice_index_or, slice_set, if◌then◌else◌}
 
 pub record HartState (T : Type 0) : Type 0 where
   -- x1 is the first
@@ -30,6 +30,10 @@ pub record IsKept {T : Type 0} (values : List ℕ) (tags : List T) (pc : ℕ) (p
   pub zero : slice_index values 0 ≡ 0
   pub untagged : slice_index_or tags 0 plain ≡ plain
   pub aligned : pc % 4 ≡ 0
+
+-- the tags that stand in it: that of the pc, and those of x1 to x31
+abbrev pub hart_tags : {T : Type 0} → HartState T → List T
+hart_tags hart = hart.pc_tag ∷ hart.tags
 
 abbrev pub reg_value : {T : Type 0} → HartState T → ℕ → ℕ
 reg_value hart r = if r == 0 then 0 else slice_index hart.values (r - 1)

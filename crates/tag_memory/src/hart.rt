@@ -1,9 +1,11 @@
 //! The registers and the pc of a hart, with their tags.
 
-ghost use Rattle.std.specs.Prelude.{◌≡◌, ◌≢◌, ℕ, ◌%◌, ◌<◌, IfOk};
-ghost use Rattle.tag_memory.specs.Hart.{fresh_hart, moved_to, reg_tag, reg_value, with_reg, with_reg_tag};
+ghost use Rattle.std.specs.Prelude.{◌≡◌, ◌≢◌, ◌++◌, ℕ, ◌%◌, ◌<◌, IfOk, OnOk, slice_index};
+ghost use Rattle.tag_memory.specs.Hart.{fresh_hart, hart_tags, moved_to, reg_tag, reg_value, with_reg, with_reg_tag};
+ghost use Rattle.tag_memory.specs.Maps.{hart_by};
 
 use crate::filled::filled;
+use crate::renumbering::{number_at, renumber_all};
 use std::alloc::{AllocError, Global};
 use std::marker::Model;
 
@@ -135,5 +137,26 @@ impl<T: Copy> Hart<T> {
     {
         self.pc = pc;
         self.pc_tag = pc_tag;
+    }
+
+    /// Adds the tags that stand in the hart to a list: that of the pc, then those of x1 to x31. The
+    /// only error is running out of memory; the list may then have some of them.
+    pub fn push_tags(&self, list: &mut Vec<T>) -> Result<(), AllocError>
+        ensures { OnOk result (list.new.items ≡ list.old.items ++ hart_tags self.now) }
+    {
+        list.push(self.pc_tag)?;
+        list.extend_from_slice(&self.tags[1..])
+    }
+}
+
+impl Hart<u32> {
+    /// Gives each tag, the plain one too, the number that stands at its place in `numbers`, 0 for
+    /// one past its end. Values and the pc stay. It takes no memory.
+    pub fn renumber(&mut self, numbers: &[u32])
+        ensures { self.new ≡ hart_by (slice_index numbers.now) self.old }
+    {
+        renumber_all(&mut self.tags, numbers);
+        self.pc_tag = number_at(numbers, self.pc_tag);
+        self.plain = number_at(numbers, self.plain);
     }
 }

@@ -6,6 +6,7 @@ mod hart;
 mod law;
 mod pages;
 mod ram;
+mod renumbering;
 
 pub use hart::Hart;
 pub use law::{hart_law, map_law, ram_law};

@@ -1,8 +1,10 @@
 //! Lists in pages: pages of one item over and over share their slots until one of them is written.
 
-ghost use Rattle.std.specs.Prelude.{◌≡◌, ◌≢◌, ◌==◌, ◌++◌, if◌then◌else◌, ◌∷◌, ◌+◌, ◌-◌, ◌*◌, ◌/◌, ◌%◌, ◌<◌, ◌≤◌, [], ℕ, Bool, IfOk, OnOk, false, true, length, replicate, slice_index, slice_index_or, slice_range, slice_set, vec_capacity};
+ghost use Rattle.std.specs.Prelude.{◌≡◌, ◌≢◌, ◌==◌, ◌++◌, if◌then◌else◌, ◌∷◌, ◌+◌, ◌-◌, ◌*◌, ◌/◌, ◌%◌, ◌<◌, ◌≤◌, [], ℕ, Bool, IfOk, OnOk, false, true, length, map, replicate, slice_index, slice_index_or, slice_range, slice_set, vec_capacity};
+ghost use Rattle.tag_memory.specs.Maps.{pages_by};
 ghost use Rattle.tag_memory.specs.Pages.{first_slot, items_of, shifts_to, slot_of};
 
+use crate::renumbering::{number_at, renumber_all};
 use std::alloc::{AllocError, Global};
 use std::marker::Model;
 
@@ -131,6 +133,19 @@ impl<T: Copy> Pages<T> {
         self.write(n, item);
     }
 
+    /// Adds the items to another list, in their order. The only error is running out of memory;
+    /// that list may then have some of them.
+    #[tactic(auto, using(crate::proofs::PagesLemmas::count_is))]
+    pub fn push_items(&self, list: &mut Vec<T>) -> Result<(), AllocError>
+        ensures { OnOk result (list.new.items ≡ list.old.items ++ items_of self.now) }
+    {
+        list.reserve(self.count as usize)?;
+        for n in 0..self.count {
+            list.push(*self.at(n))?;
+        }
+        Ok(())
+    }
+
     #[inline(always)]
     fn write(&mut self, n: u32, item: T)
         requires { n < self.old.count }
@@ -253,6 +268,18 @@ impl<T: Copy> Pages<T> {
         self.count = end;
         self.shared = shared;
         Ok(self)
+    }
+}
+
+impl Pages<u32> {
+    /// Gives each item the number that stands at its place in `numbers`, 0 for one past its end.
+    /// Pages share the slots that they shared. It takes no memory.
+    pub fn renumber(&mut self, numbers: &[u32])
+        ensures items { items_of self.new ≡ map (slice_index numbers.now) (items_of self.old) }
+        ensures pages { self.new ≡ pages_by (slice_index numbers.now) self.old }
+    {
+        renumber_all(&mut self.slots, numbers);
+        self.blank = number_at(numbers, self.blank);
     }
 }
 

@@ -1,12 +1,14 @@
 //! Memory, with a tag for each word.
 
-ghost use Rattle.std.specs.Prelude.{◌≡◌, ◌≢◌, ℕ, ◌+◌, ◌*◌, ◌/◌, ◌%◌, ◌-◌, ◌<◌, ◌≤◌, IfOk, drop, length, take};
+ghost use Rattle.std.specs.Prelude.{◌≡◌, ◌≢◌, ◌++◌, ℕ, ◌+◌, ◌*◌, ◌/◌, ◌%◌, ◌-◌, ◌<◌, ◌≤◌, IfOk, OnOk, drop, length, slice_index, take};
 ghost use Rattle.std.specs.List.{list_all};
+ghost use Rattle.tag_memory.specs.Maps.{ram_by};
 ghost use Rattle.tag_memory.specs.Pages.{items_of};
 ghost use Rattle.tag_memory.specs.Ram.{IsRam, fresh_ram, only_one, page_tags, ram_bytes, ram_tag, ram_word, with_ram_filled, with_ram_tag, with_ram_word};
 
 use crate::filled::filled;
 use crate::pages::Pages;
+use crate::renumbering::number_at;
 use pump_words::Same;
 use std::alloc::{AllocError, Global};
 use std::marker::Model;
@@ -126,6 +128,25 @@ impl<T: Copy> Ram<T> {
         for n in 0..words {
             self.set_tag(address + 4 * n, tag);
         }
+    }
+
+    /// Adds the tags of all words to a list, in their order. The only error is running out of
+    /// memory; the list may then have some of them.
+    pub fn push_tags(&self, list: &mut Vec<T>) -> Result<(), AllocError>
+        ensures { OnOk result (list.new.items ≡ list.old.items ++ self.now.tags) }
+    {
+        self.tags.push_items(list)
+    }
+}
+
+impl Ram<u32> {
+    /// Gives each tag, the plain one too, the number that stands at its place in `numbers`, 0 for
+    /// one past its end. Words stay. It takes no memory.
+    pub fn renumber(&mut self, numbers: &[u32])
+        ensures { self.new ≡ ram_by (slice_index numbers.now) self.old }
+    {
+        self.tags.renumber(numbers);
+        self.plain = number_at(numbers, self.plain);
     }
 }
 

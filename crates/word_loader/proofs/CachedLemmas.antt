@@ -143,7 +143,7 @@ module _ {S T : Type 0} (m : PolicyModel T S) (policy : S) (g : Picture) where
       start_is_read eq limit seen limit_is = λ j. record {
         machine = machine_read j;
         account = record plain_account {
-          seen = seen j;
+          table = seen j;
           limit = limit_is j;
           sets = none_read (decode m (pump_start policy harts own_ram table (empty_store sets ways))) sets j;
           ways = ways;

@@ -21,7 +21,7 @@ module _ {S T : Type 0} (eq : T → T → Bool) (m : PolicyModel T S) (policy : 
   -- each tag of the start has a word, once, and no rule is kept
   abbrev pub cached_account : Account T
   cached_account =
-      record plain_account { seen = with_tags eq [] (first_tags m policy g); limit = limit; sets = replicate sets []; ways = ways }
+      record plain_account { table = with_tags eq [] (first_tags m policy g); limit = limit; sets = replicate sets []; ways = ways }
 
   abbrev pub cached_standing : Standing S T
   cached_standing = record { machine = start_machine m policy g; account = cached_account }

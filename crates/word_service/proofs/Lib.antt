@@ -1,2 +1,1 @@
-mod FirstLemmas
 mod WordLemmas

@@ -1,5 +1,5 @@
 -- What is written in words: how it goes on as tags come, and what it stands for.
-use Rattle.std.proofs.Common.{◌≡◌, ℕ, ◌+◌, ◌<◌, ◌≤◌, Bool, List, [], ◌∷◌, ◌++◌, drop, get_or, length, take, Option, Some, None, Result, Ok, Err, option_map, slice_get, refl, sym, ap, subst, ◌∙◌, arith}
+use Rattle.std.proofs.Common.{◌≡◌, ℕ, ◌+◌, ◌<◌, ◌≤◌, Bool, List, [], ◌∷◌, ◌++◌, drop, get_or, length, take, Option, Some, None, Result, Err, option_map, slice_get, refl, sym, ap, subst, ◌∙◌, arith}
 use Rattle.std.specs.Cmp.{IsEquivalence}
 use Rattle.std.specs.List.{All}
 use Rattle.std.proofs.lemmas.List.{length-append, length-map, take-append-drop, take-append-le}
@@ -10,18 +10,15 @@ use Rattle.policy_trait.specs.Maps.{answer_by}
 use Rattle.policy_trait.specs.declared.services.Answer.{Answer}
 use Rattle.engine_trait.specs.Accounts.{with_tag, with_tags}
 use Rattle.engine_trait.specs.Maps.{words_by}
-use Rattle.tag_intern.specs.Table.{Extends, TableState, table_after}
+use Rattle.tag_intern.specs.Table.{Extends}
 use Rattle.tag_intern.specs.Words.{tag_at}
 use Rattle.tag_intern.specs.declared.table.InternEnd.{InternEnd}
 use Rattle.tag_intern.specs.declared.table.InternEnd.TheVariants as intern_end
 use Rattle.tag_intern.proofs.ComingLemmas.{all_read, read_more, tag_came, tag_over, with_tags-append}
-use Rattle.tag_intern.proofs.TableLemmas.{extends_with_tags, grown_word, longer, with_word}
+use Rattle.tag_intern.proofs.TableLemmas.{extends_with_tags, grown_word, longer}
 use Rattle.word_service.specs.Written.{AnswerStandsFor, IsAnswerBelow, IsWordBelow, StandFor, tags_of}
 
 -- ---- an error that is passed on
-
-abbrev done : {A : Type 0} → A → Result A InternEnd
-done x = Ok x
 
 abbrev failed : {A E : Type 0} → E → Result A E
 failed end = Err end
@@ -29,9 +26,6 @@ failed end = Err end
 -- memory that ran out does not mean that tag numbers did
 pub not_full : {A : Type 0} (end : InternEnd) → failed {A = A} end ≡ failed intern_end.Memory → failed {A = A} end ≡ failed intern_end.Full → ⊥
 not_full end memory full = cc
-
-pub never_full : {A : Type 0} (x : A) → done x ≡ failed intern_end.Full → ⊥
-never_full x full = cc
 
 -- ---- the tags that come
 
@@ -43,16 +37,6 @@ module _ {T : Type 0} (eq : T → T → Bool) (laws : IsEquivalence eq) (limit :
       let all = sym (with_tags-append eq seen (take 1 tags) (drop 1 tags)) ∙ ap (with_tags eq seen) (take-append-drop 1 tags) in
       let more = subst (λ grown. length (with_tags eq seen (take 1 tags)) ≤ length grown) all n in
       omega (arith, more, fits)
-
--- a tag that has a word comes
-module _ {T : Type 0} (eq : T → T → Bool) (laws : IsEquivalence eq) (table : TableState T) (word : ℕ) (tag : T) (known : slice_get table.tags word ≡ Some tag) where
-  pub known_stays : table ≡ table_after eq table tag
-  known_stays = λ j. record table { tags = sym (with_word eq laws table.tags tag word known) j }
-
-  pub known_fits : length table.tags ≤ table.limit → table.limit < length (with_tag eq table.tags tag) → ⊥
-  known_fits within over =
-      let same : length (with_tag eq table.tags tag) ≡ length table.tags = ap length (with_word eq laws table.tags tag word known) in
-      omega (arith, same, within, over)
 
 -- the first tag of a range with words is the first of all
 module _ {T : Type 0} where

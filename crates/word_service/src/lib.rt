@@ -3,9 +3,7 @@
 #![tactic(auto)]
 
 mod decoded;
-mod first;
 mod writing;
 
 pub use decoded::Decoded;
-pub use first::first_tag;
 pub use writing::{WordJob, intern_job};

@@ -1,7 +1,7 @@
-//! Words by hand, as tags come, are refused and are cut off.
+//! Words by hand, as tags come, are refused, are cut off, and are given again after a sweep.
 
 use std::test::Fail;
-use tag_intern::{InternEnd, Interner, TagTable};
+use tag_intern::{InternEnd, Interner, TagTable, remade, renumbering};
 
 /// A call, and what it answers.
 #[derive(Clone, Copy)]
@@ -69,4 +69,30 @@ fn answers_as_stated<T: TagTable<Tag = u32>>(table: &mut T, call: Call) -> bool 
             within
         }
     }
+}
+
+/// The plain tag, whose word comes first.
+const PLAIN: u32 = 7;
+
+/// The words that stand somewhere: those of 4 and of the plain tag, and one that no tag has.
+const LIVE: &[u32] = &[2, 0, 2, 5];
+
+#[test]
+fn words_come_back(rt: HostRuntime) -> Result<(), Fail> {
+    let mut old: Interner<u32> = Interner::made(rt.alloc(), 3)?;
+    for (tag, word) in [(PLAIN, 0), (9, 1), (4, 2), (9, 1)] {
+        assert!(rt; old.intern(tag) == Ok(word), "tag {tag}");
+    }
+    assert!(rt; old.intern(6) == Err(InternEnd::Full));
+    let Ok(mut new) = remade(rt.alloc(), &old, PLAIN, LIVE) else {
+        return Err(Fail::from("no memory"));
+    };
+    assert!(rt; new.len() == 2 && new.limit() == 3);
+    assert!(rt; new.word_of(&PLAIN) == Some(0));
+    assert!(rt; new.word_of(&4) == Some(1));
+    let numbers = renumbering(rt.alloc(), &old, &new, PLAIN)?;
+    // 9 stands nowhere, so that its word is another's
+    assert!(rt; numbers.as_slice() == [0, 0, 1].as_slice());
+    assert!(rt; new.intern(6) == Ok(2));
+    Ok(())
 }

@@ -34,13 +34,5 @@ unfolding machine_view
 returns-in-blocks c =
     let name : c.args.name.now ≡ codes "blocks" =
     text_from_reads c.args.name.now (codes "blocks") (omega arith) (omega arith, (omega arith, (omega arith, (omega arith, (omega arith, (omega arith, tt)))))) in
-    subst (λ text. Some c.plain_command-in-blocks.result ≡ machine_view text (words_of c.args.rest.now)) (sym name)
-    (ap Some c.plain_command-in-blocks.ensures)
-
-pub returns-in-stats : goal.returns-in-stats
-unfolding machine_view
-returns-in-stats c =
-    let name : c.args.name.now ≡ codes "stats" =
-    text_from_reads c.args.name.now (codes "stats") (omega arith) (omega arith, (omega arith, (omega arith, (omega arith, (omega arith, tt))))) in
     subst (λ text. Some c.plain_command.result ≡ machine_view text (words_of c.args.rest.now)) (sym name)
     (ap Some c.plain_command.ensures)

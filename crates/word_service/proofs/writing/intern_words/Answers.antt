@@ -5,7 +5,8 @@ use Rattle.tag_intern.specs.declared.table.InternEnd.TheVariants as intern_end
 use Rattle.word_service.specs.Written.{tags_of}
 use Rattle.tag_intern.proofs.TableLemmas.{extends_on}
 use Rattle.tag_intern.proofs.ComingLemmas.{passed_on}
-use Rattle.word_service.proofs.WordLemmas.{never_full, not_full, stand_on, word_came, word_fits, word_over, word_written}
+use Rattle.tag_intern.proofs.ComingLemmas.{never_full}
+use Rattle.word_service.proofs.WordLemmas.{not_full, stand_on, word_came, word_fits, word_over, word_written}
 use Rattle.word_service.proofs.writing.intern_words.Goals as goal
 
 pub returns-in_err-word-clause-full : goal.returns-in_err-word-clause-full

@@ -1,5 +1,5 @@
 use Rattle.std.proofs.Common.{◌≡◌, Some, rules, slice_get}
-use Rattle.word_service.proofs.WordLemmas.{known_fits, known_stays, never_full}
+use Rattle.tag_intern.proofs.ComingLemmas.{known_fits, known_stays, never_full}
 use Rattle.word_service.proofs.writing.next_word.Goals as goal
 
 pub returns-in-Some-clause-grown : goal.returns-in-Some-clause-grown

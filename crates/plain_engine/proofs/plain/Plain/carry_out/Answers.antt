@@ -18,5 +18,5 @@ invariant_of-self-2 g c =
           (subst (λ (core : CoreState g.row.P-Tag.Denot). IsMachine g.P.Policy.model (record { policy = g.P.Policy.model.commit c.self.inside.policy c.args.job.now.plan; core = core })) (sym served)
           (served_stays g.P.Policy.model s c.self.invariant.machine g.P.Policy.holds g.met.P.Policy.lawful c.args.h c.args.job.now.plan c.args.job.now.words.items
           c.args.job.now.plan.answer c.args.look.now.effect.next c.args.outs.pc there c.requires.aligned given).machine);
-      account = record { ways = refl; seen = refl; sets = refl };
+      account = record { ways = refl; table = refl; sets = refl };
     }

@@ -10,13 +10,13 @@ use Rattle.pump_engine.specs.Steps.{after_effect}
 pub invariant_of-self : goal.invariant_of-self
 invariant_of-self g c =
     let p : PumpState g.row.P.Denot g.row.P-Tag.Denot =
-    pump_of c.self.inside.policy c.self.inside.core (g.T.TagTable.state c.self.inside.tags) (g.C.RuleStore.state c.self.inside.store) c.self.inside.turns c.self.inside.halt in
+    pump_of c.self.inside.policy c.self.inside.core (g.T.TagTable.state c.self.inside.tags) (g.C.RuleStore.state c.self.inside.store) c.self.inside.turns c.self.inside.sweeps c.self.inside.halt in
     let there = subst (λ (q : PumpState g.row.P.Denot g.row.P-Tag.Denot). c.args.h < length q.core.harts) (sym c.self.view_is) c.requires.hart in
     let sound = subst (λ (q : PumpState g.row.P.Denot g.row.P-Tag.Denot). IsSound (ram_bytes q.core.ram) c.args.look.now.effect) (sym c.self.view_is) c.requires.sound in
     let outputs = subst (λ (q : PumpState g.row.P.Denot g.row.P-Tag.Denot). AreOutWords (length q.table.tags) c.args.outs) (sym c.self.view_is) c.requires.out_words in
     record {
       pump = pump_at g.P.Policy.model (after_effect p c.args.feed.now c.args.h c.args.look.now c.args.outs)
           (pump_effected g.P.Policy.model p c.self.invariant.pump c.args.feed.now c.args.h c.args.look.now c.args.outs there sound outputs)
-          c.effect.new.self c.effect.ensures.core c.saturating_add-self-inside.result c.self.inside.halt;
+          c.effect.new.self c.effect.ensures.core c.saturating_add-self-inside.result c.self.inside.sweeps c.self.inside.halt;
       masks_are = c.self.invariant.masks_are;
     }

@@ -6,7 +6,7 @@ use Rattle.engine_trait.specs.declared.ends.TurnEnd.TheVariants as ends
 use Rattle.engine_trait.proofs.StepLemmas.{ready_busy}
 use Rattle.pump_engine.specs.Pump.{standing_by_words}
 use Rattle.pump_engine.specs.Steps.{unanswered_end}
-use Rattle.pump_engine.proofs.EndLemmas.{bytes_stay, count_stays, ends_made, stopped_bytes, stopped_count}
+use Rattle.pump_engine.proofs.EndLemmas.{count_stays, ends_made, stopped_bytes, stopped_count}
 use Rattle.pump_engine.proofs.EndLemmas.{fails_alone, memory_unanswered, missed_grows, service_gives_up, service_grows, service_there, service_turn}
 use Rattle.pump_engine.proofs.TurnLemmas.{checked_turn, effect_turn, unanswered_gives_up, unanswered_turn}
 use Rattle.pump_engine.proofs.pump.Pump.rare_turn.Goals as goal
@@ -45,55 +45,54 @@ returns-in-Err-clause-kept g c out = absurd (cc (c.stop_hart.ensures.end, out))
 
 -- ---- a rule without outputs
 
-pub returns-in-Err-ask-clause-step : goal.returns-in-Err-ask-clause-step
-returns-in-Err-ask-clause-step g c has_memory =
-    unanswered_turn g.P.Tag.PartialEq.eq g.P.Policy.model c.args.self.now c.args.feed.now c.args.h c.requires.ready c.ask.new.self c.in-Ok.look (sym c.prepare.ensures.value ∙ c.in-Ok.is) c.ask.ensures.stays c.end_unanswered.new.self c.in-Err-ask.end c.end_unanswered.result c.in-Err-ask.ensures.unanswered c.end_unanswered.ensures.state c.end_unanswered.ensures.end
+pub returns-in-Err-answered-clause-step : goal.returns-in-Err-answered-clause-step
+returns-in-Err-answered-clause-step g c has_memory =
+    unanswered_turn g.P.Tag.PartialEq.eq g.P.Policy.model c.args.self.now c.args.feed.now c.args.h c.requires.ready c.answered.new.self c.in-Ok.look (sym c.prepare.ensures.value ∙ c.in-Ok.is) c.answered.ensures.stays c.end_unanswered.new.self c.in-Err-answered.end c.end_unanswered.result c.in-Err-answered.ensures.unruled c.end_unanswered.ensures.state c.end_unanswered.ensures.end
     (λ out. has_memory (c.end_unanswered.ensures.end ∙ ap (unanswered_end _) out))
 
-pub returns-in-Err-ask-clause-memory : goal.returns-in-Err-ask-clause-memory
-returns-in-Err-ask-clause-memory g c out =
-    unanswered_gives_up g.P.Tag.PartialEq.eq g.P.Policy.model c.args.self.now c.args.feed.now c.args.h c.requires.ready c.ask.new.self c.in-Ok.look (sym c.prepare.ensures.value ∙ c.in-Ok.is) c.ask.ensures.stays c.end_unanswered.new.self c.in-Err-ask.end c.in-Err-ask.ensures.unanswered c.end_unanswered.ensures.state
-    (memory_unanswered _ c.in-Err-ask.end (sym c.end_unanswered.ensures.end ∙ out))
+pub returns-in-Err-answered-clause-memory : goal.returns-in-Err-answered-clause-memory
+returns-in-Err-answered-clause-memory g c out =
+    unanswered_gives_up g.P.Tag.PartialEq.eq g.P.Policy.model c.args.self.now c.args.feed.now c.args.h c.requires.ready c.answered.new.self c.in-Ok.look (sym c.prepare.ensures.value ∙ c.in-Ok.is) c.answered.ensures.stays c.end_unanswered.new.self c.in-Err-answered.end c.in-Err-answered.ensures.unruled c.end_unanswered.ensures.state
+    (memory_unanswered _ c.in-Err-answered.end (sym c.end_unanswered.ensures.end ∙ out))
 
-pub returns-in-Err-ask-clause-failure : goal.returns-in-Err-ask-clause-failure
-returns-in-Err-ask-clause-failure g c why failing stops =
+pub returns-in-Err-answered-clause-failure : goal.returns-in-Err-answered-clause-failure
+returns-in-Err-answered-clause-failure g c why failing stops =
     fails_alone g.P.Tag.PartialEq.eq g.P.Policy.model (standing_by_words g.P.Policy.model c.args.self.now) c.args.feed.now c.args.h (standing_by_words g.P.Policy.model c.end_unanswered.new.self) c.args.feed.now c.end_unanswered.result
-    (unanswered_turn g.P.Tag.PartialEq.eq g.P.Policy.model c.args.self.now c.args.feed.now c.args.h c.requires.ready c.ask.new.self c.in-Ok.look (sym c.prepare.ensures.value ∙ c.in-Ok.is) c.ask.ensures.stays c.end_unanswered.new.self c.in-Err-ask.end c.end_unanswered.result c.in-Err-ask.ensures.unanswered c.end_unanswered.ensures.state c.end_unanswered.ensures.end
+    (unanswered_turn g.P.Tag.PartialEq.eq g.P.Policy.model c.args.self.now c.args.feed.now c.args.h c.requires.ready c.answered.new.self c.in-Ok.look (sym c.prepare.ensures.value ∙ c.in-Ok.is) c.answered.ensures.stays c.end_unanswered.new.self c.in-Err-answered.end c.end_unanswered.result c.in-Err-answered.ensures.unruled c.end_unanswered.ensures.state c.end_unanswered.ensures.end
     (λ out. let is_memory : c.end_unanswered.result ≡ ends.Memory = c.end_unanswered.ensures.end ∙ ap (unanswered_end _) out in absurd (cc (is_memory, stops)))) why failing stops
 
-pub returns-in-Err-ask-clause-kept : goal.returns-in-Err-ask-clause-kept
-returns-in-Err-ask-clause-kept g c out =
+pub returns-in-Err-answered-clause-kept : goal.returns-in-Err-answered-clause-kept
+returns-in-Err-answered-clause-kept g c out =
     missed_grows g.P.Tag.PartialEq.eq g.P.Policy.model c.args.self.now c.args.h c.in-Ok.look (sym c.prepare.ensures.value ∙ c.in-Ok.is)
-    (c.in-Err-ask.ensures.unanswered.allowed (memory_unanswered _ c.in-Err-ask.end (sym c.end_unanswered.ensures.end ∙ out)))
-    (λ kept. false≢true (subst IsOk c.in-Err-ask.is (c.ask.ensures.kept kept)))
+    (c.in-Err-answered.ensures.unruled.allowed (memory_unanswered _ c.in-Err-answered.end (sym c.end_unanswered.ensures.end ∙ out)))
+    (λ kept. false≢true (subst IsOk c.in-Err-answered.is (c.answered.ensures.kept kept)))
 
-pub returns-in-Err-ask-clause-busy : goal.returns-in-Err-ask-clause-busy
-returns-in-Err-ask-clause-busy g c idles =
+pub returns-in-Err-answered-clause-busy : goal.returns-in-Err-answered-clause-busy
+returns-in-Err-answered-clause-busy g c idles =
     ready_busy g.P.Tag.PartialEq.eq g.P.Policy.model (standing_by_words g.P.Policy.model c.args.self.now) c.args.feed.now c.args.h c.requires.ready
-    (ap (λ (s : Stepped _ _). s.ended) (returns-in-Err-ask-clause-step g c (λ is_memory. absurd (cc (is_memory, idles)))) ∙ idles)
+    (ap (λ (s : Stepped _ _). s.ended) (returns-in-Err-answered-clause-step g c (λ is_memory. absurd (cc (is_memory, idles)))) ∙ idles)
 
-pub returns-in-Err-ask-clause-harts : goal.returns-in-Err-ask-clause-harts
-returns-in-Err-ask-clause-harts g c =
-    count_stays c.end_unanswered.new.self.core c.ask.new.self.core c.args.self.now.core c.ask.ensures.core _ _
+pub returns-in-Err-answered-clause-harts : goal.returns-in-Err-answered-clause-harts
+returns-in-Err-answered-clause-harts g c =
+    count_stays c.end_unanswered.new.self.core c.answered.new.self.core c.args.self.now.core c.answered.ensures.harts _ _
     c.end_unanswered.ensures.harts
 
-pub returns-in-Err-ask-clause-ram : goal.returns-in-Err-ask-clause-ram
-returns-in-Err-ask-clause-ram g c =
-    bytes_stay c.end_unanswered.new.self.core c.ask.new.self.core c.args.self.now.core c.ask.ensures.core
-    c.end_unanswered.ensures.bytes
+pub returns-in-Err-answered-clause-ram : goal.returns-in-Err-answered-clause-ram
+returns-in-Err-answered-clause-ram g c =
+    c.end_unanswered.ensures.bytes ∙ c.answered.ensures.bytes
 
 -- ---- a service of the policy
 
 pub returns-then-is_call-clause-step : goal.returns-then-is_call-clause-step
-returns-then-is_call-clause-step g c has_memory = service_turn g.P.Tag.PartialEq.eq g.P.Policy.model c.args.self.now c.args.feed.now c.args.h c.requires.ready c.ask.new.self c.in-Ok.look (sym c.prepare.ensures.value ∙ c.in-Ok.is) c.ask.ensures.stays c.in-Ok-ask.outs c.in-Ok-ask.ensures.allowed (sym c.is_call.ensures ∙ c.if-is_call.true) c.service.new.self c.service.result c.service.ensures.ends has_memory
+returns-then-is_call-clause-step g c has_memory = service_turn g.P.Tag.PartialEq.eq g.P.Policy.model c.args.self.now c.args.feed.now c.args.h c.requires.ready c.answered.new.self c.in-Ok.look (sym c.prepare.ensures.value ∙ c.in-Ok.is) c.answered.ensures.stays c.in-Ok-answered.outs c.in-Ok-answered.ensures.allowed (sym c.is_call.ensures ∙ c.if-is_call.true) c.service.new.self c.service.result c.service.ensures.ends has_memory
 
 pub returns-then-is_call-clause-memory : goal.returns-then-is_call-clause-memory
-returns-then-is_call-clause-memory g c out = service_gives_up g.P.Tag.PartialEq.eq g.P.Policy.model c.args.self.now c.args.feed.now c.args.h c.requires.ready c.ask.new.self c.in-Ok.look (sym c.prepare.ensures.value ∙ c.in-Ok.is) c.ask.ensures.stays c.in-Ok-ask.outs c.in-Ok-ask.ensures.allowed (sym c.is_call.ensures ∙ c.if-is_call.true) c.service.new.self c.service.result c.service.ensures.ends out
+returns-then-is_call-clause-memory g c out = service_gives_up g.P.Tag.PartialEq.eq g.P.Policy.model c.args.self.now c.args.feed.now c.args.h c.requires.ready c.answered.new.self c.in-Ok.look (sym c.prepare.ensures.value ∙ c.in-Ok.is) c.answered.ensures.stays c.in-Ok-answered.outs c.in-Ok-answered.ensures.allowed (sym c.is_call.ensures ∙ c.if-is_call.true) c.service.new.self c.service.result c.service.ensures.ends out
 
 pub returns-then-is_call-clause-failure : goal.returns-then-is_call-clause-failure
 returns-then-is_call-clause-failure g c why failing stops =
     fails_alone g.P.Tag.PartialEq.eq g.P.Policy.model (standing_by_words g.P.Policy.model c.args.self.now) c.args.feed.now c.args.h (standing_by_words g.P.Policy.model c.service.new.self) c.args.feed.now c.service.result
-    (service_turn g.P.Tag.PartialEq.eq g.P.Policy.model c.args.self.now c.args.feed.now c.args.h c.requires.ready c.ask.new.self c.in-Ok.look (sym c.prepare.ensures.value ∙ c.in-Ok.is) c.ask.ensures.stays c.in-Ok-ask.outs c.in-Ok-ask.ensures.allowed (sym c.is_call.ensures ∙ c.if-is_call.true) c.service.new.self c.service.result c.service.ensures.ends (λ is_memory. absurd (cc (is_memory, stops)))) why failing stops
+    (service_turn g.P.Tag.PartialEq.eq g.P.Policy.model c.args.self.now c.args.feed.now c.args.h c.requires.ready c.answered.new.self c.in-Ok.look (sym c.prepare.ensures.value ∙ c.in-Ok.is) c.answered.ensures.stays c.in-Ok-answered.outs c.in-Ok-answered.ensures.allowed (sym c.is_call.ensures ∙ c.if-is_call.true) c.service.new.self c.service.result c.service.ensures.ends (λ is_memory. absurd (cc (is_memory, stops)))) why failing stops
 
 pub returns-then-is_call-clause-busy : goal.returns-then-is_call-clause-busy
 returns-then-is_call-clause-busy g c idles =
@@ -103,26 +102,26 @@ returns-then-is_call-clause-busy g c idles =
 pub returns-then-is_call-clause-kept : goal.returns-then-is_call-clause-kept
 returns-then-is_call-clause-kept g c out =
     service_grows g.P.Tag.PartialEq.eq g.P.Policy.model c.args.self.now c.args.h
-    (service_there g.P.Tag.PartialEq.eq g.P.Policy.model c.args.self.now c.args.feed.now c.args.h c.requires.ready c.ask.new.self c.in-Ok.look (sym c.prepare.ensures.value ∙ c.in-Ok.is) c.ask.ensures.stays c.in-Ok-ask.outs c.in-Ok-ask.ensures.allowed (sym c.is_call.ensures ∙ c.if-is_call.true) c.service.new.self c.service.result c.service.ensures.ends out)
+    (service_there g.P.Tag.PartialEq.eq g.P.Policy.model c.args.self.now c.args.feed.now c.args.h c.requires.ready c.answered.new.self c.in-Ok.look (sym c.prepare.ensures.value ∙ c.in-Ok.is) c.answered.ensures.stays c.in-Ok-answered.outs c.in-Ok-answered.ensures.allowed (sym c.is_call.ensures ∙ c.if-is_call.true) c.service.new.self c.service.result c.service.ensures.ends out)
 
 pub returns-then-is_call-clause-harts : goal.returns-then-is_call-clause-harts
 returns-then-is_call-clause-harts g c =
-    count_stays c.service.new.self.core c.ask.new.self.core c.args.self.now.core c.ask.ensures.core _ _ c.service.ensures.harts
+    count_stays c.service.new.self.core c.answered.new.self.core c.args.self.now.core c.answered.ensures.harts _ _ c.service.ensures.harts
 
 pub returns-then-is_call-clause-ram : goal.returns-then-is_call-clause-ram
 returns-then-is_call-clause-ram g c =
-    bytes_stay c.service.new.self.core c.ask.new.self.core c.args.self.now.core c.ask.ensures.core c.service.ensures.bytes
+    c.service.ensures.bytes ∙ c.answered.ensures.bytes
 
 -- ---- any other instruction
 
 pub returns-clause-step : goal.returns-clause-step
 returns-clause-step g c has_memory =
-    effect_turn g.P.Tag.PartialEq.eq g.P.Policy.model c.args.self.now c.args.feed.now c.args.h c.requires.ready c.ask.new.self c.in-Ok.look (sym c.prepare.ensures.value ∙ c.in-Ok.is) c.ask.ensures.stays c.in-Ok-ask.outs c.in-Ok-ask.ensures.allowed c.effect.new.self c.effect.new.feed c.effect.result
+    effect_turn g.P.Tag.PartialEq.eq g.P.Policy.model c.args.self.now c.args.feed.now c.args.h c.requires.ready c.answered.new.self c.in-Ok.look (sym c.prepare.ensures.value ∙ c.in-Ok.is) c.answered.ensures.stays c.in-Ok-answered.outs c.in-Ok-answered.ensures.allowed c.effect.new.self c.effect.new.feed c.effect.result
     (sym c.is_call.ensures ∙ c.if-is_call.false) c.effect.ensures.state c.effect.ensures.feed c.effect.ensures.end
 
 pub returns-clause-memory : goal.returns-clause-memory
 returns-clause-memory g c out =
-    absurd ((ends_made (carried_at c.ask.new.self.core c.args.feed.now c.args.h c.in-Ok.look c.in-Ok-ask.outs).done).0
+    absurd ((ends_made (carried_at c.answered.new.self.core c.args.feed.now c.args.h c.in-Ok.look c.in-Ok-answered.outs).done).0
     (sym c.effect.ensures.end ∙ out))
 
 pub returns-clause-failure : goal.returns-clause-failure
@@ -130,18 +129,18 @@ returns-clause-failure g c why failing stops = absurd (c.effect.ensures.no_failu
 
 pub returns-clause-busy : goal.returns-clause-busy
 returns-clause-busy g c idles =
-    absurd ((ends_made (carried_at c.ask.new.self.core c.args.feed.now c.args.h c.in-Ok.look c.in-Ok-ask.outs).done).1
+    absurd ((ends_made (carried_at c.answered.new.self.core c.args.feed.now c.args.h c.in-Ok.look c.in-Ok-answered.outs).done).1
     (sym c.effect.ensures.end ∙ idles))
 
 pub returns-clause-harts : goal.returns-clause-harts
 returns-clause-harts g c =
-    count_stays c.effect.new.self.core c.ask.new.self.core c.args.self.now.core c.ask.ensures.core _ _ c.effect.ensures.harts
+    count_stays c.effect.new.self.core c.answered.new.self.core c.args.self.now.core c.answered.ensures.harts _ _ c.effect.ensures.harts
 
 pub returns-clause-ram : goal.returns-clause-ram
 returns-clause-ram g c =
-    bytes_stay c.effect.new.self.core c.ask.new.self.core c.args.self.now.core c.ask.ensures.core c.effect.ensures.bytes
+    c.effect.ensures.bytes ∙ c.answered.ensures.bytes
 
 pub returns-clause-kept : goal.returns-clause-kept
 returns-clause-kept g c out =
-    absurd ((ends_made (carried_at c.ask.new.self.core c.args.feed.now c.args.h c.in-Ok.look c.in-Ok-ask.outs).done).0
+    absurd ((ends_made (carried_at c.answered.new.self.core c.args.feed.now c.args.h c.in-Ok.look c.in-Ok-answered.outs).done).0
     (sym c.effect.ensures.end ∙ out))

@@ -1,4 +1,4 @@
-use Rattle.std.proofs.Common.{◌≡◌, refl, subst}
+use Rattle.std.proofs.Common.{◌≡◌, ◌≤◌, ◌∙◌, Err, ap, length, refl, subst}
 use Rattle.policy_trait.specs.declared.services.PlanEnd.TheVariants as plan_end
 use Rattle.monitor_calls.specs.Ends.{EndsAs, job_by}
 use Rattle.engine_trait.specs.Machine.{hart_at}
@@ -6,7 +6,7 @@ use Rattle.engine_trait.specs.Turn.{violation}
 use Rattle.pump_engine.specs.Pump.{PumpState}
 use Rattle.pump_engine.specs.Steps.{service_in}
 use Rattle.pump_engine.proofs.EndLemmas.{stopped_bytes, stopped_count}
-use Rattle.pump_engine.proofs.ServiceLemmas.{ends_carried, ends_stopped}
+use Rattle.pump_engine.proofs.ServiceLemmas.{ends_carried, ends_stopped, plan_wants}
 use Rattle.pump_engine.proofs.pump.Pump.service.Goals as goal
 
 pub plan-requires-clause-hart : goal.plan-requires-clause-hart
@@ -40,7 +40,7 @@ returns-in-Err-Refused-clause-ends g c =
     ends_stopped g.P.Tag.PartialEq.eq g.P.Policy.model c.args.self.now c.args.h c.args.look.now c.args.outs c.stop_hart.new.self c.stop_hart.result
     (plan_end.Refused c.in-Err-Refused.refused) c.violation-why.result
     (subst (λ end. EndsAs end (service_in g.P.Tag.PartialEq.eq g.P.Policy.model c.args.self.now c.args.h c.args.look.now c.args.outs)) c.in-Err-Refused.field-0-is c.in-Err-Refused.ensures.err)
-    (subst (λ (q : PumpState g.row.P.Denot g.row.P-Tag.Denot). c.violation-why.result ≡ violation (hart_at q.core c.args.h).pc c.in-Err-Refused.refused) c.self.view_is c.violation-why.ensures)
+    (subst (λ (q : PumpState g.row.P.Denot g.row.P-Tag.Denot). c.violation-why.result ≡ violation (hart_at q.core c.args.h).pc c.in-Err-Refused.refused) c.self.view_is (c.violation-why.ensures ∙ ap (violation (hart_at c.self.inside.core c.args.h).pc) c.in-Err-Refused.refused-is))
     c.stop_hart.ensures.state c.stop_hart.ensures.end
 
 pub returns-in-Err-Refused-clause-harts : goal.returns-in-Err-Refused-clause-harts
@@ -66,10 +66,6 @@ returns-in-Err-Spent-clause-bytes g c =
     stopped_bytes c.args.self.now c.stop_hart-in-Err-Spent.new.self c.args.h _ c.stop_hart-in-Err-Spent.ensures.state
 
 pub returns-in-Err-Memory-clause-ends : goal.returns-in-Err-Memory-clause-ends
-returns-in-Err-Memory-clause-ends g c = c.end_without_memory.ensures.ends
-
-pub returns-in-Err-Memory-clause-harts : goal.returns-in-Err-Memory-clause-harts
-returns-in-Err-Memory-clause-harts g c = c.end_without_memory.ensures.harts
-
-pub returns-in-Err-Memory-clause-bytes : goal.returns-in-Err-Memory-clause-bytes
-returns-in-Err-Memory-clause-bytes g c = c.end_without_memory.ensures.bytes
+returns-in-Err-Memory-clause-ends g c =
+    plan_wants g.P.Tag.PartialEq.eq g.P.Policy.model c.args.self.now c.args.h c.args.look.now c.args.outs c.give_up.new.self c.give_up.result (λ job. 1 ≤ length job.words)
+    (c.plan.ensures.memory (c.in-Err-Memory.is ∙ ap (λ end. Err end) c.in-Err-Memory.field-0-is)) c.give_up.ensures.state c.give_up.ensures.end

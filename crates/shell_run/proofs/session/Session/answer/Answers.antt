@@ -102,6 +102,17 @@ returns-in-Stats g c =
       cut = cut_still g.L.E.P.Tag.PartialEq.eq g.L.E.P.Policy.model c.args.self.now (g.K.Sink.taken c.args.out.now) (g.K.Sink.taken c.stats.new.out) c.stats.result;
     })
 
+pub returns-in-Sweeps : goal.returns-in-Sweeps
+unfolding reply_to
+returns-in-Sweeps g c =
+    rw c.in-Sweeps.is
+    (record {
+      after = at_ok c.sweeps.result _ refl;
+      puts = c.sweeps.ensures.puts;
+      cause = c.sweeps.ensures.cause;
+      cut = cut_still g.L.E.P.Tag.PartialEq.eq g.L.E.P.Policy.model c.args.self.now (g.K.Sink.taken c.args.out.now) (g.K.Sink.taken c.sweeps.new.out) c.sweeps.result;
+    })
+
 pub returns-in-Break : goal.returns-in-Break
 unfolding reply_to
 returns-in-Break g c =
