@@ -1,0 +1,9 @@
+//! Tests of the engine that keeps rules over tables of both kinds: that of whole tags, and that of their parts.
+#![tactic(auto)]
+
+#[cfg(test)]
+mod programs;
+#[cfg(test)]
+mod runs;
+#[cfg(test)]
+mod tests;
