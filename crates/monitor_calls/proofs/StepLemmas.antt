@@ -10,7 +10,6 @@ use Rattle.policy_trait.specs.declared.rules.Refused.{Refused}
 use Rattle.policy_trait.specs.declared.services.Plan.{Plan}
 use Rattle.policy_trait.specs.declared.services.PlanEnd.{PlanEnd}
 use Rattle.policy_trait.specs.declared.services.PlanEnd.TheVariants as plan_end
-use Rattle.tag_memory.specs.Ram.{IsPlace}
 use Rattle.monitor_calls.specs.Ends.{EndsAs}
 use Rattle.monitor_calls.specs.Service.{new_tags, tag_or_end}
 use Rattle.monitor_calls.specs.declared.serving.ServeEnd.{ServeEnd}
@@ -123,9 +122,6 @@ module _ {S T : Type 0} (m : PolicyModel T S) (s : S) (word_at : ℕ → ℕ) (t
   pub none_left : (base count place : ℕ) → place ≡ count → IsOk (from (base + 4 * place) (count - place))
   none_left base count place all = ap (λ (n : ℕ). is_ok (from (base + 4 * place) n)) (let e : count - place ≡ 0 = omega arith in e)
 
--- a word in memory more
-pub placed : {T : Type 0} (bytes : ℕ) (prefix grown : List (ℕ × ℕ × T)) (address value : ℕ) (tag : T)
-    → All (λ (word : ℕ × ℕ × T). IsPlace bytes word.0) prefix → IsPlace bytes address → grown ≡ prefix ++ (address, value, tag) ∷ []
-    → All (λ (word : ℕ × ℕ × T). IsPlace bytes word.0) grown
-placed {T} bytes prefix grown address value tag all here grown_is =
-    subst (All (λ (word : ℕ × ℕ × T). IsPlace bytes word.0)) (sym grown_is) (All-push (λ (word : ℕ × ℕ × T). IsPlace bytes word.0) prefix (address, value, tag) all here)
+-- what holds of each item and of one more holds of each behind it
+pub all_grown : {X : Type 0} (P : X → Type 0) (prefix grown : List X) (x : X) → All P prefix → P x → grown ≡ prefix ++ x ∷ [] → All P grown
+all_grown P prefix grown x all here grown_is = subst (All P) (sym grown_is) (All-push P prefix x all here)

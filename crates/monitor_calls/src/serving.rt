@@ -1,6 +1,6 @@
 //! What a policy's service does: its plan, and the new tags of the words of the plan's range.
 
-ghost use Rattle.std.specs.Prelude.{◌≡◌, ◌+◌, ◌-◌, ◌*◌, ◌%◌, ◌<◌, ◌≤◌, Err, Ok, IfErr, IfOk, IfSome, IsOkAnd, length, if◌then◌else◌};
+ghost use Rattle.std.specs.Prelude.{◌≡◌, ◌+◌, ◌-◌, ◌*◌, ◌%◌, ◌<◌, ◌≤◌, Err, Ok, IfErr, IfOk, IsOkAnd, length, if◌then◌else◌};
 ghost use Rattle.std.specs.List.{All};
 ghost use Rattle.policy_trait.specs.PolicyLaws.{IsRange};
 ghost use Rattle.policy_trait.specs.Model.{CanPlan, IsGiven};
@@ -100,11 +100,9 @@ fn retag_words<P: Policy, W: View<Tag = P::Tag>>(
     // Serves the proof alone: by its type memory has less than 2^32 bytes, so that no address of the range wraps.
     let _bytes = view.bytes();
     let mut words = Vec::new(alloc);
-    let mut last = None;
     for place in 0..range.count {
         let address = range.base + 4 * place;
-        let old = view.tag(address);
-        let tag = match next_tag(policy, plan, last, old) {
+        let tag = match next_tag(policy, plan, view, &words, address) {
             Ok(tag) => tag,
             Err(refused) => return Err(ServeEnd::Refused(refused)),
         };
@@ -112,31 +110,33 @@ fn retag_words<P: Policy, W: View<Tag = P::Tag>>(
         let Ok(()) = words.push((address, value, tag)) else {
             return Err(end_without_memory(policy, plan, range, place + 1, view));
         };
-        last = Some((old, tag));
     }
     Ok(words)
 }
 
-/// The new tag of the word that comes next. The words of a range mostly have one tag, so that the tag that came last, which
-/// stands beside its new one, is compared before the policy is asked.
+/// The new tag of the word at `address`, behind those that have theirs. The words of a range mostly have one tag, so that the
+/// policy isn't asked for the tag of the word before once more.
 #[inline]
-fn next_tag<P: Policy>(
+fn next_tag<P: Policy, W: View<Tag = P::Tag>>(
     policy: &P,
     plan: &Plan<P::Tag>,
-    last: Option<(P::Tag, P::Tag)>,
-    old: P::Tag,
+    view: &W,
+    words: &[(u32, u32, P::Tag)],
+    address: u32,
 ) -> Result<P::Tag, Refused>
     requires given { IsGiven P.model policy.now plan.now }
-    requires last { IfSome last (λ known.
-        P.model.retag policy.now plan.now known.0 ≡ Ok known.1) }
-    ensures { result ≡ P.model.retag policy.now plan.now old }
+    requires place { IsPlace (W.bytes_of view.now) address }
+    requires places { All (λ word. IsPlace (W.bytes_of view.now) word.0) words.now }
+    requires tags { All (λ word. P.model.retag policy.now plan.now (W.tag_at view.now word.0)
+        ≡ Ok word.2) words.now }
+    ensures { result ≡ P.model.retag policy.now plan.now (W.tag_at view.now address) }
 {
-    if let Some((before, tag)) = last {
-        if before == old {
-            return Ok(tag);
+    if let Some(last) = words.last() {
+        if view.has_same_tag(last.0, address) {
+            return Ok(last.2);
         }
     }
-    policy.retag(plan, old)
+    policy.retag(plan, view.tag(address))
 }
 
 /// How a range ends whose words find no memory, where those before the word of the place `first` are not refused: a

@@ -1,6 +1,7 @@
 //! Memory as a service looks at it.
 
-ghost use Rattle.std.specs.Prelude.{◌≡◌, ◌+◌, ◌%◌, ◌≤◌};
+ghost use Rattle.std.specs.Prelude.{◌≡◌, ◌+◌, ◌%◌, ◌≤◌, true};
+ghost use Rattle.tag_memory.specs.Ram.{IsPlace};
 
 use pump_words::Same;
 use tag_memory::Ram;
@@ -32,6 +33,13 @@ pub trait View {
         requires aligned { address % 4 ≡ 0 }
         requires within { address + 4 ≤ bytes_of self.now }
         ensures { result ≡ tag_at self.now address };
+
+    /// Whether the words at two addresses are seen to have the same tag. Where telling that takes more than a look, the answer may
+    /// be no.
+    fn has_same_tag(&self, first: u32, second: u32) -> bool
+        requires first { IsPlace (bytes_of self.now) first }
+        requires second { IsPlace (bytes_of self.now) second }
+        ensures { result ≡ true → tag_at self.now first ≡ tag_at self.now second };
 }
 
 impl<T: Same> View for Ram<T> {
@@ -55,5 +63,9 @@ impl<T: Same> View for Ram<T> {
 
     fn tag(&self, address: u32) -> T {
         Ram::tag(self, address)
+    }
+
+    fn has_same_tag(&self, first: u32, second: u32) -> bool {
+        Ram::tag(self, first) == Ram::tag(self, second)
     }
 }

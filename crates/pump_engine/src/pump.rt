@@ -272,6 +272,21 @@ impl<P: Policy, T: TagTable<Tag = P::Tag>, C: RuleStore> Pump<P, T, C> {
         )
     }
 
+    /// `ask_swept`, on a look of its own, so that no other turn has its look in memory.
+    #[inline(always)]
+    fn ask_anew(&mut self, h: u32, look: &Look) -> Result<OutWords, AskEnd>
+        requires hart { h < length self.old.core.harts }
+        requires within { (hart_at self.old.core h).pc + 4 ≤ ram_bytes self.old.core.ram }
+        requires sound { IsSound (ram_bytes self.old.core.ram) look.now.effect }
+        ensures stays { HasParts self.old self.new }
+        ensures settled { Settles P.Tag.eq P.model self.old h look.now self.new result }
+        ensures harts { length self.new.core.harts ≡ length self.old.core.harts }
+        ensures bytes { ram_bytes self.new.core.ram ≡ ram_bytes self.old.core.ram }
+    {
+        let again = look.again();
+        self.ask_swept(h, &again)
+    }
+
     /// The outputs of the rule as words; a sweep comes first where they need more than there may be.
     #[inline(always)]
     fn answered(&mut self, h: u32, look: &Look) -> Result<OutWords, AskEnd>
@@ -288,7 +303,7 @@ impl<P: Policy, T: TagTable<Tag = P::Tag>, C: RuleStore> Pump<P, T, C> {
         ensures bytes { ram_bytes self.new.core.ram ≡ ram_bytes self.old.core.ram }
     {
         match self.ask(h, look) {
-            Err(AskEnd::TagsOut) => self.ask_swept(h, &look.again()),
+            Err(AskEnd::TagsOut) => self.ask_anew(h, look),
             answer => answer,
         }
     }

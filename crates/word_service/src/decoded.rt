@@ -40,4 +40,9 @@ impl<T: TagTable> View for Decoded<'_, T> {
     fn tag(&self, address: u32) -> T::Tag {
         self.decoder.image(self.ram.tag(address))
     }
+
+    // the same word is that of the same tag
+    fn has_same_tag(&self, first: u32, second: u32) -> bool {
+        self.ram.tag(first) == self.ram.tag(second)
+    }
 }

@@ -1,4 +1,4 @@
-use Rattle.std.proofs.Common.{◌≡◌, ◌+◌, ◌-◌, ◌*◌, IfSome, Ok}
+use Rattle.std.proofs.Common.{◌≡◌, ◌+◌, ◌-◌, ◌*◌, Ok}
 use Rattle.std.specs.List.{All}
 use Rattle.tag_memory.specs.Ram.{IsPlace}
 use Rattle.monitor_calls.specs.Service.{new_tags}
@@ -11,5 +11,5 @@ invariant-loop-place g l =
     record {
       whole : with_prefix l.words.items (from (l.range.base + 4 * l.place) (l.range.count - l.place)) ≡ from l.range.base l.range.count;
       places : All (λ word. IsPlace (g.W.View.bytes_of l.view) word.0) l.words.items;
-      last : IfSome l.last (λ known. g.P.Policy.model.retag l.policy l.plan known.0 ≡ Ok known.1);
+      tags : All (λ word. g.P.Policy.model.retag l.policy l.plan (g.W.View.tag_at l.view word.0) ≡ Ok word.2) l.words.items;
     }
