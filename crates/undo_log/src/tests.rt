@@ -1,0 +1,129 @@
+//! Logs by hand: which records are kept, the order in which they come out, and a tag changed in its place.
+
+ghost use Rattle.std.specs.Prelude.{◌≤◌};
+
+use crate::{OldWords, Record, Replaced, UndoLog};
+use std::alloc::{AllocError, Global};
+use std::test::Fail;
+
+type Log = UndoLog<u32, u64>;
+
+/// What a turn at this pc replaced: x5, which had the tag 7, and one word of a service's range, with the tag 8.
+fn record_at(alloc: Global, pc: u32) -> Result<Record<u32, u64>, AllocError> {
+    let word = Replaced {
+        place: 64,
+        value: 2,
+        tag: 8,
+    };
+    Ok(Record {
+        hart: 0,
+        pc,
+        pc_tag: 6,
+        reg: Some(Replaced {
+            place: 5,
+            value: 1,
+            tag: 7,
+        }),
+        word: None,
+        range: OldWords::of(vec![in alloc; word]?),
+        plan: None,
+        fed: Some(65),
+    })
+}
+
+/// A log for at most so many, to which the records of turns at these pcs have come, in order.
+fn log_of(alloc: Global, most: u32, pcs: &[u32]) -> Result<Log, AllocError>
+    requires { most ≤ 65536 }
+{
+    let mut log = UndoLog::new(alloc, most)?;
+    for &pc in pcs {
+        log.push(record_at(alloc, pc)?);
+    }
+    Ok(log)
+}
+
+/// The pc of the record at that place, if there is one.
+fn pc_at(log: &Log, i: u32) -> Option<u32> {
+    if i < log.len() {
+        Some(log.at(i).pc)
+    } else {
+        None
+    }
+}
+
+/// The pc of the newest record, which is taken out, if there is one.
+fn popped_pc(log: &mut Log) -> Option<u32> {
+    match log.pop() {
+        Some(made) => Some(made.pc),
+        None => None,
+    }
+}
+
+#[test]
+fn the_last_two_of_three(rt: HostRuntime) -> Result<(), Fail> {
+    let mut log = log_of(rt.alloc(), 2, &[100, 104, 108])?;
+    assert_eq!(rt; log.len(), 2);
+    // the oldest was dropped, so that the second is the oldest now
+    assert_eq!(rt; pc_at(&log, 0), Some(104));
+    assert_eq!(rt; pc_at(&log, 1), Some(108));
+    assert_eq!(rt; popped_pc(&mut log), Some(108));
+    assert_eq!(rt; popped_pc(&mut log), Some(104));
+    assert_eq!(rt; popped_pc(&mut log), None);
+    assert_eq!(rt; log.len(), 0);
+    Ok(())
+}
+
+#[test]
+fn a_log_for_none(rt: HostRuntime) -> Result<(), Fail> {
+    let mut log = log_of(rt.alloc(), 0, &[100, 104])?;
+    assert_eq!(rt; log.len(), 0);
+    assert_eq!(rt; popped_pc(&mut log), None);
+    Ok(())
+}
+
+#[test]
+fn pushed_after_a_pop_and_after_a_clear(rt: HostRuntime) -> Result<(), Fail> {
+    let mut log = log_of(rt.alloc(), 2, &[100, 104, 108])?;
+    assert_eq!(rt; popped_pc(&mut log), Some(108));
+    log.push(record_at(rt.alloc(), 112)?);
+    assert_eq!(rt; pc_at(&log, 0), Some(104));
+    assert_eq!(rt; pc_at(&log, 1), Some(112));
+    log.clear();
+    assert_eq!(rt; log.len(), 0);
+    log.push(record_at(rt.alloc(), 116)?);
+    assert_eq!(rt; pc_at(&log, 0), Some(116));
+    Ok(())
+}
+
+/// Changes the tags of the record at that place, where there is one, to 9.
+fn tag_with_nine(log: &mut Log, i: u32) {
+    if i < log.len() {
+        let made = log.at_mut(i);
+        made.pc_tag = 9;
+        for word in made.range.words_mut() {
+            word.tag = 9;
+        }
+    }
+}
+
+/// The tag of the pc in the record at that place, and those of its range, if there is such a record.
+fn tags_at(log: &Log, i: u32) -> Option<(u32, u32)> {
+    if i < log.len() {
+        let made = log.at(i);
+        let word = made.range.words().first()?;
+        Some((made.pc_tag, word.tag))
+    } else {
+        None
+    }
+}
+
+#[test]
+fn tags_changed_in_their_places(rt: HostRuntime) -> Result<(), Fail> {
+    let mut log = log_of(rt.alloc(), 3, &[100, 104, 108])?;
+    tag_with_nine(&mut log, 1);
+    assert_eq!(rt; tags_at(&log, 0), Some((6, 8)));
+    assert_eq!(rt; tags_at(&log, 1), Some((9, 9)));
+    assert_eq!(rt; tags_at(&log, 2), Some((6, 8)));
+    assert_eq!(rt; pc_at(&log, 1), Some(104));
+    Ok(())
+}
