@@ -149,6 +149,8 @@ impl<P: Policy, T: TagTable<Tag = P::Tag>, C: RuleStore> Pump<P, T, C> {
     fn prepare(&self, h: u32) -> Result<Look, Stop>
         requires { h < length self.now.core.harts }
         ensures value { result ≡ preparation P.model (machine_by_words P.model self.now) h }
+        ensures looked { IfOk result
+            (λ look. look_result (hart_at self.now.core h) self.now.core.ram ≡ Ok look) }
         ensures within { OnOk result ((hart_at self.now.core h).pc + 4 ≤ ram_bytes self.now.core.ram) }
         ensures sound { IfOk result (λ look. IsSound (ram_bytes self.now.core.ram) look.effect) }
         ensures offered { IfOk result
@@ -248,7 +250,6 @@ impl<P: Policy, T: TagTable<Tag = P::Tag>, C: RuleStore> Pump<P, T, C> {
     }
 
     /// The outputs of the rule as words, behind a sweep: those that stood for them before need more words than there may be.
-    #[inline(never)]
     fn ask_swept(&mut self, h: u32, look: &Look) -> Result<OutWords, AskEnd>
         requires hart { h < length self.old.core.harts }
         requires within { (hart_at self.old.core h).pc + 4 ≤ ram_bytes self.old.core.ram }
@@ -272,25 +273,43 @@ impl<P: Policy, T: TagTable<Tag = P::Tag>, C: RuleStore> Pump<P, T, C> {
         )
     }
 
-    /// `ask_swept`, on a look of its own, so that no other turn has its look in memory.
-    #[inline(always)]
-    fn ask_anew(&mut self, h: u32, look: &Look) -> Result<OutWords, AskEnd>
+    /// `ask_swept`, with what hart `h` is about to do, which is looked at once more.
+    #[inline(never)]
+    fn ask_looked(&mut self, h: u32) -> Result<OutWords, AskEnd>
         requires hart { h < length self.old.core.harts }
-        requires within { (hart_at self.old.core h).pc + 4 ≤ ram_bytes self.old.core.ram }
-        requires sound { IsSound (ram_bytes self.old.core.ram) look.now.effect }
+        requires looks { IsOk (look_result (hart_at self.old.core h) self.old.core.ram) }
         ensures stays { HasParts self.old self.new }
-        ensures settled { Settles P.Tag.eq P.model self.old h look.now self.new result }
+        ensures settled { (look : AnyLook)
+            → look_result (hart_at self.old.core h) self.old.core.ram ≡ Ok look
+            → Settles P.Tag.eq P.model self.old h look self.new result }
         ensures harts { length self.new.core.harts ≡ length self.old.core.harts }
         ensures bytes { ram_bytes self.new.core.ram ≡ ram_bytes self.old.core.ram }
     {
-        let again = look.again();
-        self.ask_swept(h, &again)
+        match self.core.look(h) {
+            Ok(look) => self.ask_swept(h, &look),
+            Err(_) => unreachable!(),
+        }
+    }
+
+    /// `ask_swept` for a turn that has its look. It hands on neither the look nor a place for the answer, so that turns without a sweep
+    /// have them in registers.
+    #[inline(always)]
+    fn ask_anew(&mut self, h: u32, _look: &Look) -> Result<OutWords, AskEnd>
+        requires hart { h < length self.old.core.harts }
+        requires looked { look_result (hart_at self.old.core h) self.old.core.ram ≡ Ok _look.now }
+        ensures stays { HasParts self.old self.new }
+        ensures settled { Settles P.Tag.eq P.model self.old h _look.now self.new result }
+        ensures harts { length self.new.core.harts ≡ length self.old.core.harts }
+        ensures bytes { ram_bytes self.new.core.ram ≡ ram_bytes self.old.core.ram }
+    {
+        self.ask_looked(h)
     }
 
     /// The outputs of the rule as words; a sweep comes first where they need more than there may be.
     #[inline(always)]
     fn answered(&mut self, h: u32, look: &Look) -> Result<OutWords, AskEnd>
         requires hart { h < length self.old.core.harts }
+        requires looked { look_result (hart_at self.old.core h) self.old.core.ram ≡ Ok look.now }
         requires within { (hart_at self.old.core h).pc + 4 ≤ ram_bytes self.old.core.ram }
         requires sound { IsSound (ram_bytes self.old.core.ram) look.now.effect }
         ensures stays { HasParts self.old self.new }
