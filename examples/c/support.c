@@ -2,6 +2,8 @@
    become a call of memcpy. libgcc and a C library have these too, but not every compiler for RISC-V brings them for
    RV32I. make compiles this file so that no loop here becomes a call of the very function that it stands in. */
 
+#ifndef __riscv_muldiv /* RV32IM has the instructions */
+
 unsigned __mulsi3(unsigned a, unsigned b)
 {
     unsigned product = 0;
@@ -57,6 +59,8 @@ int __modsi3(int a, int b)
     divided(magnitude(a), magnitude(b), &rest);
     return (int)(a < 0 ? 0u - rest : rest);
 }
+
+#endif
 
 void *memcpy(void *to, const void *from, unsigned long bytes)
 {

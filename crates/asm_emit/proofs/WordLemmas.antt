@@ -67,6 +67,14 @@ with_registers_small register_operations.Srl rd rs1 rs2 a b c = register_small 0
 with_registers_small register_operations.Sra rd rs1 rs2 a b c = register_small 0x33 5 0x20 rd rs1 rs2 (omega arith) (omega arith) (omega arith) a b c
 with_registers_small register_operations.Or rd rs1 rs2 a b c = register_small 0x33 6 0x00 rd rs1 rs2 (omega arith) (omega arith) (omega arith) a b c
 with_registers_small register_operations.And rd rs1 rs2 a b c = register_small 0x33 7 0x00 rd rs1 rs2 (omega arith) (omega arith) (omega arith) a b c
+with_registers_small register_operations.Mul rd rs1 rs2 a b c = register_small 0x33 0 0x01 rd rs1 rs2 (omega arith) (omega arith) (omega arith) a b c
+with_registers_small register_operations.Mulh rd rs1 rs2 a b c = register_small 0x33 1 0x01 rd rs1 rs2 (omega arith) (omega arith) (omega arith) a b c
+with_registers_small register_operations.Mulhsu rd rs1 rs2 a b c = register_small 0x33 2 0x01 rd rs1 rs2 (omega arith) (omega arith) (omega arith) a b c
+with_registers_small register_operations.Mulhu rd rs1 rs2 a b c = register_small 0x33 3 0x01 rd rs1 rs2 (omega arith) (omega arith) (omega arith) a b c
+with_registers_small register_operations.Div rd rs1 rs2 a b c = register_small 0x33 4 0x01 rd rs1 rs2 (omega arith) (omega arith) (omega arith) a b c
+with_registers_small register_operations.Divu rd rs1 rs2 a b c = register_small 0x33 5 0x01 rd rs1 rs2 (omega arith) (omega arith) (omega arith) a b c
+with_registers_small register_operations.Rem rd rs1 rs2 a b c = register_small 0x33 6 0x01 rd rs1 rs2 (omega arith) (omega arith) (omega arith) a b c
+with_registers_small register_operations.Remu rd rs1 rs2 a b c = register_small 0x33 7 0x01 rd rs1 rs2 (omega arith) (omega arith) (omega arith) a b c
 
 with_immediate_small : (operation : ImmediateOperation) (rd rs1 imm : ℕ) → rd < 32 → rs1 < 32 → word_of_instr (with_immediate operation rd rs1 imm) < 2 ^ 32
 unfolding word_of_instr

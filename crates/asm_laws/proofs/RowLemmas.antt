@@ -6,7 +6,7 @@ use Rattle.rv_decode.specs.Decoding.{instr_of_word}
 use Rattle.rv_decode.specs.Formats.{IsBranchWord, IsImmediateWord, IsJumpWord, IsStoreWord, IsUpperWord}
 use Rattle.rv_decode.specs.Table.{Table}
 use Rattle.rv_decode.specs.declared.instructions.Instr.{Instr}
-use Rattle.rv_decode.specs.declared.instructions.Instr.TheVariants.{Lui, Auipc, Jal, Jalr, Beq, Bne, Blt, Bge, Bltu, Bgeu, Lb, Lh, Lw, Lbu, Lhu, Sb, Sh, Sw, Addi, Slti, Sltiu, Xori, Ori, Andi, Slli, Srli, Srai, Add, Sub, Sll, Slt, Sltu, Xor, Srl, Sra, Or, And, Fence, Ecall, Ebreak}
+use Rattle.rv_decode.specs.declared.instructions.Instr.TheVariants.{Lui, Auipc, Jal, Jalr, Beq, Bne, Blt, Bge, Bltu, Bgeu, Lb, Lh, Lw, Lbu, Lhu, Sb, Sh, Sw, Addi, Slti, Sltiu, Xori, Ori, Andi, Slli, Srli, Srai, Add, Sub, Sll, Slt, Sltu, Xor, Srl, Sra, Or, And, Mul, Mulh, Mulhsu, Mulhu, Div, Divu, Rem, Remu, Fence, Ecall, Ebreak}
 use Rattle.asm_show.specs.Instructions.{instr_text, text_at}
 use Rattle.asm_show.specs.Statements.{plain_word}
 use Rattle.asm_table.specs.declared.forms.Form.TheVariants as forms
@@ -175,6 +175,38 @@ named_and : Named (codes "and") (forms.Registers registers.And)
 unfolding form_named instruction_named arithmetic_named registers_named immediate_named shift_named upper_named load_named store_named branch_named other_named
 named_and = record { piece = record { filled = refl; solid = refl }; found = refl }
 
+named_mul : Named (codes "mul") (forms.Registers registers.Mul)
+unfolding form_named instruction_named arithmetic_named registers_named immediate_named shift_named upper_named load_named store_named branch_named other_named
+named_mul = record { piece = record { filled = refl; solid = refl }; found = refl }
+
+named_mulh : Named (codes "mulh") (forms.Registers registers.Mulh)
+unfolding form_named instruction_named arithmetic_named registers_named immediate_named shift_named upper_named load_named store_named branch_named other_named
+named_mulh = record { piece = record { filled = refl; solid = refl }; found = refl }
+
+named_mulhsu : Named (codes "mulhsu") (forms.Registers registers.Mulhsu)
+unfolding form_named instruction_named arithmetic_named registers_named immediate_named shift_named upper_named load_named store_named branch_named other_named
+named_mulhsu = record { piece = record { filled = refl; solid = refl }; found = refl }
+
+named_mulhu : Named (codes "mulhu") (forms.Registers registers.Mulhu)
+unfolding form_named instruction_named arithmetic_named registers_named immediate_named shift_named upper_named load_named store_named branch_named other_named
+named_mulhu = record { piece = record { filled = refl; solid = refl }; found = refl }
+
+named_div : Named (codes "div") (forms.Registers registers.Div)
+unfolding form_named instruction_named arithmetic_named registers_named immediate_named shift_named upper_named load_named store_named branch_named other_named
+named_div = record { piece = record { filled = refl; solid = refl }; found = refl }
+
+named_divu : Named (codes "divu") (forms.Registers registers.Divu)
+unfolding form_named instruction_named arithmetic_named registers_named immediate_named shift_named upper_named load_named store_named branch_named other_named
+named_divu = record { piece = record { filled = refl; solid = refl }; found = refl }
+
+named_rem : Named (codes "rem") (forms.Registers registers.Rem)
+unfolding form_named instruction_named arithmetic_named registers_named immediate_named shift_named upper_named load_named store_named branch_named other_named
+named_rem = record { piece = record { filled = refl; solid = refl }; found = refl }
+
+named_remu : Named (codes "remu") (forms.Registers registers.Remu)
+unfolding form_named instruction_named arithmetic_named registers_named immediate_named shift_named upper_named load_named store_named branch_named other_named
+named_remu = record { piece = record { filled = refl; solid = refl }; found = refl }
+
 -- ---- the fields
 
 immediate_of : (w opcode f3 rd rs1 imm : ℕ) → IsImmediateWord w opcode f3 rd rs1 imm → read.Immediate imm
@@ -242,6 +274,14 @@ instr_assembles number pc w pc_fits fits (Srl rd rs1 rs2) row is = registers_ass
 instr_assembles number pc w pc_fits fits (Sra rd rs1 rs2) row is = registers_assemble number pc w (codes "sra") registers.Sra named_sra rd rs1 rs2 row.rd_fits row.rs1_fits row.rs2_fits is
 instr_assembles number pc w pc_fits fits (Or rd rs1 rs2) row is = registers_assemble number pc w (codes "or") registers.Or named_or rd rs1 rs2 row.rd_fits row.rs1_fits row.rs2_fits is
 instr_assembles number pc w pc_fits fits (And rd rs1 rs2) row is = registers_assemble number pc w (codes "and") registers.And named_and rd rs1 rs2 row.rd_fits row.rs1_fits row.rs2_fits is
+instr_assembles number pc w pc_fits fits (Mul rd rs1 rs2) row is = registers_assemble number pc w (codes "mul") registers.Mul named_mul rd rs1 rs2 row.rd_fits row.rs1_fits row.rs2_fits is
+instr_assembles number pc w pc_fits fits (Mulh rd rs1 rs2) row is = registers_assemble number pc w (codes "mulh") registers.Mulh named_mulh rd rs1 rs2 row.rd_fits row.rs1_fits row.rs2_fits is
+instr_assembles number pc w pc_fits fits (Mulhsu rd rs1 rs2) row is = registers_assemble number pc w (codes "mulhsu") registers.Mulhsu named_mulhsu rd rs1 rs2 row.rd_fits row.rs1_fits row.rs2_fits is
+instr_assembles number pc w pc_fits fits (Mulhu rd rs1 rs2) row is = registers_assemble number pc w (codes "mulhu") registers.Mulhu named_mulhu rd rs1 rs2 row.rd_fits row.rs1_fits row.rs2_fits is
+instr_assembles number pc w pc_fits fits (Div rd rs1 rs2) row is = registers_assemble number pc w (codes "div") registers.Div named_div rd rs1 rs2 row.rd_fits row.rs1_fits row.rs2_fits is
+instr_assembles number pc w pc_fits fits (Divu rd rs1 rs2) row is = registers_assemble number pc w (codes "divu") registers.Divu named_divu rd rs1 rs2 row.rd_fits row.rs1_fits row.rs2_fits is
+instr_assembles number pc w pc_fits fits (Rem rd rs1 rs2) row is = registers_assemble number pc w (codes "rem") registers.Rem named_rem rd rs1 rs2 row.rd_fits row.rs1_fits row.rs2_fits is
+instr_assembles number pc w pc_fits fits (Remu rd rs1 rs2) row is = registers_assemble number pc w (codes "remu") registers.Remu named_remu rd rs1 rs2 row.rd_fits row.rs1_fits row.rs2_fits is
 instr_assembles number pc w pc_fits fits (Fence kept) row is = fence_row number pc w kept fits row.same is
 instr_assembles number pc w pc_fits fits Ecall row is = ecall_assembles number pc w is
 instr_assembles number pc w pc_fits fits Ebreak row is = ebreak_assembles number pc w is

@@ -1,7 +1,7 @@
 -- The text of a word at its address: the statement of assembler source that stands for it, one line an instruction.
 use Rattle.std.specs.Prelude.{ℕ, ◌==◌, codes, Option, Some, None, if◌then◌else◌}
 use Rattle.rv_decode.specs.declared.instructions.Instr.{Instr}
-use Rattle.rv_decode.specs.declared.instructions.Instr.TheVariants.{Lui, Auipc, Jal, Jalr, Beq, Bne, Blt, Bge, Bltu, Bgeu, Lb, Lh, Lw, Lbu, Lhu, Sb, Sh, Sw, Addi, Slti, Sltiu, Xori, Ori, Andi, Slli, Srli, Srai, Add, Sub, Sll, Slt, Sltu, Xor, Srl, Sra, Or, And, Fence, Ecall, Ebreak}
+use Rattle.rv_decode.specs.declared.instructions.Instr.TheVariants.{Lui, Auipc, Jal, Jalr, Beq, Bne, Blt, Bge, Bltu, Bgeu, Lb, Lh, Lw, Lbu, Lhu, Sb, Sh, Sw, Addi, Slti, Sltiu, Xori, Ori, Andi, Slli, Srli, Srai, Add, Sub, Sll, Slt, Sltu, Xor, Srl, Sra, Or, And, Mul, Mulh, Mulhsu, Mulhu, Div, Divu, Rem, Remu, Fence, Ecall, Ebreak}
 use Rattle.asm_show.specs.Operands.{Text}
 use Rattle.asm_show.specs.Statements.{with_registers, with_immediate, with_amount, with_upper, with_place, branch, jump, plain_word}
 
@@ -52,6 +52,14 @@ instr_text pc (Srl rd rs1 rs2) = with_registers (codes "srl") rd rs1 rs2
 instr_text pc (Sra rd rs1 rs2) = with_registers (codes "sra") rd rs1 rs2
 instr_text pc (Or rd rs1 rs2) = with_registers (codes "or") rd rs1 rs2
 instr_text pc (And rd rs1 rs2) = with_registers (codes "and") rd rs1 rs2
+instr_text pc (Mul rd rs1 rs2) = with_registers (codes "mul") rd rs1 rs2
+instr_text pc (Mulh rd rs1 rs2) = with_registers (codes "mulh") rd rs1 rs2
+instr_text pc (Mulhsu rd rs1 rs2) = with_registers (codes "mulhsu") rd rs1 rs2
+instr_text pc (Mulhu rd rs1 rs2) = with_registers (codes "mulhu") rd rs1 rs2
+instr_text pc (Div rd rs1 rs2) = with_registers (codes "div") rd rs1 rs2
+instr_text pc (Divu rd rs1 rs2) = with_registers (codes "divu") rd rs1 rs2
+instr_text pc (Rem rd rs1 rs2) = with_registers (codes "rem") rd rs1 rs2
+instr_text pc (Remu rd rs1 rs2) = with_registers (codes "remu") rd rs1 rs2
 instr_text pc (Fence word) = fence_text word
 instr_text pc Ecall = codes "ecall"
 instr_text pc Ebreak = codes "ebreak"

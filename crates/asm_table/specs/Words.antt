@@ -2,7 +2,7 @@
 use Rattle.std.specs.Prelude.{List, [], ◌∷◌, ℕ, codes, Option}
 use Rattle.std.specs.Option.{option_map, option_or}
 use Rattle.asm_table.specs.declared.forms.RegisterOperation.{RegisterOperation}
-use Rattle.asm_table.specs.declared.forms.RegisterOperation.TheVariants.{Add, Sub, Sll, Slt, Sltu, Xor, Srl, Sra, Or, And}
+use Rattle.asm_table.specs.declared.forms.RegisterOperation.TheVariants.{Add, Sub, Sll, Slt, Sltu, Xor, Srl, Sra, Or, And, Mul, Mulh, Mulhsu, Mulhu, Div, Divu, Rem, Remu}
 use Rattle.asm_table.specs.declared.forms.ImmediateOperation.{ImmediateOperation}
 use Rattle.asm_table.specs.declared.forms.ImmediateOperation.TheVariants.{Addi, Slti, Sltiu, Xori, Ori, Andi}
 use Rattle.asm_table.specs.declared.forms.ShiftOperation.{ShiftOperation}
@@ -25,7 +25,7 @@ use Rattle.asm_table.specs.Rows.{beside}
 unfoldable pub registers_named : List ℕ → Option RegisterOperation
 registers_named word =
     beside word
-    ((codes "add", Add) ∷ (codes "sub", Sub) ∷ (codes "sll", Sll) ∷ (codes "slt", Slt) ∷ (codes "sltu", Sltu) ∷ (codes "xor", Xor) ∷ (codes "srl", Srl) ∷ (codes "sra", Sra) ∷ (codes "or", Or) ∷ (codes "and", And) ∷ [])
+    ((codes "add", Add) ∷ (codes "sub", Sub) ∷ (codes "sll", Sll) ∷ (codes "slt", Slt) ∷ (codes "sltu", Sltu) ∷ (codes "xor", Xor) ∷ (codes "srl", Srl) ∷ (codes "sra", Sra) ∷ (codes "or", Or) ∷ (codes "and", And) ∷ (codes "mul", Mul) ∷ (codes "mulh", Mulh) ∷ (codes "mulhsu", Mulhsu) ∷ (codes "mulhu", Mulhu) ∷ (codes "div", Div) ∷ (codes "divu", Divu) ∷ (codes "rem", Rem) ∷ (codes "remu", Remu) ∷ [])
 
 -- the operations on a register and a number
 unfoldable pub immediate_named : List ℕ → Option ImmediateOperation

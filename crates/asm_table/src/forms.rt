@@ -13,6 +13,14 @@ pub enum RegisterOperation {
     Sra,
     Or,
     And,
+    Mul,
+    Mulh,
+    Mulhsu,
+    Mulhu,
+    Div,
+    Divu,
+    Rem,
+    Remu,
 }
 
 /// An operation on a register and a number, written `addi rd, rs1, n`.

@@ -12,7 +12,7 @@ use crate::forms::{
 use crate::rows::beside;
 
 /// The operations on two registers.
-const REGISTERS_OPERATIONS: [(&[u8], RegisterOperation); 10] = [
+const REGISTERS_OPERATIONS: [(&[u8], RegisterOperation); 18] = [
     (b"add", RegisterOperation::Add),
     (b"sub", RegisterOperation::Sub),
     (b"sll", RegisterOperation::Sll),
@@ -23,6 +23,14 @@ const REGISTERS_OPERATIONS: [(&[u8], RegisterOperation); 10] = [
     (b"sra", RegisterOperation::Sra),
     (b"or", RegisterOperation::Or),
     (b"and", RegisterOperation::And),
+    (b"mul", RegisterOperation::Mul),
+    (b"mulh", RegisterOperation::Mulh),
+    (b"mulhsu", RegisterOperation::Mulhsu),
+    (b"mulhu", RegisterOperation::Mulhu),
+    (b"div", RegisterOperation::Div),
+    (b"divu", RegisterOperation::Divu),
+    (b"rem", RegisterOperation::Rem),
+    (b"remu", RegisterOperation::Remu),
 ];
 
 /// The operation on two registers of this name.

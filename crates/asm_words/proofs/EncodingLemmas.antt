@@ -3,7 +3,7 @@ use Rattle.std.proofs.Common.{◌≡◌, ℕ, ◌+◌, ◌*◌, ◌%◌, ◌^◌
 use Rattle.rv_decode.specs.Formats.{IsRegisterWord, IsImmediateWord, IsStoreWord, IsBranchWord, IsUpperWord, IsJumpWord}
 use Rattle.rv_decode.specs.Table.{Table}
 use Rattle.rv_decode.specs.declared.instructions.Instr.{Instr}
-use Rattle.rv_decode.specs.declared.instructions.Instr.TheVariants.{Lui, Auipc, Jal, Jalr, Beq, Bne, Blt, Bge, Bltu, Bgeu, Lb, Lh, Lw, Lbu, Lhu, Sb, Sh, Sw, Addi, Slti, Sltiu, Xori, Ori, Andi, Slli, Srli, Srai, Add, Sub, Sll, Slt, Sltu, Xor, Srl, Sra, Or, And, Fence, Ecall, Ebreak}
+use Rattle.rv_decode.specs.declared.instructions.Instr.TheVariants.{Lui, Auipc, Jal, Jalr, Beq, Bne, Blt, Bge, Bltu, Bgeu, Lb, Lh, Lw, Lbu, Lhu, Sb, Sh, Sw, Addi, Slti, Sltiu, Xori, Ori, Andi, Slli, Srli, Srai, Add, Sub, Sll, Slt, Sltu, Xor, Srl, Sra, Or, And, Mul, Mulh, Mulhsu, Mulhu, Div, Divu, Rem, Remu, Fence, Ecall, Ebreak}
 use Rattle.rv_decode.proofs.FormatLemmas.{low12, low13, low21}
 use Rattle.asm_words.specs.Encoding.{word_of_instr, register_word, immediate_word, store_word, branch_word, upper_word, jump_word}
 
@@ -79,6 +79,14 @@ table_encoded w (Srl rd rs1 rs2) row = is_register w 0x33 5 0x00 rd rs1 rs2 row
 table_encoded w (Sra rd rs1 rs2) row = is_register w 0x33 5 0x20 rd rs1 rs2 row
 table_encoded w (Or rd rs1 rs2) row = is_register w 0x33 6 0x00 rd rs1 rs2 row
 table_encoded w (And rd rs1 rs2) row = is_register w 0x33 7 0x00 rd rs1 rs2 row
+table_encoded w (Mul rd rs1 rs2) row = is_register w 0x33 0 0x01 rd rs1 rs2 row
+table_encoded w (Mulh rd rs1 rs2) row = is_register w 0x33 1 0x01 rd rs1 rs2 row
+table_encoded w (Mulhsu rd rs1 rs2) row = is_register w 0x33 2 0x01 rd rs1 rs2 row
+table_encoded w (Mulhu rd rs1 rs2) row = is_register w 0x33 3 0x01 rd rs1 rs2 row
+table_encoded w (Div rd rs1 rs2) row = is_register w 0x33 4 0x01 rd rs1 rs2 row
+table_encoded w (Divu rd rs1 rs2) row = is_register w 0x33 5 0x01 rd rs1 rs2 row
+table_encoded w (Rem rd rs1 rs2) row = is_register w 0x33 6 0x01 rd rs1 rs2 row
+table_encoded w (Remu rd rs1 rs2) row = is_register w 0x33 7 0x01 rd rs1 rs2 row
 table_encoded w (Fence kept) row = sym row.same
 table_encoded w Ecall row = row
 table_encoded w Ebreak row = row

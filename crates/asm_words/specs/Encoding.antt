@@ -3,7 +3,7 @@
 use Rattle.std.specs.Prelude.{ℕ, ◌+◌, ◌*◌, ◌^◌}
 use Rattle.rv_decode.specs.Fields.{bits_of}
 use Rattle.rv_decode.specs.declared.instructions.Instr.{Instr}
-use Rattle.rv_decode.specs.declared.instructions.Instr.TheVariants.{Lui, Auipc, Jal, Jalr, Beq, Bne, Blt, Bge, Bltu, Bgeu, Lb, Lh, Lw, Lbu, Lhu, Sb, Sh, Sw, Addi, Slti, Sltiu, Xori, Ori, Andi, Slli, Srli, Srai, Add, Sub, Sll, Slt, Sltu, Xor, Srl, Sra, Or, And, Fence, Ecall, Ebreak}
+use Rattle.rv_decode.specs.declared.instructions.Instr.TheVariants.{Lui, Auipc, Jal, Jalr, Beq, Bne, Blt, Bge, Bltu, Bgeu, Lb, Lh, Lw, Lbu, Lhu, Sb, Sh, Sw, Addi, Slti, Sltiu, Xori, Ori, Andi, Slli, Srli, Srai, Add, Sub, Sll, Slt, Sltu, Xor, Srl, Sra, Or, And, Mul, Mulh, Mulhsu, Mulhu, Div, Divu, Rem, Remu, Fence, Ecall, Ebreak}
 
 -- ---- the formats: opcode, then f3 and f7 where the format has them
 
@@ -38,7 +38,7 @@ jump_word opcode rd imm =
 
 -- ---- the instructions
 
--- the opcodes, f3 and f7 are those of RV32I in the RISC-V unprivileged ISA; a FENCE keeps its word
+-- the opcodes, f3 and f7 are those of RV32IM in the RISC-V unprivileged ISA; a FENCE keeps its word
 unfoldable pub word_of_instr : Instr → ℕ
 word_of_instr (Lui rd imm) = upper_word 0x37 rd imm
 word_of_instr (Auipc rd imm) = upper_word 0x17 rd imm
@@ -77,6 +77,14 @@ word_of_instr (Srl rd rs1 rs2) = register_word 0x33 5 0x00 rd rs1 rs2
 word_of_instr (Sra rd rs1 rs2) = register_word 0x33 5 0x20 rd rs1 rs2
 word_of_instr (Or rd rs1 rs2) = register_word 0x33 6 0x00 rd rs1 rs2
 word_of_instr (And rd rs1 rs2) = register_word 0x33 7 0x00 rd rs1 rs2
+word_of_instr (Mul rd rs1 rs2) = register_word 0x33 0 0x01 rd rs1 rs2
+word_of_instr (Mulh rd rs1 rs2) = register_word 0x33 1 0x01 rd rs1 rs2
+word_of_instr (Mulhsu rd rs1 rs2) = register_word 0x33 2 0x01 rd rs1 rs2
+word_of_instr (Mulhu rd rs1 rs2) = register_word 0x33 3 0x01 rd rs1 rs2
+word_of_instr (Div rd rs1 rs2) = register_word 0x33 4 0x01 rd rs1 rs2
+word_of_instr (Divu rd rs1 rs2) = register_word 0x33 5 0x01 rd rs1 rs2
+word_of_instr (Rem rd rs1 rs2) = register_word 0x33 6 0x01 rd rs1 rs2
+word_of_instr (Remu rd rs1 rs2) = register_word 0x33 7 0x01 rd rs1 rs2
 word_of_instr (Fence kept) = kept
 word_of_instr Ecall = 0x00000073
 word_of_instr Ebreak = 0x00100073

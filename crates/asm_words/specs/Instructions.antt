@@ -1,7 +1,7 @@
 -- The instruction of an operation and its operands.
 use Rattle.std.specs.Prelude.{ℕ}
 use Rattle.rv_decode.specs.declared.instructions.Instr.{Instr}
-use Rattle.rv_decode.specs.declared.instructions.Instr.TheVariants.{Lui, Auipc, Beq, Bne, Blt, Bge, Bltu, Bgeu, Lb, Lh, Lw, Lbu, Lhu, Sb, Sh, Sw, Addi, Slti, Sltiu, Xori, Ori, Andi, Slli, Srli, Srai, Add, Sub, Sll, Slt, Sltu, Xor, Srl, Sra, Or, And}
+use Rattle.rv_decode.specs.declared.instructions.Instr.TheVariants.{Lui, Auipc, Beq, Bne, Blt, Bge, Bltu, Bgeu, Lb, Lh, Lw, Lbu, Lhu, Sb, Sh, Sw, Addi, Slti, Sltiu, Xori, Ori, Andi, Slli, Srli, Srai, Add, Sub, Sll, Slt, Sltu, Xor, Srl, Sra, Or, And, Mul, Mulh, Mulhsu, Mulhu, Div, Divu, Rem, Remu}
 use Rattle.asm_table.specs.declared.forms.RegisterOperation.{RegisterOperation}
 use Rattle.asm_table.specs.declared.forms.RegisterOperation.TheVariants as registers
 use Rattle.asm_table.specs.declared.forms.ImmediateOperation.{ImmediateOperation}
@@ -29,6 +29,14 @@ with_registers registers.Srl rd rs1 rs2 = Srl rd rs1 rs2
 with_registers registers.Sra rd rs1 rs2 = Sra rd rs1 rs2
 with_registers registers.Or rd rs1 rs2 = Or rd rs1 rs2
 with_registers registers.And rd rs1 rs2 = And rd rs1 rs2
+with_registers registers.Mul rd rs1 rs2 = Mul rd rs1 rs2
+with_registers registers.Mulh rd rs1 rs2 = Mulh rd rs1 rs2
+with_registers registers.Mulhsu rd rs1 rs2 = Mulhsu rd rs1 rs2
+with_registers registers.Mulhu rd rs1 rs2 = Mulhu rd rs1 rs2
+with_registers registers.Div rd rs1 rs2 = Div rd rs1 rs2
+with_registers registers.Divu rd rs1 rs2 = Divu rd rs1 rs2
+with_registers registers.Rem rd rs1 rs2 = Rem rd rs1 rs2
+with_registers registers.Remu rd rs1 rs2 = Remu rd rs1 rs2
 
 -- of rd, rs1 and an immediate, the sign-extended word
 abbrev pub with_immediate : ImmediateOperation → ℕ → ℕ → ℕ → Instr

@@ -29,6 +29,14 @@ pub(crate) fn with_registers(
         RegisterOperation::Sra => Instr::Sra { rd, rs1, rs2 },
         RegisterOperation::Or => Instr::Or { rd, rs1, rs2 },
         RegisterOperation::And => Instr::And { rd, rs1, rs2 },
+        RegisterOperation::Mul => Instr::Mul { rd, rs1, rs2 },
+        RegisterOperation::Mulh => Instr::Mulh { rd, rs1, rs2 },
+        RegisterOperation::Mulhsu => Instr::Mulhsu { rd, rs1, rs2 },
+        RegisterOperation::Mulhu => Instr::Mulhu { rd, rs1, rs2 },
+        RegisterOperation::Div => Instr::Div { rd, rs1, rs2 },
+        RegisterOperation::Divu => Instr::Divu { rd, rs1, rs2 },
+        RegisterOperation::Rem => Instr::Rem { rd, rs1, rs2 },
+        RegisterOperation::Remu => Instr::Remu { rd, rs1, rs2 },
     }
 }
 

@@ -7,6 +7,8 @@ mod given;
 #[cfg(test)]
 mod memory;
 #[cfg(test)]
+mod products;
+#[cfg(test)]
 mod stepping;
 #[cfg(test)]
 mod words;

@@ -2,11 +2,11 @@
 use Rattle.std.proofs.Common.{◌≡◌, ℕ, ◌<◌, ◌^◌, ◌↔◌, Option, Some, IfSome, cond, eqb, refl, sym, ◌∙◌, lit<}
 use Rattle.std.proofs.lemmas.Bool.{cond_both, eqb-true}
 use Rattle.rv_decode.proofs.FormatLemmas.{register_fields, register_here, immediate_fields, immediate_here, store_fields, store_here, branch_fields, branch_here, upper_fields, upper_here, jump_fields, jump_here, fence_fields, fence_here, register_word, immediate_word, store_word, branch_word, upper_word, jump_word}
-use Rattle.rv_decode.specs.Decoding.{instr_of_word, jump_to_register_of, branch_of, load_of, store_of, shift_up_of, shift_down_of, with_immediate_of, with_registers_of, fence_of, system_of}
+use Rattle.rv_decode.specs.Decoding.{instr_of_word, jump_to_register_of, branch_of, load_of, store_of, shift_up_of, shift_down_of, with_immediate_of, product_or_quotient_of, with_registers_of, fence_of, system_of}
 use Rattle.rv_decode.specs.Fields.{opcode_of, f3_of, f7_of}
 use Rattle.rv_decode.specs.Table.{Table}
 use Rattle.rv_decode.specs.declared.instructions.Instr.{Instr}
-use Rattle.rv_decode.specs.declared.instructions.Instr.TheVariants.{Lui, Auipc, Jal, Jalr, Beq, Bne, Blt, Bge, Bltu, Bgeu, Lb, Lh, Lw, Lbu, Lhu, Sb, Sh, Sw, Addi, Slti, Sltiu, Xori, Ori, Andi, Slli, Srli, Srai, Add, Sub, Sll, Slt, Sltu, Xor, Srl, Sra, Or, And, Fence, Ecall, Ebreak}
+use Rattle.rv_decode.specs.declared.instructions.Instr.TheVariants.{Lui, Auipc, Jal, Jalr, Beq, Bne, Blt, Bge, Bltu, Bgeu, Lb, Lh, Lw, Lbu, Lhu, Sb, Sh, Sw, Addi, Slti, Sltiu, Xori, Ori, Andi, Slli, Srli, Srai, Add, Sub, Sll, Slt, Sltu, Xor, Srl, Sra, Or, And, Mul, Mulh, Mulhsu, Mulhu, Div, Divu, Rem, Remu, Fence, Ecall, Ebreak}
 
 -- a word of the table is decoded to its row
 pub decoded_row : (w : ℕ) (i : Instr) → Table w i → instr_of_word w ≡ Some i
@@ -48,6 +48,14 @@ decoded_row w (Srl rd rs1 rs2) row = let h = register_fields w 0x33 5 0x00 rd rs
 decoded_row w (Sra rd rs1 rs2) row = let h = register_fields w 0x33 5 0x20 rd rs1 rs2 (lit< tt) (lit< tt) (lit< tt) row in rw (h.opcode_is, h.f3_is, h.f7_is, h.rd_is, h.rs1_is, h.rs2_is) refl
 decoded_row w (Or rd rs1 rs2) row = let h = register_fields w 0x33 6 0x00 rd rs1 rs2 (lit< tt) (lit< tt) (lit< tt) row in rw (h.opcode_is, h.f3_is, h.f7_is, h.rd_is, h.rs1_is, h.rs2_is) refl
 decoded_row w (And rd rs1 rs2) row = let h = register_fields w 0x33 7 0x00 rd rs1 rs2 (lit< tt) (lit< tt) (lit< tt) row in rw (h.opcode_is, h.f3_is, h.f7_is, h.rd_is, h.rs1_is, h.rs2_is) refl
+decoded_row w (Mul rd rs1 rs2) row = let h = register_fields w 0x33 0 0x01 rd rs1 rs2 (lit< tt) (lit< tt) (lit< tt) row in rw (h.opcode_is, h.f3_is, h.f7_is, h.rd_is, h.rs1_is, h.rs2_is) refl
+decoded_row w (Mulh rd rs1 rs2) row = let h = register_fields w 0x33 1 0x01 rd rs1 rs2 (lit< tt) (lit< tt) (lit< tt) row in rw (h.opcode_is, h.f3_is, h.f7_is, h.rd_is, h.rs1_is, h.rs2_is) refl
+decoded_row w (Mulhsu rd rs1 rs2) row = let h = register_fields w 0x33 2 0x01 rd rs1 rs2 (lit< tt) (lit< tt) (lit< tt) row in rw (h.opcode_is, h.f3_is, h.f7_is, h.rd_is, h.rs1_is, h.rs2_is) refl
+decoded_row w (Mulhu rd rs1 rs2) row = let h = register_fields w 0x33 3 0x01 rd rs1 rs2 (lit< tt) (lit< tt) (lit< tt) row in rw (h.opcode_is, h.f3_is, h.f7_is, h.rd_is, h.rs1_is, h.rs2_is) refl
+decoded_row w (Div rd rs1 rs2) row = let h = register_fields w 0x33 4 0x01 rd rs1 rs2 (lit< tt) (lit< tt) (lit< tt) row in rw (h.opcode_is, h.f3_is, h.f7_is, h.rd_is, h.rs1_is, h.rs2_is) refl
+decoded_row w (Divu rd rs1 rs2) row = let h = register_fields w 0x33 5 0x01 rd rs1 rs2 (lit< tt) (lit< tt) (lit< tt) row in rw (h.opcode_is, h.f3_is, h.f7_is, h.rd_is, h.rs1_is, h.rs2_is) refl
+decoded_row w (Rem rd rs1 rs2) row = let h = register_fields w 0x33 6 0x01 rd rs1 rs2 (lit< tt) (lit< tt) (lit< tt) row in rw (h.opcode_is, h.f3_is, h.f7_is, h.rd_is, h.rs1_is, h.rs2_is) refl
+decoded_row w (Remu rd rs1 rs2) row = let h = register_fields w 0x33 7 0x01 rd rs1 rs2 (lit< tt) (lit< tt) (lit< tt) row in rw (h.opcode_is, h.f3_is, h.f7_is, h.rd_is, h.rs1_is, h.rs2_is) refl
 decoded_row w (Fence kept) row = let h = fence_fields w 0x0F 0 kept (lit< tt) (lit< tt) row in rw (h.opcode_is, h.f3_is, h.kept_is) refl
 decoded_row w Ecall row = rw row refl
 decoded_row w Ebreak row = rw row refl
@@ -103,6 +111,17 @@ with_immediate_is w fits op =
     (tested (f3_of w) 6 _ _ (Table w) (λ f3. immediate_here w 0x13 6 fits op f3)
     (tested (f3_of w) 7 _ _ (Table w) (λ f3. immediate_here w 0x13 7 fits op f3) tt)))))))
 
+product_or_quotient_is : (w : ℕ) → w < 2 ^ 32 → opcode_of w ≡ 0x33 → f7_of w ≡ 0x01 → IfSome (product_or_quotient_of w) (Table w)
+product_or_quotient_is w fits op f7 =
+    tested (f3_of w) 0 _ _ (Table w) (λ f3. register_here w 0x33 0 0x01 fits op f3 f7)
+    (tested (f3_of w) 1 _ _ (Table w) (λ f3. register_here w 0x33 1 0x01 fits op f3 f7)
+    (tested (f3_of w) 2 _ _ (Table w) (λ f3. register_here w 0x33 2 0x01 fits op f3 f7)
+    (tested (f3_of w) 3 _ _ (Table w) (λ f3. register_here w 0x33 3 0x01 fits op f3 f7)
+    (tested (f3_of w) 4 _ _ (Table w) (λ f3. register_here w 0x33 4 0x01 fits op f3 f7)
+    (tested (f3_of w) 5 _ _ (Table w) (λ f3. register_here w 0x33 5 0x01 fits op f3 f7)
+    (tested (f3_of w) 6 _ _ (Table w) (λ f3. register_here w 0x33 6 0x01 fits op f3 f7)
+    (tested (f3_of w) 7 _ _ (Table w) (λ f3. register_here w 0x33 7 0x01 fits op f3 f7) tt)))))))
+
 with_registers_is : (w : ℕ) → w < 2 ^ 32 → opcode_of w ≡ 0x33 → IfSome (with_registers_of w) (Table w)
 with_registers_is w fits op =
     tested (f7_of w) 0x00 _ _ (Table w)
@@ -115,11 +134,12 @@ with_registers_is w fits op =
     (tested (f3_of w) 5 _ _ (Table w) (λ f3. register_here w 0x33 5 0x00 fits op f3 f7)
     (tested (f3_of w) 6 _ _ (Table w) (λ f3. register_here w 0x33 6 0x00 fits op f3 f7)
     (tested (f3_of w) 7 _ _ (Table w) (λ f3. register_here w 0x33 7 0x00 fits op f3 f7) tt))))))))
+    (tested (f7_of w) 0x01 _ _ (Table w) (λ f7. product_or_quotient_is w fits op f7)
     (tested (f7_of w) 0x20 _ _ (Table w)
     (λ f7.
     tested (f3_of w) 0 _ _ (Table w) (λ f3. register_here w 0x33 0 0x20 fits op f3 f7)
     (tested (f3_of w) 5 _ _ (Table w) (λ f3. register_here w 0x33 5 0x20 fits op f3 f7) tt))
-    tt)
+    tt))
 
 fence_is : (w : ℕ) → w < 2 ^ 32 → opcode_of w ≡ 0x0F → IfSome (fence_of w) (Table w)
 fence_is w fits op = tested (f3_of w) 0 _ _ (Table w) (λ f3. fence_here w 0x0F 0 fits op f3) tt
@@ -192,6 +212,14 @@ one_word v w (Srl rd rs1 rs2) here there = register_word v w 0x33 5 0x00 rd rs1 
 one_word v w (Sra rd rs1 rs2) here there = register_word v w 0x33 5 0x20 rd rs1 rs2 here there
 one_word v w (Or rd rs1 rs2) here there = register_word v w 0x33 6 0x00 rd rs1 rs2 here there
 one_word v w (And rd rs1 rs2) here there = register_word v w 0x33 7 0x00 rd rs1 rs2 here there
+one_word v w (Mul rd rs1 rs2) here there = register_word v w 0x33 0 0x01 rd rs1 rs2 here there
+one_word v w (Mulh rd rs1 rs2) here there = register_word v w 0x33 1 0x01 rd rs1 rs2 here there
+one_word v w (Mulhsu rd rs1 rs2) here there = register_word v w 0x33 2 0x01 rd rs1 rs2 here there
+one_word v w (Mulhu rd rs1 rs2) here there = register_word v w 0x33 3 0x01 rd rs1 rs2 here there
+one_word v w (Div rd rs1 rs2) here there = register_word v w 0x33 4 0x01 rd rs1 rs2 here there
+one_word v w (Divu rd rs1 rs2) here there = register_word v w 0x33 5 0x01 rd rs1 rs2 here there
+one_word v w (Rem rd rs1 rs2) here there = register_word v w 0x33 6 0x01 rd rs1 rs2 here there
+one_word v w (Remu rd rs1 rs2) here there = register_word v w 0x33 7 0x01 rd rs1 rs2 here there
 one_word v w (Fence kept) here there = sym here.same ∙ there.same
 one_word v w Ecall here there = here ∙ sym there
 one_word v w Ebreak here there = here ∙ sym there

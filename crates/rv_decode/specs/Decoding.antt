@@ -3,7 +3,7 @@
 use Rattle.std.specs.Prelude.{ℕ, ◌==◌, if◌then◌else◌, Option, Some, None}
 use Rattle.rv_decode.specs.Fields.{opcode_of, rd_of, f3_of, rs1_of, rs2_of, f7_of, immediate_of, store_offset_of, branch_offset_of, upper_immediate_of, jump_offset_of}
 use Rattle.rv_decode.specs.declared.instructions.Instr.{Instr}
-use Rattle.rv_decode.specs.declared.instructions.Instr.TheVariants.{Lui, Auipc, Jal, Jalr, Beq, Bne, Blt, Bge, Bltu, Bgeu, Lb, Lh, Lw, Lbu, Lhu, Sb, Sh, Sw, Addi, Slti, Sltiu, Xori, Ori, Andi, Slli, Srli, Srai, Add, Sub, Sll, Slt, Sltu, Xor, Srl, Sra, Or, And, Fence, Ecall, Ebreak}
+use Rattle.rv_decode.specs.declared.instructions.Instr.TheVariants.{Lui, Auipc, Jal, Jalr, Beq, Bne, Blt, Bge, Bltu, Bgeu, Lb, Lh, Lw, Lbu, Lhu, Sb, Sh, Sw, Addi, Slti, Sltiu, Xori, Ori, Andi, Slli, Srli, Srai, Add, Sub, Sll, Slt, Sltu, Xor, Srl, Sra, Or, And, Mul, Mulh, Mulhsu, Mulhu, Div, Divu, Rem, Remu, Fence, Ecall, Ebreak}
 
 -- one definition for each opcode that f3 or f7 divides further
 
@@ -69,6 +69,21 @@ with_immediate_of w =
     if f3_of w == 7 then Some (Andi rd rs1 imm) else
     None
 
+abbrev pub product_or_quotient_of : ℕ → Option Instr
+product_or_quotient_of w =
+    let rd = rd_of w in
+    let rs1 = rs1_of w in
+    let rs2 = rs2_of w in
+    if f3_of w == 0 then Some (Mul rd rs1 rs2) else
+    if f3_of w == 1 then Some (Mulh rd rs1 rs2) else
+    if f3_of w == 2 then Some (Mulhsu rd rs1 rs2) else
+    if f3_of w == 3 then Some (Mulhu rd rs1 rs2) else
+    if f3_of w == 4 then Some (Div rd rs1 rs2) else
+    if f3_of w == 5 then Some (Divu rd rs1 rs2) else
+    if f3_of w == 6 then Some (Rem rd rs1 rs2) else
+    if f3_of w == 7 then Some (Remu rd rs1 rs2) else
+    None
+
 abbrev pub with_registers_of : ℕ → Option Instr
 with_registers_of w =
     let rd = rd_of w in
@@ -84,6 +99,7 @@ with_registers_of w =
     if f3_of w == 6 then Some (Or rd rs1 rs2) else
     if f3_of w == 7 then Some (And rd rs1 rs2) else
     None) else
+    if f7_of w == 0x01 then product_or_quotient_of w else
     if f7_of w == 0x20 then
     (if f3_of w == 0 then Some (Sub rd rs1 rs2) else
     if f3_of w == 5 then Some (Sra rd rs1 rs2) else

@@ -1,4 +1,4 @@
--- The instruction formats of RV32I: a word is the sum of its fields, each at its place and within its range.
+-- The instruction formats of RV32IM: a word is the sum of its fields, each at its place and within its range.
 -- A field is named by the bits that it holds of the immediate, highest first, as in the pictures of the RISC-V unprivileged ISA.
 use Rattle.std.specs.Prelude.{◌≡◌, ℕ, ◌+◌, ◌*◌, ◌^◌, ◌<◌}
 use Rattle.pump_words.specs.Words.{sign_extended}

@@ -8,7 +8,7 @@ use Rattle.rv_decode.specs.declared.places.Reads.{Reads}
 use Rattle.rv_decode.specs.declared.places.Slot.{Slot}
 use Rattle.rv_decode.specs.declared.places.Slot.TheVariants.{Nothing, Reg, Word}
 use Rattle.rv_decode.specs.declared.instructions.Instr.{Instr}
-use Rattle.rv_decode.specs.declared.instructions.Instr.TheVariants.{Lui, Auipc, Jal, Jalr, Beq, Bne, Blt, Bge, Bltu, Bgeu, Lb, Lh, Lw, Lbu, Lhu, Sb, Sh, Sw, Addi, Slti, Sltiu, Xori, Ori, Andi, Slli, Srli, Srai, Add, Sub, Sll, Slt, Sltu, Xor, Srl, Sra, Or, And, Fence, Ecall, Ebreak}
+use Rattle.rv_decode.specs.declared.instructions.Instr.TheVariants.{Lui, Auipc, Jal, Jalr, Beq, Bne, Blt, Bge, Bltu, Bgeu, Lb, Lh, Lw, Lbu, Lhu, Sb, Sh, Sw, Addi, Slti, Sltiu, Xori, Ori, Andi, Slli, Srli, Srai, Add, Sub, Sll, Slt, Sltu, Xor, Srl, Sra, Or, And, Mul, Mulh, Mulhsu, Mulhu, Div, Divu, Rem, Remu, Fence, Ecall, Ebreak}
 
 -- the registers of a service's first argument and answer, of its other arguments, and of its number
 abbrev pub a0 : ℕ
@@ -83,6 +83,14 @@ group_of (Srl _ _ _) _ = group.Alu
 group_of (Sra _ _ _) _ = group.Alu
 group_of (Or _ _ _) _ = group.Alu
 group_of (And _ _ _) _ = group.Alu
+group_of (Mul _ _ _) _ = group.Alu
+group_of (Mulh _ _ _) _ = group.Alu
+group_of (Mulhsu _ _ _) _ = group.Alu
+group_of (Mulhu _ _ _) _ = group.Alu
+group_of (Div _ _ _) _ = group.Alu
+group_of (Divu _ _ _) _ = group.Alu
+group_of (Rem _ _ _) _ = group.Alu
+group_of (Remu _ _ _) _ = group.Alu
 group_of (Fence _) _ = group.Fence
 group_of Ecall service = service_group service
 group_of Ebreak _ = group.Break
@@ -142,6 +150,14 @@ reads_of (Srl _ rs1 rs2) = two_registers rs1 rs2
 reads_of (Sra _ rs1 rs2) = two_registers rs1 rs2
 reads_of (Or _ rs1 rs2) = two_registers rs1 rs2
 reads_of (And _ rs1 rs2) = two_registers rs1 rs2
+reads_of (Mul _ rs1 rs2) = two_registers rs1 rs2
+reads_of (Mulh _ rs1 rs2) = two_registers rs1 rs2
+reads_of (Mulhsu _ rs1 rs2) = two_registers rs1 rs2
+reads_of (Mulhu _ rs1 rs2) = two_registers rs1 rs2
+reads_of (Div _ rs1 rs2) = two_registers rs1 rs2
+reads_of (Divu _ rs1 rs2) = two_registers rs1 rs2
+reads_of (Rem _ rs1 rs2) = two_registers rs1 rs2
+reads_of (Remu _ rs1 rs2) = two_registers rs1 rs2
 reads_of (Fence _) = no_operand
 reads_of Ecall = two_registers a0 a7
 reads_of Ebreak = no_operand
@@ -185,6 +201,14 @@ writes_of (Srl rd _ _) _ = Reg rd
 writes_of (Sra rd _ _) _ = Reg rd
 writes_of (Or rd _ _) _ = Reg rd
 writes_of (And rd _ _) _ = Reg rd
+writes_of (Mul rd _ _) _ = Reg rd
+writes_of (Mulh rd _ _) _ = Reg rd
+writes_of (Mulhsu rd _ _) _ = Reg rd
+writes_of (Mulhu rd _ _) _ = Reg rd
+writes_of (Div rd _ _) _ = Reg rd
+writes_of (Divu rd _ _) _ = Reg rd
+writes_of (Rem rd _ _) _ = Reg rd
+writes_of (Remu rd _ _) _ = Reg rd
 writes_of (Fence _) _ = Nothing
 writes_of Ecall service = if service == get_service then Reg a0 else Nothing
 writes_of Ebreak _ = Nothing

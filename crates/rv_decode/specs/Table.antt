@@ -1,9 +1,9 @@
--- The forty instructions of RV32I and their words, one line an instruction: opcode, then f3 and f7 where the format has them.
+-- The forty-eight instructions of RV32IM and their words, one line an instruction: opcode, then f3 and f7 where the format has them.
 -- A word that no line has is no instruction.
 use Rattle.std.specs.Prelude.{◌≡◌, ℕ}
 use Rattle.rv_decode.specs.Formats.{IsRegisterWord, IsShiftWord, IsImmediateWord, IsStoreWord, IsBranchWord, IsUpperWord, IsJumpWord, IsFenceWord}
 use Rattle.rv_decode.specs.declared.instructions.Instr.{Instr}
-use Rattle.rv_decode.specs.declared.instructions.Instr.TheVariants.{Lui, Auipc, Jal, Jalr, Beq, Bne, Blt, Bge, Bltu, Bgeu, Lb, Lh, Lw, Lbu, Lhu, Sb, Sh, Sw, Addi, Slti, Sltiu, Xori, Ori, Andi, Slli, Srli, Srai, Add, Sub, Sll, Slt, Sltu, Xor, Srl, Sra, Or, And, Fence, Ecall, Ebreak}
+use Rattle.rv_decode.specs.declared.instructions.Instr.TheVariants.{Lui, Auipc, Jal, Jalr, Beq, Bne, Blt, Bge, Bltu, Bgeu, Lb, Lh, Lw, Lbu, Lhu, Sb, Sh, Sw, Addi, Slti, Sltiu, Xori, Ori, Andi, Slli, Srli, Srai, Add, Sub, Sll, Slt, Sltu, Xor, Srl, Sra, Or, And, Mul, Mulh, Mulhsu, Mulhu, Div, Divu, Rem, Remu, Fence, Ecall, Ebreak}
 
 -- w is the word of the instruction
 abbrev pub Table : ℕ → Instr → Type 0
@@ -44,6 +44,14 @@ Table w (Srl rd rs1 rs2) = IsRegisterWord w 0x33 5 0x00 rd rs1 rs2
 Table w (Sra rd rs1 rs2) = IsRegisterWord w 0x33 5 0x20 rd rs1 rs2
 Table w (Or rd rs1 rs2) = IsRegisterWord w 0x33 6 0x00 rd rs1 rs2
 Table w (And rd rs1 rs2) = IsRegisterWord w 0x33 7 0x00 rd rs1 rs2
+Table w (Mul rd rs1 rs2) = IsRegisterWord w 0x33 0 0x01 rd rs1 rs2
+Table w (Mulh rd rs1 rs2) = IsRegisterWord w 0x33 1 0x01 rd rs1 rs2
+Table w (Mulhsu rd rs1 rs2) = IsRegisterWord w 0x33 2 0x01 rd rs1 rs2
+Table w (Mulhu rd rs1 rs2) = IsRegisterWord w 0x33 3 0x01 rd rs1 rs2
+Table w (Div rd rs1 rs2) = IsRegisterWord w 0x33 4 0x01 rd rs1 rs2
+Table w (Divu rd rs1 rs2) = IsRegisterWord w 0x33 5 0x01 rd rs1 rs2
+Table w (Rem rd rs1 rs2) = IsRegisterWord w 0x33 6 0x01 rd rs1 rs2
+Table w (Remu rd rs1 rs2) = IsRegisterWord w 0x33 7 0x01 rd rs1 rs2
 Table w (Fence kept) = IsFenceWord w 0x0F 0 kept
 Table w Ecall = w ≡ 0x00000073
 Table w Ebreak = w ≡ 0x00100073

@@ -1,7 +1,7 @@
 //! From words to instructions.
 
 ghost use Rattle.std.specs.Prelude.{◌≡◌, ℕ, ◌↔◌, ◌%◌, Some};
-ghost use Rattle.rv_decode.specs.Decoding.{instr_of_word, jump_to_register_of, branch_of, load_of, store_of, shift_up_of, shift_down_of, with_immediate_of, with_registers_of, system_of};
+ghost use Rattle.rv_decode.specs.Decoding.{instr_of_word, jump_to_register_of, branch_of, load_of, store_of, shift_up_of, shift_down_of, with_immediate_of, product_or_quotient_of, with_registers_of, system_of};
 ghost use Rattle.rv_decode.specs.Fields.{rd_of, rs1_of, rs2_of, f7_of, immediate_of, store_offset_of, branch_offset_of, upper_immediate_of, jump_offset_of};
 ghost use Rattle.rv_decode.specs.Table.{Table};
 ghost use Rattle.rv_decode.specs.declared.instructions.Instr.{Instr};
@@ -200,6 +200,26 @@ fn decode_with_immediate(word: u32) -> Option<Instr>
 }
 
 #[inline]
+fn decode_product_or_quotient(word: u32) -> Option<Instr>
+    ensures { result ≡ product_or_quotient_of word }
+{
+    let rd = rd(word);
+    let rs1 = rs1(word);
+    let rs2 = rs2(word);
+    match f3(word) {
+        0 => Some(Instr::Mul { rd, rs1, rs2 }),
+        1 => Some(Instr::Mulh { rd, rs1, rs2 }),
+        2 => Some(Instr::Mulhsu { rd, rs1, rs2 }),
+        3 => Some(Instr::Mulhu { rd, rs1, rs2 }),
+        4 => Some(Instr::Div { rd, rs1, rs2 }),
+        5 => Some(Instr::Divu { rd, rs1, rs2 }),
+        6 => Some(Instr::Rem { rd, rs1, rs2 }),
+        7 => Some(Instr::Remu { rd, rs1, rs2 }),
+        _ => None,
+    }
+}
+
+#[inline]
 fn decode_with_registers(word: u32) -> Option<Instr>
     ensures { result ≡ with_registers_of word }
 {
@@ -215,6 +235,7 @@ fn decode_with_registers(word: u32) -> Option<Instr>
         (0x00, 5) => Some(Instr::Srl { rd, rs1, rs2 }),
         (0x00, 6) => Some(Instr::Or { rd, rs1, rs2 }),
         (0x00, 7) => Some(Instr::And { rd, rs1, rs2 }),
+        (0x01, _) => decode_product_or_quotient(word),
         (0x20, 0) => Some(Instr::Sub { rd, rs1, rs2 }),
         (0x20, 5) => Some(Instr::Sra { rd, rs1, rs2 }),
         _ => None,
@@ -232,7 +253,7 @@ fn decode_system(word: u32) -> Option<Instr>
     }
 }
 
-/// The instruction of a word; `None` for a word outside the table of RV32I.
+/// The instruction of a word; `None` for a word outside the table of RV32IM.
 ///
 /// A FENCE is any word of its opcode with f3 0, reserved forms too, and keeps its other bits: this is
 /// the project's own profile.

@@ -104,7 +104,15 @@ impl Instr {
             | Instr::Srl { .. }
             | Instr::Sra { .. }
             | Instr::Or { .. }
-            | Instr::And { .. } => Group::Alu,
+            | Instr::And { .. }
+            | Instr::Mul { .. }
+            | Instr::Mulh { .. }
+            | Instr::Mulhsu { .. }
+            | Instr::Mulhu { .. }
+            | Instr::Div { .. }
+            | Instr::Divu { .. }
+            | Instr::Rem { .. }
+            | Instr::Remu { .. } => Group::Alu,
             Instr::Fence { .. } => Group::Fence,
             Instr::Ecall => service_group(a7),
             Instr::Ebreak => Group::Break,

@@ -1,10 +1,10 @@
-//! The instruction set: one variant for each of the forty instructions of RV32I.
+//! The instruction set: one variant for each of the forty-eight instructions of RV32IM.
 
 use crate::fields::{
     BranchOffset, FenceWord, Immediate, JumpOffset, Register, ShiftAmount, UpperImmediate,
 };
 
-/// One instruction of RV32I, as the RISC-V unprivileged ISA has it.
+/// One instruction of RV32IM, as the RISC-V unprivileged ISA has it.
 ///
 /// Immediates are sign-extended words. Sums wrap modulo 2^32.
 #[derive(Clone, Copy)]
@@ -224,6 +224,54 @@ pub enum Instr {
     },
     /// rd becomes rs1 and rs2.
     And {
+        rd: Register,
+        rs1: Register,
+        rs2: Register,
+    },
+    /// rd becomes the low word of rs1 * rs2.
+    Mul {
+        rd: Register,
+        rs1: Register,
+        rs2: Register,
+    },
+    /// rd becomes the high word of rs1 * rs2, both signed.
+    Mulh {
+        rd: Register,
+        rs1: Register,
+        rs2: Register,
+    },
+    /// rd becomes the high word of rs1 * rs2, rs1 signed and rs2 unsigned.
+    Mulhsu {
+        rd: Register,
+        rs1: Register,
+        rs2: Register,
+    },
+    /// rd becomes the high word of rs1 * rs2, both unsigned.
+    Mulhu {
+        rd: Register,
+        rs1: Register,
+        rs2: Register,
+    },
+    /// rd becomes rs1 / rs2, signed and rounded toward zero: -1 where rs2 is 0, and -2^31 for -2^31 / -1.
+    Div {
+        rd: Register,
+        rs1: Register,
+        rs2: Register,
+    },
+    /// rd becomes rs1 / rs2, unsigned: 2^32 - 1 where rs2 is 0.
+    Divu {
+        rd: Register,
+        rs1: Register,
+        rs2: Register,
+    },
+    /// rd becomes the remainder of rs1 / rs2, signed, with the sign of rs1: rs1 where rs2 is 0.
+    Rem {
+        rd: Register,
+        rs1: Register,
+        rs2: Register,
+    },
+    /// rd becomes the remainder of rs1 / rs2, unsigned: rs1 where rs2 is 0.
+    Remu {
         rd: Register,
         rs1: Register,
         rs2: Register,

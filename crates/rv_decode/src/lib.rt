@@ -1,4 +1,4 @@
-//! The instructions of RV32I: their words, read and written, their operation groups and the places of
+//! The instructions of RV32IM: their words, read and written, their operation groups and the places of
 //! their operands.
 #![tactic(auto)]
 

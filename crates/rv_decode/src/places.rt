@@ -111,7 +111,15 @@ impl Instr {
             | Instr::Srl { rs1, rs2, .. }
             | Instr::Sra { rs1, rs2, .. }
             | Instr::Or { rs1, rs2, .. }
-            | Instr::And { rs1, rs2, .. } => Reads::new(Some(rs1), Some(rs2), false),
+            | Instr::And { rs1, rs2, .. }
+            | Instr::Mul { rs1, rs2, .. }
+            | Instr::Mulh { rs1, rs2, .. }
+            | Instr::Mulhsu { rs1, rs2, .. }
+            | Instr::Mulhu { rs1, rs2, .. }
+            | Instr::Div { rs1, rs2, .. }
+            | Instr::Divu { rs1, rs2, .. }
+            | Instr::Rem { rs1, rs2, .. }
+            | Instr::Remu { rs1, rs2, .. } => Reads::new(Some(rs1), Some(rs2), false),
             Instr::Lb { rs1, .. }
             | Instr::Lh { rs1, .. }
             | Instr::Lw { rs1, .. }
@@ -155,7 +163,15 @@ impl Instr {
             | Instr::Srl { rd, .. }
             | Instr::Sra { rd, .. }
             | Instr::Or { rd, .. }
-            | Instr::And { rd, .. } => Slot::Reg(rd),
+            | Instr::And { rd, .. }
+            | Instr::Mul { rd, .. }
+            | Instr::Mulh { rd, .. }
+            | Instr::Mulhsu { rd, .. }
+            | Instr::Mulhu { rd, .. }
+            | Instr::Div { rd, .. }
+            | Instr::Divu { rd, .. }
+            | Instr::Rem { rd, .. }
+            | Instr::Remu { rd, .. } => Slot::Reg(rd),
             Instr::Sb { .. } | Instr::Sh { .. } | Instr::Sw { .. } => Slot::Word,
             Instr::Beq { .. }
             | Instr::Bne { .. }
@@ -203,7 +219,15 @@ impl Instr {
             | Instr::Srl { rd, rs1, rs2 }
             | Instr::Sra { rd, rs1, rs2 }
             | Instr::Or { rd, rs1, rs2 }
-            | Instr::And { rd, rs1, rs2 } => Places::new(rs1, rs2, rd),
+            | Instr::And { rd, rs1, rs2 }
+            | Instr::Mul { rd, rs1, rs2 }
+            | Instr::Mulh { rd, rs1, rs2 }
+            | Instr::Mulhsu { rd, rs1, rs2 }
+            | Instr::Mulhu { rd, rs1, rs2 }
+            | Instr::Div { rd, rs1, rs2 }
+            | Instr::Divu { rd, rs1, rs2 }
+            | Instr::Rem { rd, rs1, rs2 }
+            | Instr::Remu { rd, rs1, rs2 } => Places::new(rs1, rs2, rd),
             Instr::Beq { rs1, rs2, .. }
             | Instr::Bne { rs1, rs2, .. }
             | Instr::Blt { rs1, rs2, .. }

@@ -3,7 +3,9 @@
 use Rattle.std.specs.Prelude.{ℕ, ◌+◌, ◌-◌, ◌*◌, ◌/◌, ◌%◌, ◌^◌, ◌==◌, nat_lt, int_lt, Bool, true, false, not, if◌then◌else◌, Some, None, bit_and, bit_or, bit_xor}
 use Rattle.pump_words.specs.Words.{signed, unsigned, shifted_down}
 use Rattle.rv_decode.specs.declared.instructions.Instr.{Instr}
-use Rattle.rv_decode.specs.declared.instructions.Instr.TheVariants.{Lui, Auipc, Jal, Jalr, Beq, Bne, Blt, Bge, Bltu, Bgeu, Lb, Lh, Lw, Lbu, Lhu, Sb, Sh, Sw, Addi, Slti, Sltiu, Xori, Ori, Andi, Slli, Srli, Srai, Add, Sub, Sll, Slt, Sltu, Xor, Srl, Sra, Or, And, Fence, Ecall, Ebreak}
+use Rattle.rv_decode.specs.declared.instructions.Instr.TheVariants.{Lui, Auipc, Jal, Jalr, Beq, Bne, Blt, Bge, Bltu, Bgeu, Lb, Lh, Lw, Lbu, Lhu, Sb, Sh, Sw, Addi, Slti, Sltiu, Xori, Ori, Andi, Slli, Srli, Srai, Add, Sub, Sll, Slt, Sltu, Xor, Srl, Sra, Or, And, Mul, Mulh, Mulhsu, Mulhu, Div, Divu, Rem, Remu, Fence, Ecall, Ebreak}
+use Rattle.rv_products.specs.Products.{low_product, high_product, high_product_mixed, high_product_unsigned}
+use Rattle.rv_products.specs.Quotients.{quotient, quotient_unsigned, remainder, remainder_unsigned}
 use Rattle.rv_step.specs.declared.accesses.Access.TheVariants as access
 use Rattle.rv_step.specs.declared.accesses.Width.{Width}
 use Rattle.rv_step.specs.declared.accesses.Width.TheVariants.{Byte, Half, Full}
@@ -96,6 +98,14 @@ effect_of (Srl _ _ _) pc a b = computes pc (a / 2 ^ (b % 32))
 effect_of (Sra _ _ _) pc a b = computes pc (shifted_down_signed a (b % 32))
 effect_of (Or _ _ _) pc a b = computes pc (bit_or a b)
 effect_of (And _ _ _) pc a b = computes pc (bit_and a b)
+effect_of (Mul _ _ _) pc a b = computes pc (low_product a b)
+effect_of (Mulh _ _ _) pc a b = computes pc (high_product a b)
+effect_of (Mulhsu _ _ _) pc a b = computes pc (high_product_mixed a b)
+effect_of (Mulhu _ _ _) pc a b = computes pc (high_product_unsigned a b)
+effect_of (Div _ _ _) pc a b = computes pc (quotient a b)
+effect_of (Divu _ _ _) pc a b = computes pc (quotient_unsigned a b)
+effect_of (Rem _ _ _) pc a b = computes pc (remainder a b)
+effect_of (Remu _ _ _) pc a b = computes pc (remainder_unsigned a b)
 effect_of (Fence _) pc _ _ = passes pc
 effect_of Ecall pc _ _ = passes pc
 effect_of Ebreak pc _ _ = passes pc

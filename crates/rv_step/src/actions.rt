@@ -56,7 +56,7 @@ impl Model for Action {
     ghost invariant = { λ a. IsZeroIfUnused a.used a.number };
 }
 
-// What makes an action has hints alone: were it always inlined, in some forty arms, what looks ahead, and an engine's turn with it,
+// What makes an action has hints alone: were it always inlined, in some fifty arms, what looks ahead, and an engine's turn with it,
 // would be too large for the compiler to inline, and that costs a turn much more.
 impl Action {
     /// Going on to the instruction behind `pc`, and nothing else: what ECALL and EBREAK do here (RISC-V unprivileged ISA; what a
@@ -115,20 +115,6 @@ impl Action {
             self.next = target;
         }
         self.taken = taken;
-    }
-
-    /// The same effect once more.
-    #[inline(always)]
-    pub fn again(&self) -> Action
-        ensures { result ≡ self.now }
-    {
-        Action {
-            next: self.next,
-            number: self.number,
-            stored: self.stored,
-            used: self.used,
-            taken: self.taken,
-        }
     }
 
     /// The pc of the next instruction.

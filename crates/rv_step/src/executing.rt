@@ -8,6 +8,9 @@ use crate::actions::{Action, Use};
 use crate::effects::Effect;
 use pump_words::{lt_signed, sra};
 use rv_decode::Instr;
+use rv_products::{
+    div, div_unsigned, mul, mul_high, mul_high_mixed, mul_high_unsigned, rem, rem_unsigned,
+};
 
 /// The effect of an instruction at `pc`, where `a` and `b` are the values of rs1 and rs2 before rd is
 /// written.
@@ -73,6 +76,14 @@ pub fn act(instr: &Instr, pc: u32, a: u32, b: u32) -> Action
         Instr::Sra { .. } => action.compute(sra(a, b)),
         Instr::Or { .. } => action.compute(a | b),
         Instr::And { .. } => action.compute(a & b),
+        Instr::Mul { .. } => action.compute(mul(a, b)),
+        Instr::Mulh { .. } => action.compute(mul_high(a, b)),
+        Instr::Mulhsu { .. } => action.compute(mul_high_mixed(a, b)),
+        Instr::Mulhu { .. } => action.compute(mul_high_unsigned(a, b)),
+        Instr::Div { .. } => action.compute(div(a, b)),
+        Instr::Divu { .. } => action.compute(div_unsigned(a, b)),
+        Instr::Rem { .. } => action.compute(rem(a, b)),
+        Instr::Remu { .. } => action.compute(rem_unsigned(a, b)),
         Instr::Fence { .. } | Instr::Ecall | Instr::Ebreak => {}
     }
     action

@@ -1,4 +1,4 @@
-//! The effect of one instruction of RV32I, and the faults of its access and its jump.
+//! The effect of one instruction of RV32IM, and the faults of its access and its jump.
 #![tactic(auto)]
 
 mod accesses;

@@ -8,7 +8,7 @@ use asm_words::{Emission, Names, emission_of};
 use pump_words::Line;
 use std::alloc::Global;
 
-/// An address, a word, and its text there. The words are those of LLVM's assembler; two are no instructions of RV32I.
+/// An address, a word, and its text there. The words are those of LLVM's assembler; two are no instructions of RV32IM.
 const TEXTS: &[(u32, u32, &[u8])] = &[
     (0, 0x0410_0513, b"addi x10, x0, 65"),
     (0, 0xFFF5_B513, b"sltiu x10, x11, -1"),
@@ -25,12 +25,20 @@ const TEXTS: &[(u32, u32, &[u8])] = &[
     (0, 0x8073_0023, b"sb x7, -2048(x6)"),
     (0, 0x41F3_5293, b"srai x5, x6, 31"),
     (0, 0x4073_02B3, b"sub x5, x6, x7"),
+    (0, 0x0262_83B3, b"mul x7, x5, x6"),
+    (0, 0x0262_93B3, b"mulh x7, x5, x6"),
+    (0, 0x0262_A3B3, b"mulhsu x7, x5, x6"),
+    (0, 0x0262_B3B3, b"mulhu x7, x5, x6"),
+    (0, 0x0262_C3B3, b"div x7, x5, x6"),
+    (0, 0x0262_D3B3, b"divu x7, x5, x6"),
+    (0, 0x0262_E3B3, b"rem x7, x5, x6"),
+    (0, 0x0262_F3B3, b"remu x7, x5, x6"),
     (0, 0x0FF0_000F, b"fence"),
     (0, 0x0210_000F, b".word 0x0210000F"),
     (0, 0x0000_0073, b"ecall"),
     (0, 0x0010_0073, b"ebreak"),
     (0, 0xFFFF_FFFF, b".word 0xFFFFFFFF"),
-    (0, 0x0273_02B3, b".word 0x027302B3"),
+    (0, 0x0473_02B3, b".word 0x047302B3"),
 ];
 
 /// What the text emits at the address, where no name has a place; nothing where a name stands in front.

@@ -1,18 +1,20 @@
 -- What an instruction computes of words, and what it stores, is a word.
-use Rattle.std.proofs.Common.{◌≡◌, ℕ, ◌+◌, ◌-◌, ◌*◌, ◌/◌, ◌%◌, ◌^◌, ◌<◌, ◌≤◌, ◌==◌, nat_lt, Bool, true, false, not, Option, Some, None, IfSome, cond, eqb, if◌then◌else◌, sym, subst, arith, lit<}
-use Rattle.std.specs.Prelude.{ℤ, pos, negsuc, bit_and, bit_or, bit_xor}
+use Rattle.std.proofs.Common.{◌≡◌, ℕ, zero, suc, ◌+◌, ◌-◌, ◌*◌, ◌/◌, ◌%◌, ◌^◌, ◌<◌, ◌≤◌, ◌==◌, nat_lt, Bool, true, false, not, Option, Some, None, IfSome, cond, eqb, if◌then◌else◌, sym, subst, arith, lit<}
+use Rattle.std.specs.Prelude.{ℤ, pos, negsuc, neg_ℤ, ◌*ℤ◌, int_div, int_rem, unsigned_abs, bit_and, bit_or, bit_xor}
 use Rattle.std.specs.Int.{w32}
-use Rattle.std.proofs.Math.Nat.{div-le_self, mod-lt}
+use Rattle.std.proofs.Math.Nat.{div-le_self, mod-le, mod-lt, mul-le-mul}
 use Rattle.std.proofs.lemmas.Bool.{cond_both}
-use Rattle.std.proofs.lemmas.Int.{of_z-to_z}
+use Rattle.std.proofs.lemmas.Int.{ints, of_z-to_z, unsigned_abs-mul}
 use Rattle.std.proofs.lemmas.Nat.{and_le_l, or_lt, pow_pos, xor_lt}
 use Rattle.std.proofs.lemmas.Option.{none-some, same_Some}
 use Rattle.pump_words.proofs.PartLemmas.{merged}
 use Rattle.pump_words.specs.Words.{byte_at, half_at, shifted_down, sign_extended, signed, unsigned, with_part}
-use Rattle.rv_decode.specs.Decoding.{instr_of_word, jump_to_register_of, branch_of, load_of, store_of, shift_up_of, shift_down_of, with_immediate_of, with_registers_of, fence_of, system_of}
+use Rattle.rv_decode.specs.Decoding.{instr_of_word, jump_to_register_of, branch_of, load_of, store_of, shift_up_of, shift_down_of, with_immediate_of, product_or_quotient_of, with_registers_of, fence_of, system_of}
 use Rattle.rv_decode.specs.Fields.{bits_of, f3_of, f7_of, immediate_of, opcode_of, upper_immediate_of}
 use Rattle.rv_decode.specs.declared.instructions.Instr.{Instr}
-use Rattle.rv_decode.specs.declared.instructions.Instr.TheVariants.{Lui, Auipc, Jal, Jalr, Beq, Bne, Blt, Bge, Bltu, Bgeu, Lb, Lh, Lw, Lbu, Lhu, Sb, Sh, Sw, Addi, Slti, Sltiu, Xori, Ori, Andi, Slli, Srli, Srai, Add, Sub, Sll, Slt, Sltu, Xor, Srl, Sra, Or, And, Fence, Ecall, Ebreak}
+use Rattle.rv_decode.specs.declared.instructions.Instr.TheVariants.{Lui, Auipc, Jal, Jalr, Beq, Bne, Blt, Bge, Bltu, Bgeu, Lb, Lh, Lw, Lbu, Lhu, Sb, Sh, Sw, Addi, Slti, Sltiu, Xori, Ori, Andi, Slli, Srli, Srai, Add, Sub, Sll, Slt, Sltu, Xor, Srl, Sra, Or, And, Mul, Mulh, Mulhsu, Mulhu, Div, Divu, Rem, Remu, Fence, Ecall, Ebreak}
+use Rattle.rv_products.specs.Products.{high_product, high_product_mixed, high_product_unsigned, high_word, low_product}
+use Rattle.rv_products.specs.Quotients.{overflows, quotient, quotient_unsigned, remainder, remainder_unsigned}
 use Rattle.rv_step.specs.Accesses.{loaded_from, stored_in}
 use Rattle.rv_step.specs.Effects.{branches, computes, effect_of, flag, is_less_signed, jumps, loads, minus, passes, plus, shifted_down_signed, shifted_up, stores}
 use Rattle.rv_step.specs.declared.accesses.Width.{Width}
@@ -124,6 +126,17 @@ with_immediate_fits w =
     (tested (f3_of w) 6 _ _ (immediate_word w)
     (tested (f3_of w) 7 _ _ tt tt)))))))
 
+product_or_quotient_fits : (w : ℕ) → Fits (product_or_quotient_of w)
+product_or_quotient_fits w =
+    tested (f3_of w) 0 _ _ tt
+    (tested (f3_of w) 1 _ _ tt
+    (tested (f3_of w) 2 _ _ tt
+    (tested (f3_of w) 3 _ _ tt
+    (tested (f3_of w) 4 _ _ tt
+    (tested (f3_of w) 5 _ _ tt
+    (tested (f3_of w) 6 _ _ tt
+    (tested (f3_of w) 7 _ _ tt tt)))))))
+
 with_registers_fits : (w : ℕ) → Fits (with_registers_of w)
 with_registers_fits w =
     tested (f7_of w) 0x00 _ _
@@ -135,10 +148,11 @@ with_registers_fits w =
     (tested (f3_of w) 5 _ _ tt
     (tested (f3_of w) 6 _ _ tt
     (tested (f3_of w) 7 _ _ tt tt))))))))
+    (tested (f7_of w) 0x01 _ _ (product_or_quotient_fits w)
     (tested (f7_of w) 0x20 _ _
     (tested (f3_of w) 0 _ _ tt
     (tested (f3_of w) 5 _ _ tt tt))
-    tt)
+    tt))
 
 fence_fits : (w : ℕ) → Fits (fence_of w)
 fence_fits w = tested (f3_of w) 0 _ _ tt tt
@@ -212,6 +226,65 @@ signed_down_word a n is = signed_down (signed a) n (subst IsWord (sym (of_z-to_z
 and_word : (a b : ℕ) → IsWord a → IsWord (bit_and a b)
 and_word a b is = omega (arith, and_le_l a b, is)
 
+-- the word that is read as minus n
+negated_word : (n : ℕ) → IsWord (unsigned (neg_ℤ (pos n)))
+negated_word zero = lit< tt
+negated_word (suc n) = omega arith
+
+signed_abs : (a : ℕ) → IsWord a → unsigned_abs (signed a) ≤ 2 ^ 31
+signed_abs a is = omega (arith, ints)
+
+high_word_is : (z : ℤ) → unsigned_abs z < 2 ^ 64 → IsWord (high_word z)
+high_word_is (pos n) small = omega (arith, small)
+high_word_is (negsuc n) small = omega arith
+
+low_product_word : (a b : ℕ) → IsWord (low_product a b)
+low_product_word a b = mod-lt (a * b) (lit< tt)
+
+high_product_word : (a b : ℕ) → IsWord a → IsWord b → IsWord (high_product a b)
+high_product_word a b first second =
+    high_word_is (signed a *ℤ signed b)
+    (omega (arith, unsigned_abs-mul (signed a) (signed b), mul-le-mul (signed_abs a first) (signed_abs b second)))
+
+high_product_mixed_word : (a b : ℕ) → IsWord a → IsWord b → IsWord (high_product_mixed a b)
+high_product_mixed_word a b first second =
+    let below : b ≤ 2 ^ 32 = omega (arith, second) in
+    high_word_is (signed a *ℤ pos b) (omega (arith, unsigned_abs-mul (signed a) (pos b), mul-le-mul (signed_abs a first) below))
+
+high_product_unsigned_word : (a b : ℕ) → IsWord a → IsWord b → IsWord (high_product_unsigned a b)
+high_product_unsigned_word a b first second =
+    let above : a ≤ 2 ^ 32 - 1 = omega (arith, first) in
+    let below : b ≤ 2 ^ 32 - 1 = omega (arith, second) in
+    high_word_is (pos a *ℤ pos b) (omega (arith, unsigned_abs-mul (pos a) (pos b), mul-le-mul above below))
+
+divided_word : (x y : ℤ) → unsigned_abs x ≤ 2 ^ 31 → IsWord (unsigned (int_div x y))
+divided_word (pos a) (pos b) small = omega (arith, small, div-le_self a b)
+divided_word (pos a) (negsuc b) small = negated_word (a / suc b)
+divided_word (negsuc a) (pos b) small = negated_word (suc a / b)
+divided_word (negsuc a) (negsuc b) small = omega (arith, small, div-le_self (suc a) (suc b))
+
+left_word : (x y : ℤ) → unsigned_abs x ≤ 2 ^ 31 → IsWord (unsigned (int_rem x y))
+left_word (pos a) y small = omega (arith, small, mod-le a (unsigned_abs y))
+left_word (negsuc a) y small = negated_word (suc a % unsigned_abs y)
+
+quotient_word : (a b : ℕ) → IsWord a → IsWord (quotient a b)
+quotient_word a b first =
+    either_word (b == 0) (2 ^ 32 - 1) (if overflows a b then 2 ^ 31 else unsigned (int_div (signed a) (signed b))) (lit< tt)
+    (either_word (overflows a b) (2 ^ 31) (unsigned (int_div (signed a) (signed b))) (lit< tt)
+    (divided_word (signed a) (signed b) (signed_abs a first)))
+
+remainder_word : (a b : ℕ) → IsWord a → IsWord (remainder a b)
+remainder_word a b first =
+    either_word (b == 0) a (if overflows a b then 0 else unsigned (int_rem (signed a) (signed b))) first
+    (either_word (overflows a b) 0 (unsigned (int_rem (signed a) (signed b))) (lit< tt)
+    (left_word (signed a) (signed b) (signed_abs a first)))
+
+quotient_unsigned_word : (a b : ℕ) → IsWord a → IsWord (quotient_unsigned a b)
+quotient_unsigned_word a b first = either_word (b == 0) (2 ^ 32 - 1) (a / b) (lit< tt) (omega (arith, first, div-le_self a b))
+
+remainder_unsigned_word : (a b : ℕ) → IsWord a → IsWord (remainder_unsigned a b)
+remainder_unsigned_word a b first = either_word (b == 0) a (a % b) first (omega (arith, first, mod-le a b))
+
 pub effect_words : (i : Instr) (pc a b : ℕ) → HasWordImmediate i → IsWord a → IsWord b → GivesWords (effect_of i pc a b)
 effect_words (Lui rd imm) pc a b fits first second = computes_word pc imm fits
 effect_words (Auipc rd imm) pc a b fits first second = computes_word pc (plus pc imm) (sum_word pc imm)
@@ -250,6 +323,14 @@ effect_words (Srl rd rs1 rs2) pc a b fits first second = computes_word pc (a / 2
 effect_words (Sra rd rs1 rs2) pc a b fits first second = computes_word pc (shifted_down_signed a (b % 32)) (signed_down_word a (b % 32) first)
 effect_words (Or rd rs1 rs2) pc a b fits first second = computes_word pc (bit_or a b) (or_lt 32 a b first second)
 effect_words (And rd rs1 rs2) pc a b fits first second = computes_word pc (bit_and a b) (and_word a b first)
+effect_words (Mul rd rs1 rs2) pc a b fits first second = computes_word pc (low_product a b) (low_product_word a b)
+effect_words (Mulh rd rs1 rs2) pc a b fits first second = computes_word pc (high_product a b) (high_product_word a b first second)
+effect_words (Mulhsu rd rs1 rs2) pc a b fits first second = computes_word pc (high_product_mixed a b) (high_product_mixed_word a b first second)
+effect_words (Mulhu rd rs1 rs2) pc a b fits first second = computes_word pc (high_product_unsigned a b) (high_product_unsigned_word a b first second)
+effect_words (Div rd rs1 rs2) pc a b fits first second = computes_word pc (quotient a b) (quotient_word a b first)
+effect_words (Divu rd rs1 rs2) pc a b fits first second = computes_word pc (quotient_unsigned a b) (quotient_unsigned_word a b first)
+effect_words (Rem rd rs1 rs2) pc a b fits first second = computes_word pc (remainder a b) (remainder_word a b first)
+effect_words (Remu rd rs1 rs2) pc a b fits first second = computes_word pc (remainder_unsigned a b) (remainder_unsigned_word a b first)
 effect_words (Fence kept) pc a b fits first second = passes_word pc
 effect_words Ecall pc a b fits first second = passes_word pc
 effect_words Ebreak pc a b fits first second = passes_word pc

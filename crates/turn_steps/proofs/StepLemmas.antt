@@ -75,6 +75,14 @@ system_group (instr.Srl _ _ _) service = refl
 system_group (instr.Sra _ _ _) service = refl
 system_group (instr.Or _ _ _) service = refl
 system_group (instr.And _ _ _) service = refl
+system_group (instr.Mul _ _ _) service = refl
+system_group (instr.Mulh _ _ _) service = refl
+system_group (instr.Mulhsu _ _ _) service = refl
+system_group (instr.Mulhu _ _ _) service = refl
+system_group (instr.Div _ _ _) service = refl
+system_group (instr.Divu _ _ _) service = refl
+system_group (instr.Rem _ _ _) service = refl
+system_group (instr.Remu _ _ _) service = refl
 
 abbrev pub nothing : Option Look
 nothing = None

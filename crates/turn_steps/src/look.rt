@@ -22,23 +22,6 @@ pub struct Look {
     pub places: Places,
 }
 
-impl Look {
-    /// The same look once more. What is handed on by reference to a function that stays one needs a place in memory: where few turns
-    /// do that, they hand on a look of their own.
-    #[inline(always)]
-    pub fn again(&self) -> Look
-        ensures { result ≡ self.now }
-    {
-        Look {
-            word: self.word,
-            effect: self.effect.again(),
-            service: self.service,
-            group: self.group,
-            places: self.places,
-        }
-    }
-}
-
 /// Whether the group is that of an ECALL whose number is no service of the machine: a call of a policy's service.
 #[inline(always)]
 pub fn is_call(group: Group) -> bool

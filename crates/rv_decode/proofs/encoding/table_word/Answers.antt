@@ -42,6 +42,30 @@ returns-in-Or c = rw c.in-Or.is c.register_word-in-Or.ensures
 pub returns-in-And : goal.returns-in-And
 returns-in-And c = rw c.in-And.is c.register_word-in-And.ensures
 
+pub returns-in-Mul : goal.returns-in-Mul
+returns-in-Mul c = rw c.in-Mul.is c.register_word-in-Mul.ensures
+
+pub returns-in-Mulh : goal.returns-in-Mulh
+returns-in-Mulh c = rw c.in-Mulh.is c.register_word-in-Mulh.ensures
+
+pub returns-in-Mulhsu : goal.returns-in-Mulhsu
+returns-in-Mulhsu c = rw c.in-Mulhsu.is c.register_word-in-Mulhsu.ensures
+
+pub returns-in-Mulhu : goal.returns-in-Mulhu
+returns-in-Mulhu c = rw c.in-Mulhu.is c.register_word-in-Mulhu.ensures
+
+pub returns-in-Div : goal.returns-in-Div
+returns-in-Div c = rw c.in-Div.is c.register_word-in-Div.ensures
+
+pub returns-in-Divu : goal.returns-in-Divu
+returns-in-Divu c = rw c.in-Divu.is c.register_word-in-Divu.ensures
+
+pub returns-in-Rem : goal.returns-in-Rem
+returns-in-Rem c = rw c.in-Rem.is c.register_word-in-Rem.ensures
+
+pub returns-in-Remu : goal.returns-in-Remu
+returns-in-Remu c = rw c.in-Remu.is c.register_word-in-Remu.ensures
+
 pub returns-in-Fence : goal.returns-in-Fence
 returns-in-Fence c =
     rw (c.in-Fence.is, ← c.word.ensures.value) (fence_word_is c.word.result (omega arith) c.word.ensures.opcode c.word.ensures.f3)
