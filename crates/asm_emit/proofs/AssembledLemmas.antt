@@ -29,7 +29,7 @@ made_of first (Err error) draft is = absurd cc
 
 -- the additions of the lines of a layout, with the names as they are known
 abbrev additions_by : Places → List Line → Layout → Result (List (ℕ × Addition)) AsmError
-additions_by names lines layout = additions_of layout.harts layout.ram names lines layout.places
+additions_by names lines layout = additions_of layout.version layout.harts layout.ram names lines layout.places
 
 abbrev names_in : List Line → Layout → Places
 names_in lines layout = place_of_name lines layout.places layout.end
@@ -39,17 +39,17 @@ own : (names : Places) (lines : List Line) (layout : Layout) (r : Result (List (
 own names lines layout r named is = subst (λ (f : Places). additions_by f lines layout ≡ r) (λ i name. named name i) is
 
 pub fails_on : (names : Places) (lines : List Line) (layout : Layout) (end : AsmEnd) → layout_of lines ≡ Ok layout → ((name : List ℕ) → names name ≡ names_in lines layout name)
-    → FailsAs end (draft_with (empty_draft layout.harts) (additions_by names lines layout)) → FailsAs end (picture_of_lines lines)
+    → FailsAs end (draft_with (empty_draft layout.version layout.harts) (additions_by names lines layout)) → FailsAs end (picture_of_lines lines)
 unfolding picture_of_lines picture_at
 fails_on names lines layout ends.Memory found named fails = tt
 fails_on names lines layout (ends.Bad error) found named fails =
-    let additions = own names lines layout (Err error) named (refused (empty_draft layout.harts) (additions_by names lines layout) error fails) in
+    let additions = own names lines layout (Err error) named (refused (empty_draft layout.version layout.harts) (additions_by names lines layout) error fails) in
     rw (found, additions) refl
 
 pub gives_all : (names : Places) (lines : List Line) (layout : Layout) (draft : Draft) → layout_of lines ≡ Ok layout → ((name : List ℕ) → names name ≡ names_in lines layout name)
-    → draft_with (empty_draft layout.harts) (additions_by names lines layout) ≡ Ok draft → picture_of_lines lines ≡ Ok (picture_of layout.ram draft)
+    → draft_with (empty_draft layout.version layout.harts) (additions_by names lines layout) ≡ Ok draft → picture_of_lines lines ≡ Ok (picture_of layout.ram draft)
 unfolding picture_of_lines picture_at
 gives_all names lines layout draft found named gives =
-    let m = made_of (empty_draft layout.harts) (additions_by names lines layout) draft gives in
+    let m = made_of (empty_draft layout.version layout.harts) (additions_by names lines layout) draft gives in
     let additions = own names lines layout (Ok m.additions) named m.is in
     rw (found, additions) (ap (λ (d : Draft). Ok (picture_of layout.ram d)) m.made)

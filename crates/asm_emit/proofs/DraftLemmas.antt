@@ -6,6 +6,8 @@ use Rattle.std.specs.Option.{unwrap_or}
 use Rattle.std.proofs.lemmas.Bool.Decides.{nat_tests}
 use Rattle.std.proofs.lemmas.List.{drop_more, length-drop}
 use Rattle.std.proofs.lemmas.List.Elements.{recursion_from_All}
+use Rattle.image_format.specs.declared.version.Version.{Version}
+use Rattle.image_format.specs.declared.version.Version.TheVariants.{One, Two}
 use Rattle.image_format.specs.declared.rows.Edge as rows
 use Rattle.image_format.specs.Conditions.{is_heap_base, is_heap_bytes, is_place, is_ram, is_u32, extent_of, is_segment, is_clear_of, is_range, is_label, is_label_after, is_compartment, is_compartment_after, whole}
 use Rattle.asm_read.specs.declared.errors.AsmError.{AsmError}
@@ -22,7 +24,7 @@ use Rattle.asm_emit.specs.Edges.{edges_in_order}
 use Rattle.asm_emit.specs.Draft.{Draft, empty_draft, picture_of, with_addition, with_marked, with_words}
 use Rattle.asm_places.specs.Counts.{count_in}
 use Rattle.asm_emit.specs.Kept.{ArePlaced, HasRoom, IsAddition, IsDraft, compartment_end, is_label_id, is_protection, label_end, place_or}
-use Rattle.asm_emit.specs.Runs.{range_end}
+use Rattle.asm_emit.specs.Runs.{no_protection, range_end}
 use Rattle.asm_emit.specs.Values.{addition_in}
 use Rattle.asm_emit.proofs.RowLemmas.{code_kept, compartments_kept, labels_kept, raised, segments_kept}
 
@@ -36,7 +38,7 @@ later ram place next draft le kept = record {
   segments = raised extent_of (is_segment ram) is_clear_of range_end place next draft.segments le kept.segments;
   code = raised whole (is_range ram) is_clear_of range_end place next draft.code le kept.code;
   labels = raised whole (is_label ram) is_label_after label_end place next draft.labels le kept.labels;
-  compartments = raised whole (is_compartment ram) is_compartment_after compartment_end place next draft.compartments le kept.compartments;
+  compartments = raised whole (is_compartment draft.version ram) is_compartment_after compartment_end place next draft.compartments le kept.compartments;
   label = kept.label;
   protection = kept.protection;
 }
@@ -49,7 +51,7 @@ word_kept ram place address word draft small le aligned inside kept = record {
   segments = segments_kept ram place address word draft.segments small le aligned inside kept.segments;
   code = code_kept ram place address draft.marks.is_code draft.code le aligned inside kept.code;
   labels = labels_kept ram place address draft.marks.label draft.labels kept.label le aligned inside kept.labels;
-  compartments = compartments_kept ram place address draft.marks.protection draft.compartments kept.protection le aligned inside kept.compartments;
+  compartments = compartments_kept draft.version ram place address draft.marks.protection draft.compartments kept.protection le aligned inside kept.compartments;
   label = refl;
   protection = kept.protection;
 }
@@ -122,7 +124,7 @@ with_edges ram next edges draft kept = record {
   protection = kept.protection;
 }
 
-with_marks : (ram next : ℕ) (marks : Marks) (draft : Draft) → is_label_id marks.label ≡ true → is_protection marks.protection ≡ true → IsDraft ram next draft → IsDraft ram next (record draft { marks = marks })
+with_marks : (ram next : ℕ) (marks : Marks) (draft : Draft) → is_label_id marks.label ≡ true → is_protection draft.version marks.protection ≡ true → IsDraft ram next draft → IsDraft ram next (record draft { marks = marks })
 with_marks ram next marks draft labelled protected kept = record {
   heap_base = kept.heap_base;
   heap_bytes = kept.heap_bytes;
@@ -136,7 +138,7 @@ with_marks ram next marks draft labelled protected kept = record {
 }
 
 pub addition_kept : (harts ram place next : ℕ) (count : Option ℕ) (draft : Draft) (addition : Addition) → place % 4 ≡ 0 → place + 4 * unwrap_or count 0 ≤ next → next ≤ ram
-    → IsAddition harts ram count addition → IsDraft ram place draft → IsDraft ram next (with_addition draft place addition)
+    → IsAddition draft.version harts ram count addition → IsDraft ram place draft → IsDraft ram next (with_addition draft place addition)
 unfolding with_addition
 addition_kept harts ram place next count draft Nothing aligned ends inside is kept = (later ram place next draft (omega (arith, ends)) kept)
 addition_kept harts ram place next count draft (Words emission) aligned ends inside is kept =
@@ -156,22 +158,22 @@ addition_kept harts ram place next count draft (Edge source target) aligned ends
 addition_kept harts ram place next count draft (Compartment protection) aligned ends inside is kept = with_marks ram next (record draft.marks { protection = protection }) draft kept.label is (later ram place next draft (omega (arith, ends)) kept)
 
 -- the words of an addition have addresses, and its hart has an entry
-pub has_room : (harts ram place next entered : ℕ) (count : Option ℕ) (addition : Addition) → place + 4 * unwrap_or count 0 ≤ next → next ≤ ram → is_ram ram ≡ true → entered ≡ harts
-    → IsAddition harts ram count addition → HasRoom entered place addition
-has_room harts ram place next entered count Nothing ends inside small same is = tt
-has_room harts ram place next entered count (Words emission) ends inside small same is =
+pub has_room : (version : Version) (harts ram place next entered : ℕ) (count : Option ℕ) (addition : Addition) → place + 4 * unwrap_or count 0 ≤ next → next ≤ ram → is_ram ram ≡ true → entered ≡ harts
+    → IsAddition version harts ram count addition → HasRoom entered place addition
+has_room version harts ram place next entered count Nothing ends inside small same is = tt
+has_room version harts ram place next entered count (Words emission) ends inside small same is =
     let counted : place + 4 * length (words_of emission) ≤ next = subst (λ (c : Option ℕ). place + 4 * unwrap_or c 0 ≤ next) is.1 ends in
     let most : ram ≤ 16777216 = grind (arith, nat_tests, small) in
     omega (arith, counted, inside, most)
-has_room harts ram place next entered count (Heap base bytes) ends inside small same is = tt
-has_room harts ram place next entered count (Entry hart address) ends inside small same is =
+has_room version harts ram place next entered count (Heap base bytes) ends inside small same is = tt
+has_room version harts ram place next entered count (Entry hart address) ends inside small same is =
     let below : hart + 1 ≤ harts = grind (arith, nat_tests, is) in
     omega (arith, below, same)
-has_room harts ram place next entered count Code ends inside small same is = tt
-has_room harts ram place next entered count Data ends inside small same is = tt
-has_room harts ram place next entered count (additions.Label id) ends inside small same is = tt
-has_room harts ram place next entered count (Edge source target) ends inside small same is = tt
-has_room harts ram place next entered count (Compartment protection) ends inside small same is = tt
+has_room version harts ram place next entered count Code ends inside small same is = tt
+has_room version harts ram place next entered count Data ends inside small same is = tt
+has_room version harts ram place next entered count (additions.Label id) ends inside small same is = tt
+has_room version harts ram place next entered count (Edge source target) ends inside small same is = tt
+has_room version harts ram place next entered count (Compartment protection) ends inside small same is = tt
 
 -- the number of entries stays
 words_entries : (draft : Draft) (address : ℕ) (words : List ℕ) → (with_words draft address words).entries ≡ draft.entries
@@ -196,6 +198,24 @@ entries_kept draft place (additions.Label id) = refl
 entries_kept draft place (Edge source target) = refl
 entries_kept draft place (Compartment protection) = refl
 
+-- the version stays
+words_version : (draft : Draft) (address : ℕ) (words : List ℕ) → (with_words draft address words).version ≡ draft.version
+unfolding with_words
+words_version draft address [] = refl
+words_version draft address (word ∷ words) = words_version (with_marked draft address word) (address + 4) words
+
+pub version_kept : (draft : Draft) (place : ℕ) (addition : Addition) → (with_addition draft place addition).version ≡ draft.version
+unfolding with_addition
+version_kept draft place Nothing = refl
+version_kept draft place (Words emission) = words_version draft place (words_of emission)
+version_kept draft place (Heap base bytes) = refl
+version_kept draft place (Entry hart address) = refl
+version_kept draft place Code = refl
+version_kept draft place Data = refl
+version_kept draft place (additions.Label id) = refl
+version_kept draft place (Edge source target) = refl
+version_kept draft place (Compartment protection) = refl
+
 -- ---- the lines, one behind the other
 
 -- one more addition, and those behind it
@@ -204,28 +224,28 @@ regroup : (draft : Draft) (place : ℕ) (addition : Addition) (others : Result (
 regroup draft place addition (Ok more) = refl
 regroup draft place addition (Err error) = refl
 
-pub goes_on : (harts ram : ℕ) (names : Places) (draft : Draft) (left : List Line) (places : List ℕ) (line : Line) (place : ℕ) (lines : List Line) (others : List ℕ) (addition : Addition) (total : Result Draft AsmError)
-    → left ≡ line ∷ lines → places ≡ place ∷ others → at_line line.number (addition_in harts ram names place line.statement) ≡ Ok addition
-    → draft_with draft (additions_of harts ram names left places) ≡ total → draft_with (with_addition draft place addition) (additions_of harts ram names lines others) ≡ total
+pub goes_on : (version : Version) (harts ram : ℕ) (names : Places) (draft : Draft) (left : List Line) (places : List ℕ) (line : Line) (place : ℕ) (lines : List Line) (others : List ℕ) (addition : Addition) (total : Result Draft AsmError)
+    → left ≡ line ∷ lines → places ≡ place ∷ others → at_line line.number (addition_in version harts ram names place line.statement) ≡ Ok addition
+    → draft_with draft (additions_of version harts ram names left places) ≡ total → draft_with (with_addition draft place addition) (additions_of version harts ram names lines others) ≡ total
 unfolding additions_of
-goes_on harts ram names draft left places line place lines others addition total first second given so_far =
-    let one : draft_with draft (additions_of harts ram names left places) ≡ draft_with (with_addition draft place addition) (additions_of harts ram names lines others) =
-    rw (first, second, given) (regroup draft place addition (additions_of harts ram names lines others)) in
+goes_on version harts ram names draft left places line place lines others addition total first second given so_far =
+    let one : draft_with draft (additions_of version harts ram names left places) ≡ draft_with (with_addition draft place addition) (additions_of version harts ram names lines others) =
+    rw (first, second, given) (regroup draft place addition (additions_of version harts ram names lines others)) in
     sym one ∙ so_far
 
-pub stops : (harts ram : ℕ) (names : Places) (error : AsmError) (draft : Draft) (left : List Line) (places : List ℕ) (line : Line) (place : ℕ) (lines : List Line) (others : List ℕ) (total : Result Draft AsmError)
-    → left ≡ line ∷ lines → places ≡ place ∷ others → at_line line.number (addition_in harts ram names place line.statement) ≡ Err error
-    → draft_with draft (additions_of harts ram names left places) ≡ total → total ≡ Err error
+pub stops : (version : Version) (harts ram : ℕ) (names : Places) (error : AsmError) (draft : Draft) (left : List Line) (places : List ℕ) (line : Line) (place : ℕ) (lines : List Line) (others : List ℕ) (total : Result Draft AsmError)
+    → left ≡ line ∷ lines → places ≡ place ∷ others → at_line line.number (addition_in version harts ram names place line.statement) ≡ Err error
+    → draft_with draft (additions_of version harts ram names left places) ≡ total → total ≡ Err error
 unfolding additions_of
-stops harts ram names error draft left places line place lines others total first second refused so_far =
-    let one : draft_with draft (additions_of harts ram names left places) ≡ Err error = rw (first, second, refused) refl in
+stops version harts ram names error draft left places line place lines others total first second refused so_far =
+    let one : draft_with draft (additions_of version harts ram names left places) ≡ Err error = rw (first, second, refused) refl in
     sym so_far ∙ one
 
-pub is_done : (harts ram : ℕ) (names : Places) (draft : Draft) (left : List Line) (places : List ℕ) (total : Result Draft AsmError) → length left ≡ 0
-    → draft_with draft (additions_of harts ram names left places) ≡ total → total ≡ Ok draft
+pub is_done : (version : Version) (harts ram : ℕ) (names : Places) (draft : Draft) (left : List Line) (places : List ℕ) (total : Result Draft AsmError) → length left ≡ 0
+    → draft_with draft (additions_of version harts ram names left places) ≡ total → total ≡ Ok draft
 unfolding additions_of
-is_done harts ram names draft [] places total none so_far = sym so_far
-is_done harts ram names draft (line ∷ left) places total none so_far = absurd (omega arith)
+is_done version harts ram names draft [] places total none so_far = sym so_far
+is_done version harts ram names draft (line ∷ left) places total none so_far = absurd (omega arith)
 
 -- ---- places
 
@@ -266,8 +286,8 @@ turn ram lines places i line place below line-is place-is same placed =
     }
 
 -- a draft without anything
-pub empty_kept : (harts ram place : ℕ) → is_ram ram ≡ true → IsDraft ram place (empty_draft harts)
-empty_kept harts ram place small = record {
+pub empty_kept : (version : Version) (harts ram place : ℕ) → is_ram ram ≡ true → IsDraft ram place (empty_draft version harts)
+empty_kept version harts ram place small = record {
   heap_base = grind (arith, nat_tests);
   heap_bytes = grind (arith, nat_tests);
   entries = entries harts;
@@ -276,9 +296,13 @@ empty_kept harts ram place small = record {
   labels = record { in_order = refl; below = refl; few = omega arith };
   compartments = record { in_order = refl; below = refl; few = omega arith };
   label = refl;
-  protection = refl;
+  protection = unprotected version;
 }
   where
+    unprotected : (v : Version) → is_protection v no_protection ≡ true
+    unprotected One = refl
+    unprotected Two = refl
+
     at_zero : is_place ram 0 ≡ true
     at_zero = grind (arith, nat_tests, small)
 

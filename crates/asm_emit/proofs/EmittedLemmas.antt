@@ -92,4 +92,4 @@ all_edges draft (first ∷ more) =
     all_edges (with_addition draft first.0 first.1) more ∙ ap (λ (edges : List (ℕ × ℕ)). edges ++ edges_of more) (line_edges draft first.0 first.1) ∙ append_assoc draft.edges (edge_in first.1) (edges_of more)
 
 pub made_of_words : AreMadeOfWords
-made_of_words harts all = record { lists = all_lists (empty_draft harts) all; edges = all_edges (empty_draft harts) all }
+made_of_words version harts all = record { lists = all_lists (empty_draft version harts) all; edges = all_edges (empty_draft version harts) all }

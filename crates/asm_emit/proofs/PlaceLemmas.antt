@@ -14,7 +14,7 @@ use Rattle.shared_terms.specs.Steps.{demand}
 use Rattle.asm_places.specs.Layouts.{Layout, layout_of}
 use Rattle.asm_places.specs.Places.{goes_back, is_below, is_reached, place_after_line, next_place, origin_in, place_past, places_from}
 use Rattle.asm_places.specs.Seen.{is_again, is_named}
-use Rattle.asm_places.specs.Sizes.{harts_of, natural_where, ram_of}
+use Rattle.asm_places.specs.Sizes.{harts_of, natural_where, ram_of, version_of}
 use Rattle.asm_places.specs.Counts.{count_in}
 use Rattle.asm_words.specs.Emission.{count_of}
 use Rattle.asm_emit.specs.Kept.{ArePlaced, place_or}
@@ -120,8 +120,9 @@ all_placed ram before place (line ∷ lines) r aligned is =
 pub are_placed : (lines : List Line) (layout : Layout) → layout_of lines ≡ Ok layout → ArePlaced layout.ram lines layout.places
 unfolding layout_of
 are_placed lines layout is =
-    let harts = passes (harts_of lines) _ layout is in
+    let version = passes (version_of lines) _ layout is in
+    let harts = passes (harts_of lines) _ layout version.rest in
     let ram = passes (ram_of lines) _ layout harts.rest in
     let found = passes (places_from ram.value [] 0 lines) _ layout ram.rest in
-    let same : record { harts = harts.value; ram = ram.value; places = found.value.0; end = found.value.1 } ≡ layout = ok_is _ layout found.rest in
+    let same : record { version = version.value; harts = harts.value; ram = ram.value; places = found.value.0; end = found.value.1 } ≡ layout = ok_is _ layout found.rest in
     subst (λ (l : Layout). ArePlaced l.ram lines l.places) same (all_placed ram.value [] 0 lines found.value refl found.first)

@@ -27,7 +27,7 @@ use Rattle.asm_read.specs.Instructions.{branch, immediate, jump, jump_register, 
 use Rattle.asm_read.specs.Lines.{statement_of}
 use Rattle.asm_read.specs.Operands.{Text, no_operand, one_operand, three_operands, two_operands}
 use Rattle.asm_read.specs.Pseudo.{jump_alone, load_address, load_number, move_register, no_operation, return_jump}
-use Rattle.asm_read.specs.Values.{number_at, register_at, target_at}
+use Rattle.asm_read.specs.Values.{mask_at, number_at, register_at, target_at}
 use Rattle.shared_terms.proofs.StepLemmas.{ok_is}
 use Rattle.asm_emit.proofs.StepLemmas.{from_some, passes}
 
@@ -249,12 +249,13 @@ unfolding compartment
 compartment_read text s is =
     let texts = passes (three_operands text) _ s is in
     let owner = passes (number_at texts.value.0) _ s texts.rest in
-    let into = passes (number_at texts.value.1) _ s owner.rest in
-    let write = passes (number_at texts.value.2) _ s into.rest in
+    let into = passes (mask_at texts.value.1) _ s owner.rest in
+    let write = passes (mask_at texts.value.2) _ s into.rest in
     subst HasRegisters (ok_is _ s write.rest) tt
 
 directive_read : (directive : Directive) (text : Text) (s : Statement) → directive_of directive text ≡ Ok s → HasRegisters s
 unfolding directive_of
+directive_read directives.Version text s is = of_number_read statements.Version text s (λ n. tt) is
 directive_read directives.Harts text s is = of_number_read statements.Harts text s (λ n. tt) is
 directive_read directives.Ram text s is = of_number_read statements.Ram text s (λ n. tt) is
 directive_read directives.Heap text s is = of_numbers_read statements.Heap text s (λ m n. tt) is

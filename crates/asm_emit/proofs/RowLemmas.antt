@@ -6,12 +6,12 @@ use Rattle.std.proofs.lemmas.Bool.{le-leb, leb-true}
 use Rattle.std.proofs.lemmas.Bool.Decides.{nat_tests}
 use Rattle.std.proofs.lemmas.List.{length-append}
 use Rattle.std.proofs.lemmas.List.Folds.{list_all-append}
+use Rattle.image_format.specs.declared.version.Version.{Version}
 use Rattle.image_format.specs.declared.rows.WordRange.{WordRange}
 use Rattle.image_format.specs.declared.rows.Label.{Label}
-use Rattle.image_format.specs.declared.rows.CompartmentRange.{CompartmentRange}
 use Rattle.image_format.specs.Building.{end_of, longer, one_word, with_word}
 use Rattle.image_format.specs.Conditions.{are_rows, extent_of, in_order, is_clear_of, is_compartment, is_compartment_after, is_label, is_label_after, is_range, is_segment, is_u32, whole}
-use Rattle.image_format.specs.Picture.{Segment}
+use Rattle.image_format.specs.Picture.{CompartmentRow, Segment}
 use Rattle.asm_emit.specs.declared.marks.Protection.{Protection}
 use Rattle.asm_emit.specs.Kept.{AreUpTo, compartment_end, is_label_id, is_protection, label_end}
 use Rattle.asm_emit.specs.Runs.{is_same_protection, joined_compartment, joined_range, no_protection, one_word_range, protected_as, protected_range, protection_of, range_end, run_or_both, with_code, with_label, with_protected, with_run}
@@ -146,12 +146,12 @@ code_kept ram place address false code le aligned inside kept = raised whole (is
 
 -- ---- compartments
 
-record AreJoined (last next run : CompartmentRange) : Type 0 where
+record AreJoined (last next run : CompartmentRow) : Type 0 where
   range : WordRange
   joined : joined_range last.range next.range ≡ Some range
   is : run ≡ protected_range (protection_of last) range
 
-are_joined : (last next run : CompartmentRange) → joined_compartment last next ≡ Some run → AreJoined last next run
+are_joined : (last next run : CompartmentRow) → joined_compartment last next ≡ Some run → AreJoined last next run
 are_joined last next run e = go (is_same_protection (protection_of last) (protection_of next)) refl
   where
     ranges : (r : Option WordRange) → joined_range last.range next.range ≡ r → protected_as (protection_of last) r ≡ Some run → AreJoined last next run
@@ -162,37 +162,37 @@ are_joined last next run e = go (is_same_protection (protection_of last) (protec
     go true t = ranges (joined_range last.range next.range) refl (rw t at e)
     go false t = let none : None ≡ Some run = rw t at e in absurd cc
 
-compartment_fits : (ram : ℕ) (row : CompartmentRange) (range : WordRange) → is_compartment ram row ≡ true → is_range ram range ≡ true → is_compartment ram (protected_range (protection_of row) range) ≡ true
-compartment_fits ram row range fit fits = grind (arith, fit, fits)
+compartment_fits : (version : Version) (ram : ℕ) (row : CompartmentRow) (range : WordRange) → is_compartment version ram row ≡ true → is_range ram range ≡ true → is_compartment version ram (protected_range (protection_of row) range) ≡ true
+compartment_fits version ram row range fit fits = grind (arith, fit, fits)
 
-protected_fits : (ram : ℕ) (protection : Protection) (range : WordRange) → is_protection protection ≡ true → is_range ram range ≡ true → is_compartment ram (protected_range protection range) ≡ true
-protected_fits ram protection range fit fits = grind (arith, fit, fits)
+protected_fits : (version : Version) (ram : ℕ) (protection : Protection) (range : WordRange) → is_protection version protection ≡ true → is_range ram range ≡ true → is_compartment version ram (protected_range protection range) ≡ true
+protected_fits version ram protection range fit fits = grind (arith, fit, fits)
 
-range_fits : (ram : ℕ) (row : CompartmentRange) → is_compartment ram row ≡ true → is_range ram row.range ≡ true
-range_fits ram row fit = grind (arith, fit)
+range_fits : (version : Version) (ram : ℕ) (row : CompartmentRow) → is_compartment version ram row ≡ true → is_range ram row.range ≡ true
+range_fits version ram row fit = grind (arith, fit)
 
-compartment_extends : (ram address : ℕ) (protection : Protection) → is_protection protection ≡ true → address % 4 ≡ 0 → address + 4 ≤ ram
-    → Extends whole (is_compartment ram) is_compartment_after compartment_end joined_compartment address (protected_range protection (one_word_range address))
-compartment_extends ram address protection protected aligned inside =
+compartment_extends : (version : Version) (ram address : ℕ) (protection : Protection) → is_protection version protection ≡ true → address % 4 ≡ 0 → address + 4 ≤ ram
+    → Extends whole (is_compartment version ram) is_compartment_after compartment_end joined_compartment address (protected_range protection (one_word_range address))
+compartment_extends version ram address protection protected aligned inside =
     let word = one_word_range address in
     let next = protected_range protection word in
     let code = code_extends ram address aligned inside in
     record {
-      fits_next = protected_fits ram protection word protected (word_fits ram address aligned inside);
+      fits_next = protected_fits version ram protection word protected (word_fits ram address aligned inside);
       ends_next = omega arith;
       behind = λ before le. le-leb (compartment_end before) address le;
-      fits_run = λ last run fit e. let j = are_joined last next run e in subst (λ (r : CompartmentRange). is_compartment ram r ≡ true) (sym j.is) (compartment_fits ram last j.range fit (code.fits_run last.range j.range (range_fits ram last fit) j.joined));
-      ends_run = λ last run e. let j = are_joined last next run e in subst (λ (r : CompartmentRange). compartment_end r ≤ address + 4) (sym j.is) (code.ends_run last.range j.range j.joined);
+      fits_run = λ last run fit e. let j = are_joined last next run e in subst (λ (r : CompartmentRow). is_compartment version ram r ≡ true) (sym j.is) (compartment_fits version ram last j.range fit (code.fits_run last.range j.range (range_fits version ram last fit) j.joined));
+      ends_run = λ last run e. let j = are_joined last next run e in subst (λ (r : CompartmentRow). compartment_end r ≤ address + 4) (sym j.is) (code.ends_run last.range j.range j.joined);
       begins = λ before last run e. let j = are_joined last next run e in ap (is_compartment_after before) j.is ∙ code.begins before.range last.range j.range j.joined;
     }
 
-pub compartments_kept : (ram place address : ℕ) (protection : Protection) (rows : List CompartmentRange) → is_protection protection ≡ true → place ≤ address → address % 4 ≡ 0 → address + 4 ≤ ram
-    → AreUpTo whole (is_compartment ram) is_compartment_after compartment_end place rows → AreUpTo whole (is_compartment ram) is_compartment_after compartment_end (address + 4) (with_protected protection rows address)
-compartments_kept ram place address protection rows protected le aligned inside kept = go (is_same_protection protection no_protection) refl
+pub compartments_kept : (version : Version) (ram place address : ℕ) (protection : Protection) (rows : List CompartmentRow) → is_protection version protection ≡ true → place ≤ address → address % 4 ≡ 0 → address + 4 ≤ ram
+    → AreUpTo whole (is_compartment version ram) is_compartment_after compartment_end place rows → AreUpTo whole (is_compartment version ram) is_compartment_after compartment_end (address + 4) (with_protected protection rows address)
+compartments_kept version ram place address protection rows protected le aligned inside kept = go (is_same_protection protection no_protection) refl
   where
-    go : (b : Bool) → is_same_protection protection no_protection ≡ b → AreUpTo whole (is_compartment ram) is_compartment_after compartment_end (address + 4) (with_protected protection rows address)
-    go true t = rw t (raised whole (is_compartment ram) is_compartment_after compartment_end place (address + 4) rows (omega (arith, le)) kept)
-    go false t = rw t (up_to_with whole (is_compartment ram) is_compartment_after compartment_end joined_compartment address (protected_range protection (one_word_range address)) (compartment_extends ram address protection protected aligned inside) place rows le kept)
+    go : (b : Bool) → is_same_protection protection no_protection ≡ b → AreUpTo whole (is_compartment version ram) is_compartment_after compartment_end (address + 4) (with_protected protection rows address)
+    go true t = rw t (raised whole (is_compartment version ram) is_compartment_after compartment_end place (address + 4) rows (omega (arith, le)) kept)
+    go false t = rw t (up_to_with whole (is_compartment version ram) is_compartment_after compartment_end joined_compartment address (protected_range protection (one_word_range address)) (compartment_extends version ram address protection protected aligned inside) place rows le kept)
 
 -- ---- labels
 

@@ -278,6 +278,7 @@ emits_small places place statements.Ecall has = done (one Ecall) (alone_small (w
 emits_small places place statements.Ebreak has = done (one Ebreak) (alone_small (word_of_instr Ebreak) ebreak_small)
 emits_small places place (statements.LoadNumber rd n) has = done (load_number rd n) (load_number_small rd n has)
 emits_small places place (statements.LoadAddress rd target) has = load_address_emits places rd target has
+emits_small places place (statements.Version n) has = nothing_small
 emits_small places place (statements.Harts n) has = nothing_small
 emits_small places place (statements.Ram n) has = nothing_small
 emits_small places place (statements.Heap base bytes) has = nothing_small

@@ -1,10 +1,10 @@
 -- An image that is being built, line by line.
 use Rattle.std.specs.Prelude.{ℕ, ◌+◌, true, false, List, [], ◌∷◌, ◌++◌, Some, None, replicate, slice_set}
+use Rattle.image_format.specs.declared.version.Version.{Version}
 use Rattle.image_format.specs.declared.rows.WordRange.{WordRange}
 use Rattle.image_format.specs.declared.rows.Label.{Label}
-use Rattle.image_format.specs.declared.rows.CompartmentRange.{CompartmentRange}
 use Rattle.image_format.specs.Building.{with_word}
-use Rattle.image_format.specs.Picture.{Picture, Segment}
+use Rattle.image_format.specs.Picture.{CompartmentRow, Picture, Segment}
 use Rattle.asm_words.specs.Emission.{words_of}
 use Rattle.asm_emit.specs.declared.marks.Marks.{Marks}
 use Rattle.asm_emit.specs.declared.values.Addition.{Addition}
@@ -12,8 +12,10 @@ use Rattle.asm_emit.specs.declared.values.Addition.TheVariants as additions
 use Rattle.asm_emit.specs.Edges.{edges_in_order}
 use Rattle.asm_emit.specs.Runs.{no_protection, with_code, with_label, with_protected}
 
--- the heap region, an entry for each hart, the lists so far with the edges as the source has them, and the marks of the next word
+-- the version, the heap region, an entry for each hart, the lists so far with the edges as the source has them, and the marks of
+-- the next word
 pub record Draft : Type 0 where
+  pub version : Version
   pub heap_base : ℕ
   pub heap_bytes : ℕ
   pub entries : List ℕ
@@ -21,7 +23,7 @@ pub record Draft : Type 0 where
   pub code : List WordRange
   pub labels : List Label
   pub edges : List (ℕ × ℕ)
-  pub compartments : List CompartmentRange
+  pub compartments : List CompartmentRow
   pub marks : Marks
 
 -- a source begins in a text, without a label and without protection
@@ -29,8 +31,9 @@ abbrev pub first_marks : Marks
 first_marks = record { is_code = true; label = None; protection = no_protection }
 
 -- no heap region, and each hart starts at 0
-abbrev pub empty_draft : ℕ → Draft
-empty_draft harts = record {
+abbrev pub empty_draft : Version → ℕ → Draft
+empty_draft version harts = record {
+  version = version;
   heap_base = 0;
   heap_bytes = 0;
   entries = replicate harts 0;
@@ -81,6 +84,7 @@ with_additions draft (first ∷ more) = with_additions (with_addition draft firs
 -- the image that a draft has become
 abbrev pub picture_of : ℕ → Draft → Picture
 picture_of ram draft = record {
+  version = draft.version;
   ram = ram;
   heap_base = draft.heap_base;
   heap_bytes = draft.heap_bytes;

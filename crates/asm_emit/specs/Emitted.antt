@@ -1,10 +1,10 @@
 -- The words that lines emit, each with its marks, and what an image has by them alone.
 use Rattle.std.specs.Prelude.{◌≡◌, ℕ, ◌+◌, true, false, List, [], ◌∷◌, ◌++◌, Some}
+use Rattle.image_format.specs.declared.version.Version.{Version}
 use Rattle.image_format.specs.declared.rows.WordRange.{WordRange}
 use Rattle.image_format.specs.declared.rows.Label.{Label}
-use Rattle.image_format.specs.declared.rows.CompartmentRange.{CompartmentRange}
 use Rattle.image_format.specs.Building.{with_word}
-use Rattle.image_format.specs.Picture.{Segment}
+use Rattle.image_format.specs.Picture.{CompartmentRow, Segment}
 use Rattle.asm_words.specs.Emission.{words_of}
 use Rattle.asm_emit.specs.declared.marks.Marks.{Marks}
 use Rattle.asm_emit.specs.declared.values.Addition.{Addition}
@@ -56,7 +56,7 @@ pub record WordLists : Type 0 where
   pub segments : List Segment
   pub code : List WordRange
   pub labels : List Label
-  pub compartments : List CompartmentRange
+  pub compartments : List CompartmentRow
 
 -- where no word is emitted all four are empty
 abbrev pub no_lists : WordLists
@@ -98,6 +98,6 @@ pub record IsMadeOfWords (additions : List (ℕ × Addition)) (draft : Draft) : 
   pub lists : lists_in draft ≡ lists_of no_lists (words_of_additions first_marks additions)
   pub edges : draft.edges ≡ edges_of additions
 
--- the law of each draft that lines make out of an empty one, for any number of harts
+-- the law of each draft that lines make out of an empty one, of any version and for any number of harts
 abbrev pub AreMadeOfWords : Type 0
-AreMadeOfWords = (harts : ℕ) (additions : List (ℕ × Addition)) → IsMadeOfWords additions (with_additions (empty_draft harts) additions)
+AreMadeOfWords = (version : Version) (harts : ℕ) (additions : List (ℕ × Addition)) → IsMadeOfWords additions (with_additions (empty_draft version harts) additions)

@@ -2,9 +2,10 @@
 use Rattle.std.specs.Prelude.{◌≡◌, ℕ, ◌+◌, ◌*◌, ◌%◌, ◌^◌, ◌<◌, ◌≤◌, IsTrue, nat_le, Bool, true, ◌&&◌, List, [], ◌∷◌, length, Option, Some, None}
 use Rattle.std.specs.List.{list_all}
 use Rattle.std.specs.Option.{unwrap_or}
+use Rattle.image_format.specs.declared.version.Version.{Version}
 use Rattle.image_format.specs.declared.rows.Label.{Label}
-use Rattle.image_format.specs.declared.rows.CompartmentRange.{CompartmentRange}
-use Rattle.image_format.specs.Conditions.{are_rows, extent_of, is_clear_of, is_compartment, is_compartment_after, is_heap_base, is_heap_bytes, is_label, is_label_after, is_owner, is_place, is_range, is_segment, is_u32, whole}
+use Rattle.image_format.specs.Picture.{CompartmentRow}
+use Rattle.image_format.specs.Conditions.{are_rows, extent_of, is_clear_of, is_compartment, is_compartment_after, is_heap_base, is_heap_bytes, is_label, is_label_after, is_mask, is_owner, is_place, is_range, is_segment, is_u32, whole}
 use Rattle.asm_read.specs.declared.statements.Line.{Line}
 use Rattle.asm_words.specs.Emission.{words_of}
 use Rattle.asm_places.specs.Counts.{count_in}
@@ -29,12 +30,16 @@ abbrev pub label_end : Label → ℕ
 label_end label = label.address + 4
 
 -- the address behind the last word of the row
-abbrev pub compartment_end : CompartmentRange → ℕ
+abbrev pub compartment_end : CompartmentRow → ℕ
 compartment_end row = range_end row.range
 
--- one of 32 compartments, and two masks of four bytes
-abbrev pub is_protection : Protection → Bool
-is_protection protection = is_owner protection.owner && is_u32 protection.into && is_u32 protection.write
+-- one of the compartments that an image of the version may have, and two sets of them
+abbrev pub is_protection : Version → Protection → Bool
+is_protection version protection = is_owner version protection.owner && is_mask version protection.into && is_mask version protection.write
+
+-- the marks of the next word have an owner and sets that an image of the draft's version may have
+abbrev pub IsProtected : Draft → Type 0
+IsProtected draft = IsTrue (is_protection draft.version draft.marks.protection)
 
 -- no label, or an id of four bytes
 abbrev pub is_label_id : Option ℕ → Bool
@@ -49,21 +54,21 @@ pub record IsDraft (ram place : ℕ) (draft : Draft) : Type 0 where
   pub segments : AreUpTo extent_of (is_segment ram) is_clear_of range_end place draft.segments
   pub code : AreUpTo whole (is_range ram) is_clear_of range_end place draft.code
   pub labels : AreUpTo whole (is_label ram) is_label_after label_end place draft.labels
-  pub compartments : AreUpTo whole (is_compartment ram) is_compartment_after compartment_end place draft.compartments
+  pub compartments : AreUpTo whole (is_compartment draft.version ram) is_compartment_after compartment_end place draft.compartments
   pub label : IsTrue (is_label_id draft.marks.label)
-  pub protection : IsTrue (is_protection draft.marks.protection)
+  pub protection : IsProtected draft
 
 -- ---- what is added
 
 -- the numbers of what a statement with so many words adds are in their ranges
-abbrev pub IsAddition : ℕ → ℕ → Option ℕ → Addition → Type 0
-IsAddition harts ram count (Words emission) = Fits emission × (count ≡ Some (length (words_of emission)))
-IsAddition harts ram count (Heap base bytes) = IsTrue (is_heap_base ram base && is_heap_bytes ram base bytes)
-IsAddition harts ram count (Entry hart address) = IsTrue (nat_le (hart + 1) harts && is_place ram address)
-IsAddition harts ram count (additions.Label id) = IsTrue (is_u32 id)
-IsAddition harts ram count (Edge source target) = IsTrue (is_u32 source && is_u32 target)
-IsAddition harts ram count (Compartment protection) = IsTrue (is_protection protection)
-IsAddition harts ram count _ = Unit {0}
+abbrev pub IsAddition : Version → ℕ → ℕ → Option ℕ → Addition → Type 0
+IsAddition version harts ram count (Words emission) = Fits emission × (count ≡ Some (length (words_of emission)))
+IsAddition version harts ram count (Heap base bytes) = IsTrue (is_heap_base ram base && is_heap_bytes ram base bytes)
+IsAddition version harts ram count (Entry hart address) = IsTrue (nat_le (hart + 1) harts && is_place ram address)
+IsAddition version harts ram count (additions.Label id) = IsTrue (is_u32 id)
+IsAddition version harts ram count (Edge source target) = IsTrue (is_u32 source && is_u32 target)
+IsAddition version harts ram count (Compartment protection) = IsTrue (is_protection version protection)
+IsAddition version harts ram count _ = Unit {0}
 
 -- ---- places
 

@@ -2,7 +2,7 @@
 use Rattle.std.specs.Prelude.{ℕ, ◌+◌, ◌*◌, ◌==◌, Bool, ◌&&◌, List, [], ◌∷◌, ◌++◌, Option, Some, None, if◌then◌else◌}
 use Rattle.image_format.specs.declared.rows.WordRange.{WordRange}
 use Rattle.image_format.specs.declared.rows.Label.{Label}
-use Rattle.image_format.specs.declared.rows.CompartmentRange.{CompartmentRange}
+use Rattle.image_format.specs.Picture.{CompartmentRow}
 use Rattle.asm_emit.specs.declared.marks.Protection.{Protection}
 
 -- the run that a run and the next word are together, or both
@@ -37,7 +37,7 @@ with_code is_code ranges address = if is_code then with_run joined_range ranges 
 -- ---- words of compartments
 
 -- who owns words, who may jump to them and who may write them
-abbrev pub protection_of : CompartmentRange → Protection
+abbrev pub protection_of : CompartmentRow → Protection
 protection_of row = record { owner = row.owner; into = row.into; write = row.write }
 
 abbrev pub is_same_protection : Protection → Protection → Bool
@@ -48,23 +48,23 @@ abbrev pub no_protection : Protection
 no_protection = record { owner = 0; into = 0; write = 0 }
 
 -- the row that gives the words of the range this protection
-abbrev pub protected_range : Protection → WordRange → CompartmentRange
+abbrev pub protected_range : Protection → WordRange → CompartmentRow
 protected_range protection range = record { range = range; owner = protection.owner; into = protection.into; write = protection.write }
 
 -- the range, if there is one, under a protection
-abbrev pub protected_as : Protection → Option WordRange → Option CompartmentRange
+abbrev pub protected_as : Protection → Option WordRange → Option CompartmentRow
 protected_as protection (Some range) = Some (protected_range protection range)
 protected_as protection None = None
 
 -- a range and the next word, where that one has the same protection and stands where the range ends
-abbrev pub joined_compartment : CompartmentRange → CompartmentRange → Option CompartmentRange
+abbrev pub joined_compartment : CompartmentRow → CompartmentRow → Option CompartmentRow
 joined_compartment last next =
     if is_same_protection (protection_of last) (protection_of next)
     then protected_as (protection_of last) (joined_range last.range next.range)
     else None
 
 -- a word with a protection
-abbrev pub with_protected : Protection → List CompartmentRange → ℕ → List CompartmentRange
+abbrev pub with_protected : Protection → List CompartmentRow → ℕ → List CompartmentRow
 with_protected protection rows address =
     if is_same_protection protection no_protection then rows
     else with_run joined_compartment rows (protected_range protection (one_word_range address))

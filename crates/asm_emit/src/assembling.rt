@@ -28,9 +28,9 @@ fn addition_at<'a>(
     line: &Line<'a>,
 ) -> Result<Addition, AsmError>
     requires { 1 ≤ layout.now.harts }
-    ensures value { result ≡ at_line line.now.number (addition_in
+    ensures value { result ≡ at_line line.now.number (addition_in layout.now.version
         layout.now.harts layout.now.ram (map.get names.now) place line.now.statement) }
-    ensures fits { IfOk result (IsAddition
+    ensures fits { IfOk result (IsAddition layout.now.version
         layout.now.harts layout.now.ram (count_in line.now.statement)) }
 {
     let number = line.number;
@@ -51,13 +51,15 @@ fn builder_of<'a>(
     requires ram { IsTrue (is_ram layout.now.ram) }
     requires count { length layout.now.places.items ≡ length lines.now }
     requires placed { ArePlaced layout.now.ram lines.now layout.now.places.items }
-    ensures value { Gives draft_of result (draft_with (empty_draft layout.now.harts) (additions_of
-        layout.now.harts layout.now.ram (map.get names.now) lines.now layout.now.places.items)) }
+    ensures value { Gives draft_of result (draft_with
+        (empty_draft layout.now.version layout.now.harts)
+        (additions_of layout.now.version layout.now.harts layout.now.ram
+        (map.get names.now) lines.now layout.now.places.items)) }
     ensures harts { IfOk result (λ builder. length builder.entries.items ≡ layout.now.harts) }
     ensures kept { IfOk result (λ builder.
         IsDraft layout.now.ram layout.now.ram (draft_of builder)) }
 {
-    let mut builder = Builder::new(alloc, layout.harts)?;
+    let mut builder = Builder::new(alloc, layout.version, layout.harts)?;
     for (i, line) in lines.iter().enumerate() {
         let place = layout.places[i];
         let addition = addition_at(layout, names, place, line)?;
@@ -94,15 +96,17 @@ fn image_of(alloc: Global, ram: u32, builder: Builder) -> Result<Image, AllocErr
 
 /// The image of a source's lines, or its first error.
 ///
-/// First come the errors of the sizes and then, by line, those of the places: see `asm_places::layout_of`. Then, by line, a name
-/// without a place is `NoName`, and a number outside the range of its field `Range`: immediates and offsets as
+/// First come the errors of the version and the sizes and then, by line, those of the places: see `asm_places::layout_of`. Then,
+/// by line, a name without a place is `NoName`, and a number outside the range of its field `Range`: immediates and offsets as
 /// `asm_words::emission_of` has them; the heap region, a multiple of 4 in the RAM with a multiple of 4 bytes that end in it; the
-/// hart of `.entry`, below the number of harts, and its address, a multiple of 4 in the RAM; owners 0 to 31; ids and masks 0 to
-/// 2^32 - 1. They are looked at also where they have no effect.
+/// hart of `.entry`, below the number of harts, and its address, a multiple of 4 in the RAM; ids 0 to 2^32 - 1; owners 0 to 31
+/// and masks 0 to 2^32 - 1 in version 1, owners 0 to 127 and masks 0 to 2^128 - 1 in version 2. They are looked at also where
+/// they have no effect.
 ///
-/// The image has as segments the maximal runs of emitted words, as code ranges those that stand in a text, as compartment ranges
-/// the maximal runs of one protection other than 0, 0, 0, the labels of words, and each edge once. `Memory` says nothing of the
-/// source, but that it has at most 2^32 - 1 edges if there is memory enough. The time is O(n log n) in lines and words.
+/// The image has the version that the source asks for, as segments the maximal runs of emitted words, as code ranges those that
+/// stand in a text, as compartment ranges the maximal runs of one protection other than 0, 0, 0, the labels of words, and each
+/// edge once. `Memory` says nothing of the source, but that it has at most 2^32 - 1 edges if there is memory enough. The time is
+/// O(n log n) in lines and words.
 #[tactic(auto, unfolding(crate::specs::Assembled::picture_of_lines, crate::specs::Assembled::picture_at))]
 pub fn assemble<'a>(alloc: Global, lines: &[Line<'a>]) -> Result<Image, AsmEnd>
     ensures { Gives (λ image. image) result (picture_of_lines lines.now) }

@@ -3,14 +3,14 @@
 ghost use Rattle.std.specs.Prelude.{◌≡◌, ◌+◌, ◌*◌, ◌^◌, ◌<◌, ◌≤◌, IfOk, OnOk, length, replicate};
 ghost use Rattle.asm_words.specs.Emission.{words_of};
 ghost use Rattle.asm_emit.specs.Draft.{empty_draft, with_addition, with_marked, with_words};
-ghost use Rattle.asm_emit.specs.Kept.{HasRoom};
+ghost use Rattle.asm_emit.specs.Kept.{HasRoom, IsProtected};
 ghost use Rattle.asm_emit.specs.Seen.{draft_of};
 
 use crate::marks::Marks;
-use crate::runs::{put_code, put_label, put_protected};
+use crate::runs::{no_rows, put_code, put_label, put_protected};
 use crate::values::Addition;
 use asm_words::Emission;
-use image_format::{CompartmentRange, Label, Segments, WordRange};
+use image_format::{CompartmentRanges, Label, Segments, Version, WordRange};
 use std::alloc::{AllocError, Global};
 
 /// The parts of an image so far, and the marks of the next word.
@@ -25,7 +25,8 @@ pub(crate) struct Builder {
     pub labels: Vec<Label>,
     /// Sources and targets, as the lines have them.
     pub edges: Vec<(u32, u32)>,
-    pub compartments: Vec<CompartmentRange>,
+    /// In rows of the image's version.
+    pub compartments: CompartmentRanges,
     pub marks: Marks,
 }
 
@@ -33,8 +34,8 @@ impl Builder {
     /// No heap region, and each hart starts at 0.
     ///
     /// Only running out of memory is an error.
-    pub fn new(alloc: Global, harts: u32) -> Result<Builder, AllocError>
-        ensures { IfOk result (λ builder. draft_of builder ≡ empty_draft harts) }
+    pub fn new(alloc: Global, version: Version, harts: u32) -> Result<Builder, AllocError>
+        ensures { IfOk result (λ builder. draft_of builder ≡ empty_draft version harts) }
     {
         let entries = vec![in alloc; 0; harts as usize]?;
         Ok(Builder {
@@ -45,7 +46,7 @@ impl Builder {
             code: Vec::new(alloc),
             labels: Vec::new(alloc),
             edges: Vec::new(alloc),
-            compartments: Vec::new(alloc),
+            compartments: no_rows(alloc, version),
             marks: Marks::FIRST,
         })
     }
@@ -54,6 +55,7 @@ impl Builder {
     ///
     /// Only running out of memory is an error.
     fn put_word(&mut self, address: u32, word: u32) -> Result<(), AllocError>
+        requires { IsProtected (draft_of self.old) }
         ensures { OnOk result (draft_of self.new ≡ with_marked (draft_of self.old) address word) }
     {
         self.segments.put_word(address, word)?;
@@ -69,7 +71,8 @@ impl Builder {
     /// Only running out of memory is an error.
     #[tactic(auto, using(crate::proofs::DraftLemmas::zero_put, crate::proofs::DraftLemmas::zeros_done))]
     fn put_zeros(&mut self, place: u32, count: u64) -> Result<(), AllocError>
-        requires { place + 4 * count < 2 ^ 32 }
+        requires room { place + 4 * count < 2 ^ 32 }
+        requires protected { IsProtected (draft_of self.old) }
         ensures { OnOk result (draft_of self.new ≡
             with_words (draft_of self.old) place (replicate count 0)) }
     {
@@ -86,7 +89,8 @@ impl Builder {
     /// Only running out of memory is an error.
     #[tactic(auto, unfolding(crate::specs::Draft::with_words))]
     fn put_words(&mut self, place: u32, emission: Emission) -> Result<(), AllocError>
-        requires { place + 4 * length (words_of emission) < 2 ^ 32 }
+        requires room { place + 4 * length (words_of emission) < 2 ^ 32 }
+        requires protected { IsProtected (draft_of self.old) }
         ensures { OnOk result (draft_of self.new ≡
             with_words (draft_of self.old) place (words_of emission)) }
     {
@@ -106,7 +110,8 @@ impl Builder {
     /// Only running out of memory is an error.
     #[tactic(auto, unfolding(crate::specs::Draft::with_addition))]
     pub fn add(&mut self, place: u32, addition: Addition) -> Result<(), AllocError>
-        requires { HasRoom (length self.old.entries.items) place addition }
+        requires room { HasRoom (length self.old.entries.items) place addition }
+        requires protected { IsProtected (draft_of self.old) }
         ensures { OnOk result (draft_of self.new ≡
             with_addition (draft_of self.old) place addition) }
     {

@@ -1,12 +1,12 @@
 //! What the next word of a source is marked with.
 
-/// Who owns words, a compartment from 0 to 31. Bit i of `into` lets compartment i jump to them, and bit i of `write` lets it
+/// Who owns words: a compartment, numbered from 0. Bit i of `into` lets compartment i jump to them, and bit i of `write` lets it
 /// write them.
 #[derive(Clone, Copy, PartialEq, Eq)]
 pub struct Protection {
     pub owner: u32,
-    pub into: u32,
-    pub write: u32,
+    pub into: u128,
+    pub write: u128,
 }
 
 impl Protection {

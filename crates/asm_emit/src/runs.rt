@@ -1,18 +1,28 @@
 //! Runs of words, and labels of words.
 
-ghost use Rattle.std.specs.Prelude.{◌≡◌, ◌==◌, OnOk, Option};
+ghost use Rattle.std.specs.Prelude.{◌≡◌, ◌==◌, [], IsTrue, OnOk, Option};
+ghost use Rattle.std.specs.Option.{option_map};
+ghost use Rattle.image_format.specs.declared.version.Version.TheVariants.{One, Two};
+ghost use Rattle.image_format.specs.Compartments.{rows_of, version_of};
+ghost use Rattle.asm_emit.specs.Kept.{is_protection};
 ghost use Rattle.asm_emit.specs.Runs.{is_same_protection, joined_compartment, joined_range, one_word_range, protected_range, protection_of, range_end, with_code, with_label, with_protected, with_run};
 
 use crate::marks::Protection;
-use image_format::{CompartmentRange, Label, WordRange};
-use std::alloc::AllocError;
+use image_format::{
+    CompartmentRange, CompartmentRanges, Label, OwnedRange, Version, WideCompartmentRange,
+    WordRange,
+};
+use std::alloc::{AllocError, Global};
 
 /// Words one behind the other that are alike.
 trait Run: Copy {
+    ghost fits: { Self → Type 0 };
+
     ghost joins: { Self → Self → Option Self };
 
-    /// The run that it is together with the next word; `None` where they are two.
+    /// The run that it is together with the next word, whose marks fit; `None` where they are two.
     fn joined(self, next: Self) -> Option<Self>
+        requires { fits next }
         ensures { result ≡ joins self next };
 }
 
@@ -24,6 +34,8 @@ fn is_up_to(range: WordRange, address: u32) -> bool
 }
 
 impl Run for WordRange {
+    ghost fits = { λ _. Unit {0} };
+
     ghost joins = { joined_range };
 
     fn joined(self, next: WordRange) -> Option<WordRange> {
@@ -38,40 +50,58 @@ impl Run for WordRange {
 }
 
 /// Who may do what with the words.
-fn protection_of(row: CompartmentRange) -> Protection
-    ensures { result ≡ protection_of row }
+fn protection_of<R: OwnedRange>(owned: R) -> Protection
+    ensures { result ≡ protection_of (R.OwnedRange.row owned) }
 {
     Protection {
-        owner: row.owner,
-        into: row.into,
-        write: row.write,
+        owner: owned.owner(),
+        into: owned.into_mask(),
+        write: owned.write_mask(),
     }
 }
 
 /// The words under the protection.
-fn protected_range(protection: Protection, range: WordRange) -> CompartmentRange
-    ensures { result ≡ protected_range protection range }
+fn protected_range<R: OwnedRange>(protection: Protection, range: WordRange) -> R
+    requires { IsTrue (is_protection R.OwnedRange.version protection) }
+    ensures { R.OwnedRange.row result ≡ protected_range protection range }
 {
-    CompartmentRange {
-        range,
-        owner: protection.owner,
-        into: protection.into,
-        write: protection.write,
+    R::new(range, protection.owner, protection.into, protection.write)
+}
+
+/// The words of both rows under the one protection that both have; `None` where they are two.
+fn joined_rows<R: OwnedRange>(last: R, next: R) -> Option<R>
+    requires { IsTrue (is_protection R.OwnedRange.version
+        (protection_of (R.OwnedRange.row next))) }
+    ensures { option_map R.OwnedRange.row result ≡
+        joined_compartment (R.OwnedRange.row last) (R.OwnedRange.row next) }
+{
+    let protection = protection_of(last);
+    if protection != protection_of(next) {
+        return None;
+    }
+    match last.range().joined(next.range()) {
+        Some(range) => Some(protected_range(protection, range)),
+        None => None,
     }
 }
 
 impl Run for CompartmentRange {
+    ghost fits = { λ row. IsTrue (is_protection One (protection_of row)) };
+
     ghost joins = { joined_compartment };
 
     fn joined(self, next: CompartmentRange) -> Option<CompartmentRange> {
-        let protection = protection_of(self);
-        if protection != protection_of(next) {
-            return None;
-        }
-        match self.range.joined(next.range) {
-            Some(range) => Some(protected_range(protection, range)),
-            None => None,
-        }
+        joined_rows(self, next)
+    }
+}
+
+impl Run for WideCompartmentRange {
+    ghost fits = { λ row. IsTrue (is_protection Two (protection_of row)) };
+
+    ghost joins = { joined_compartment };
+
+    fn joined(self, next: WideCompartmentRange) -> Option<WideCompartmentRange> {
+        joined_rows(self, next)
     }
 }
 
@@ -86,6 +116,7 @@ fn one_word(address: u32) -> WordRange
 ///
 /// Only running out of memory is an error.
 fn put_run<R: Run>(runs: &mut Vec<R>, next: R) -> Result<(), AllocError>
+    requires { R.fits next }
     ensures { OnOk result (runs.new.items ≡ with_run R.joins runs.old.items next) }
 {
     let count = runs.len();
@@ -121,20 +152,38 @@ pub(crate) fn put_code(
     Ok(())
 }
 
+/// No rows, for an image of the version.
+pub(crate) fn no_rows(alloc: Global, version: Version) -> CompartmentRanges
+    ensures version { version_of result ≡ version }
+    ensures rows { rows_of result ≡ [] }
+{
+    match version {
+        Version::One => CompartmentRanges::Narrow(Vec::new(alloc)),
+        Version::Two => CompartmentRanges::Wide(Vec::new(alloc)),
+    }
+}
+
 /// Appends the word at an address, where it is protected.
 ///
 /// Only running out of memory is an error.
 pub(crate) fn put_protected(
-    rows: &mut Vec<CompartmentRange>,
+    rows: &mut CompartmentRanges,
     protection: Protection,
     address: u32,
 ) -> Result<(), AllocError>
-    ensures { OnOk result (rows.new.items ≡ with_protected protection rows.old.items address) }
+    requires { IsTrue (is_protection (version_of rows.old) protection) }
+    ensures version { version_of rows.new ≡ version_of rows.old }
+    ensures rows { OnOk result (rows_of rows.new ≡
+        with_protected protection (rows_of rows.old) address) }
 {
     if protection == Protection::NONE {
         return Ok(());
     }
-    put_run(rows, protected_range(protection, one_word(address)))
+    let word = one_word(address);
+    match rows {
+        CompartmentRanges::Narrow(rows) => put_run(rows, protected_range(protection, word)),
+        CompartmentRanges::Wide(rows) => put_run(rows, protected_range(protection, word)),
+    }
 }
 
 /// Appends the label of the word at an address, where it has one.

@@ -2,17 +2,19 @@
 
 ghost use Rattle.std.specs.Prelude.{◌≡◌, ◌≤◌, ◌&&◌, ℕ, IfOk, Option};
 ghost use Rattle.std.specs.FinMap as map;
+ghost use Rattle.image_format.specs.declared.version.Version.{Version};
 ghost use Rattle.image_format.specs.Conditions.{is_heap_base, is_heap_bytes, is_place};
 ghost use Rattle.asm_words.specs.Emission.{count_of};
 ghost use Rattle.asm_places.specs.Counts.{count_in};
 ghost use Rattle.asm_emit.specs.Kept.{IsAddition};
-ghost use Rattle.asm_emit.specs.Values.{addition_in, addition_of, compartment_at, edge_at, entry_at, heap_at, id_at, label_at, number_within, words_at};
+ghost use Rattle.asm_emit.specs.Values.{addition_in, addition_of, compartment_at, edge_at, entry_at, heap_at, id_at, label_at, mask_within, number_within, words_at};
 
 use crate::marks::Protection;
 use asm_places::Layout;
 use asm_read::{AsmErrorKind, Statement, Target};
 use asm_words::laws::count_law;
 use asm_words::{Emission, Names, address_of, emission_of};
+use image_format::Version;
 
 /// What a line adds to an image. Addresses and sizes are in bytes.
 #[derive(Clone, Copy)]
@@ -46,6 +48,20 @@ fn number_within(most: u32, number: i64) -> Result<u32, AsmErrorKind>
     Ok(number as u32)
 }
 
+/// The set of compartments, if an image of the version may have all of them.
+fn mask_within(version: Version, mask: Option<u128>) -> Result<u128, AsmErrorKind>
+    ensures { result ≡ mask_within version mask }
+{
+    let most = match version {
+        Version::One => u128::from(u32::MAX),
+        Version::Two => u128::MAX,
+    };
+    match mask {
+        Some(mask) if mask <= most => Ok(mask),
+        _ => Err(AsmErrorKind::Range),
+    }
+}
+
 /// The number, if four bytes can hold it.
 fn id_of(number: i64) -> Result<u32, AsmErrorKind>
     ensures { result ≡ id_at number }
@@ -65,7 +81,8 @@ fn is_heap(ram: u32, base: u32, bytes: u32) -> bool
 #[tactic(auto, unfolding(crate::specs::Values::heap_at))]
 fn heap_of(ram: u32, base: i64, bytes: i64) -> Result<Addition, AsmErrorKind>
     ensures value { result ≡ heap_at ram base bytes }
-    ensures fits { (harts : ℕ) (count : Option ℕ) → IfOk result (IsAddition harts ram count) }
+    ensures fits { (version : Version) (harts : ℕ) (count : Option ℕ) →
+        IfOk result (IsAddition version harts ram count) }
 {
     let base = id_of(base)?;
     let bytes = id_of(bytes)?;
@@ -93,8 +110,8 @@ fn entry_of<'a>(
     requires { 1 ≤ layout.now.harts }
     ensures value { result ≡
         entry_at layout.now.harts layout.now.ram (map.get names.now) hart target.now }
-    ensures fits { (count : Option ℕ) →
-        IfOk result (IsAddition layout.now.harts layout.now.ram count) }
+    ensures fits { (version : Version) (count : Option ℕ) →
+        IfOk result (IsAddition version layout.now.harts layout.now.ram count) }
 {
     let address = address_of(names, target)?;
     let hart = number_within(layout.harts - 1, hart)?;
@@ -108,7 +125,8 @@ fn entry_of<'a>(
 #[tactic(auto, unfolding(crate::specs::Values::label_at))]
 fn label_of(id: i64) -> Result<Addition, AsmErrorKind>
     ensures value { result ≡ label_at id }
-    ensures fits { (harts ram : ℕ) (count : Option ℕ) → IfOk result (IsAddition harts ram count) }
+    ensures fits { (version : Version) (harts ram : ℕ) (count : Option ℕ) →
+        IfOk result (IsAddition version harts ram count) }
 {
     let id = id_of(id)?;
     Ok(Addition::Label(id))
@@ -118,7 +136,8 @@ fn label_of(id: i64) -> Result<Addition, AsmErrorKind>
 #[tactic(auto, unfolding(crate::specs::Values::edge_at))]
 fn edge_of(source: i64, target: i64) -> Result<Addition, AsmErrorKind>
     ensures value { result ≡ edge_at source target }
-    ensures fits { (harts ram : ℕ) (count : Option ℕ) → IfOk result (IsAddition harts ram count) }
+    ensures fits { (version : Version) (harts ram : ℕ) (count : Option ℕ) →
+        IfOk result (IsAddition version harts ram count) }
 {
     let source = id_of(source)?;
     let target = id_of(target)?;
@@ -127,13 +146,19 @@ fn edge_of(source: i64, target: i64) -> Result<Addition, AsmErrorKind>
 
 /// `.comp O, I, W`.
 #[tactic(auto, unfolding(crate::specs::Values::compartment_at))]
-fn compartment_of(owner: i64, into: i64, write: i64) -> Result<Addition, AsmErrorKind>
-    ensures value { result ≡ compartment_at owner into write }
-    ensures fits { (harts ram : ℕ) (count : Option ℕ) → IfOk result (IsAddition harts ram count) }
+fn compartment_of(
+    version: Version,
+    owner: i64,
+    into: Option<u128>,
+    write: Option<u128>,
+) -> Result<Addition, AsmErrorKind>
+    ensures value { result ≡ compartment_at version owner into write }
+    ensures fits { (harts ram : ℕ) (count : Option ℕ) →
+        IfOk result (IsAddition version harts ram count) }
 {
-    let owner = number_within(31, owner)?;
-    let into = id_of(into)?;
-    let write = id_of(write)?;
+    let owner = number_within(version.compartment_limit() - 1, owner)?;
+    let into = mask_within(version, into)?;
+    let write = mask_within(version, write)?;
     Ok(Addition::Compartment(Protection { owner, into, write }))
 }
 
@@ -145,7 +170,8 @@ fn words_of<'a>(
     statement: &Statement<'a>,
 ) -> Result<Addition, AsmErrorKind>
     ensures value { result ≡ words_at (map.get names.now) place statement.now }
-    ensures fits { (harts ram : ℕ) → IfOk result (IsAddition harts ram (count_of statement.now)) }
+    ensures fits { (version : Version) (harts ram : ℕ) →
+        IfOk result (IsAddition version harts ram (count_of statement.now)) }
 {
     count_law();
     let emission = emission_of(names, place, statement)?;
@@ -161,9 +187,10 @@ fn addition_of<'a>(
     statement: &Statement<'a>,
 ) -> Result<Addition, AsmErrorKind>
     requires { 1 ≤ layout.now.harts }
-    ensures value { result ≡
-        addition_of layout.now.harts layout.now.ram (map.get names.now) place statement.now }
-    ensures fits { IfOk result (IsAddition layout.now.harts layout.now.ram (count_of statement.now)) }
+    ensures value { result ≡ addition_of layout.now.version
+        layout.now.harts layout.now.ram (map.get names.now) place statement.now }
+    ensures fits { IfOk result (IsAddition layout.now.version
+        layout.now.harts layout.now.ram (count_of statement.now)) }
 {
     match statement {
         Statement::Heap { base, bytes } => heap_of(layout.ram, *base, *bytes),
@@ -175,7 +202,9 @@ fn addition_of<'a>(
             source,
             destination,
         } => edge_of(*source, *destination),
-        Statement::Compartment { owner, into, write } => compartment_of(*owner, *into, *write),
+        Statement::Compartment { owner, into, write } => {
+            compartment_of(layout.version, *owner, *into, *write)
+        }
         Statement::Registers { .. }
         | Statement::Immediate { .. }
         | Statement::Shift { .. }
@@ -190,6 +219,7 @@ fn addition_of<'a>(
         | Statement::Ebreak
         | Statement::LoadNumber { .. }
         | Statement::LoadAddress { .. }
+        | Statement::Version(_)
         | Statement::Harts(_)
         | Statement::Ram(_)
         | Statement::Origin(_)
@@ -206,9 +236,10 @@ pub(crate) fn addition_in<'a>(
     statement: &Option<Statement<'a>>,
 ) -> Result<Addition, AsmErrorKind>
     requires { 1 ≤ layout.now.harts }
-    ensures value { result ≡
-        addition_in layout.now.harts layout.now.ram (map.get names.now) place statement.now }
-    ensures fits { IfOk result (IsAddition layout.now.harts layout.now.ram (count_in statement.now)) }
+    ensures value { result ≡ addition_in layout.now.version
+        layout.now.harts layout.now.ram (map.get names.now) place statement.now }
+    ensures fits { IfOk result (IsAddition layout.now.version
+        layout.now.harts layout.now.ram (count_in statement.now)) }
 {
     match statement {
         None => Ok(Addition::Nothing),

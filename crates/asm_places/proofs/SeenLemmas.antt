@@ -13,7 +13,7 @@ use Rattle.asm_read.specs.declared.statements.Line.{Line}
 use Rattle.asm_places.specs.declared.seen.Seen.{Seen}
 use Rattle.asm_places.specs.Names.{names_with_label}
 use Rattle.asm_places.specs.Seen.{IsSeen, enters, is_label, sets_heap}
-use Rattle.asm_places.specs.Sizes.{harts_in, ram_in}
+use Rattle.asm_places.specs.Sizes.{harts_in, ram_in, version_in}
 use Rattle.asm_places.proofs.BooleanLemmas.{any_more, or_false}
 
 -- a label stands for its place, and the other names as before
@@ -37,12 +37,14 @@ more test was noted before line notes so_far = notes ∙ ap (λ b. b || test lin
 -- a line is noted
 pub noted : (old new : Seen) (before : List Line) (line : Line)
     → new.names ≡ names_with_label old.names line.label 0
+    → new.version ≡ (old.version || is_some (version_in line.statement))
     → new.harts ≡ (old.harts || is_some (harts_in line.statement))
     → new.ram ≡ (old.ram || is_some (ram_in line.statement))
     → new.heap ≡ (old.heap || sets_heap line.statement)
     → ((hart : ℤ) → contains int_cmp new.entries hart ≡ (contains int_cmp old.entries hart || enters hart line.statement))
     → IsSeen old before → IsSeen new (before ++ line ∷ [])
-noted old new before line names harts ram heap entries seen = record {
+noted old new before line names version harts ram heap entries seen = record {
+  version = more (λ l. is_some (version_in l.statement)) old.version new.version before line version seen.version;
   harts = more (λ l. is_some (harts_in l.statement)) old.harts new.harts before line harts seen.harts;
   ram = more (λ l. is_some (ram_in l.statement)) old.ram new.ram before line ram seen.ram;
   heap = more (λ l. sets_heap l.statement) old.heap new.heap before line heap seen.heap;

@@ -7,7 +7,7 @@ use Rattle.asm_read.specs.declared.errors.AsmError.{AsmError}
 use Rattle.asm_read.specs.declared.errors.AsmErrorKind.TheVariants as kinds
 use Rattle.asm_read.specs.declared.statements.Line.{Line}
 use Rattle.asm_read.specs.Source.{at_line}
-use Rattle.asm_places.specs.Sizes.{size_from, harts_in, harts_of, natural_where, ram_in, ram_of}
+use Rattle.asm_places.specs.Sizes.{asked_from, harts_in, harts_of, natural_where, ram_in, ram_of}
 
 -- no result is both
 pub refused : {P A E : Type 0} (e : E) (x : A) → Err e ≡ Ok x → P
@@ -22,7 +22,7 @@ natural_fits fits (pos m) n line is = go (fits m) refl is
     go true e is = let same : m ≡ n = cc in subst (λ k. IsTrue (fits k)) same (subst IsTrue (sym e) (search rules))
     go false e is = refused _ n is
 
-asked_fits : (fits : ℕ → Bool) (line : ℕ) (wanted : Option ℤ) (others : Result ℕ AsmError) (n : ℕ) → (others ≡ Ok n → IsTrue (fits n)) → size_from fits line wanted others ≡ Ok n → IsTrue (fits n)
+asked_fits : (fits : ℕ → Bool) (line : ℕ) (wanted : Option ℤ) (others : Result ℕ AsmError) (n : ℕ) → (others ≡ Ok n → IsTrue (fits n)) → asked_from (natural_where fits) line wanted others ≡ Ok n → IsTrue (fits n)
 asked_fits fits line None others n more is = more is
 asked_fits fits line (Some number) others n more is = natural_fits fits number n line is
 

@@ -9,7 +9,7 @@ use Rattle.asm_read.specs.declared.statements.Line.{Line}
 use Rattle.asm_read.specs.declared.statements.Statement.{Statement}
 use Rattle.asm_read.specs.declared.statements.Statement.TheVariants as statements
 use Rattle.asm_places.specs.declared.seen.Seen.{Seen}
-use Rattle.asm_places.specs.Sizes.{harts_in, ram_in}
+use Rattle.asm_places.specs.Sizes.{harts_in, ram_in, version_in}
 
 -- the label is this name
 abbrev pub is_label : List ℕ → Option (List ℕ) → Bool
@@ -35,8 +35,9 @@ enters hart _ = false
 abbrev pub some_before : (Option Statement → Bool) → List Line → Bool
 some_before test before = list_any (λ line. test line.statement) before
 
--- a second `.harts`, `.ram` or `.heap`, or a second `.entry` of the same hart
+-- a second `.version`, `.harts`, `.ram` or `.heap`, or a second `.entry` of the same hart
 abbrev pub is_again : Option Statement → List Line → Bool
+is_again (Some (statements.Version number)) before = some_before (λ s. is_some (version_in s)) before
 is_again (Some (statements.Harts number)) before = some_before (λ s. is_some (harts_in s)) before
 is_again (Some (statements.Ram number)) before = some_before (λ s. is_some (ram_in s)) before
 is_again (Some (statements.Heap base bytes)) before = some_before sets_heap before
@@ -45,6 +46,7 @@ is_again _ before = false
 
 -- what was noted is what the lines before have
 pub record IsSeen (seen : Seen) (before : List Line) : Type 0 where
+  pub version : seen.version ≡ some_before (λ s. is_some (version_in s)) before
   pub harts : seen.harts ≡ some_before (λ s. is_some (harts_in s)) before
   pub ram : seen.ram ≡ some_before (λ s. is_some (ram_in s)) before
   pub heap : seen.heap ≡ some_before sets_heap before

@@ -6,16 +6,17 @@ ghost use Rattle.std.specs.Ordering.{int_cmp};
 ghost use Rattle.asm_read.specs.declared.statements.Line.{Line};
 ghost use Rattle.asm_places.specs.Names.{names_with_label};
 ghost use Rattle.asm_places.specs.Seen.{IsSeen, enters, is_again, is_named, sets_heap, some_before};
-ghost use Rattle.asm_places.specs.Sizes.{harts_in, ram_in};
+ghost use Rattle.asm_places.specs.Sizes.{harts_in, ram_in, version_in};
 
 use asm_read::{Line, Name, Statement};
 use asm_words::Names;
 use std::alloc::{AllocError, Global};
 use std::collections::BTreeSet;
 
-/// What the lines so far have: a `.harts`, a `.ram`, a `.heap`, a `.entry` of each of these harts, and these names.
+/// What the lines so far have: a `.version`, a `.harts`, a `.ram`, a `.heap`, a `.entry` of each of these harts, and these names.
 #[derive(Drop)]
 pub(crate) struct Seen<'a> {
+    version: bool,
     harts: bool,
     ram: bool,
     heap: bool,
@@ -43,6 +44,7 @@ impl<'a> Seen<'a> {
         ensures { IsSeen result [] }
     {
         Seen {
+            version: false,
             harts: false,
             ram: false,
             heap: false,
@@ -76,6 +78,7 @@ impl<'a> Seen<'a> {
             result ≡ is_again (Some statement.now) before }
     {
         match statement {
+            Statement::Version(_) => self.version,
             Statement::Harts(_) => self.harts,
             Statement::Ram(_) => self.ram,
             Statement::Heap { .. } => self.heap,
@@ -98,6 +101,8 @@ impl<'a> Seen<'a> {
     /// Notes the statement.
     fn note_statement(&mut self, statement: &Option<Statement<'_>>) -> Result<(), AllocError>
         ensures names { self.new.names ≡ self.old.names }
+        ensures version { self.new.version ≡
+            (self.old.version || is_some (version_in statement.now)) }
         ensures harts { self.new.harts ≡ (self.old.harts || is_some (harts_in statement.now)) }
         ensures ram { self.new.ram ≡ (self.old.ram || is_some (ram_in statement.now)) }
         ensures heap { self.new.heap ≡ (self.old.heap || sets_heap statement.now) }
@@ -105,6 +110,7 @@ impl<'a> Seen<'a> {
             (contains int_cmp self.old.entries hart || enters hart statement.now)) }
     {
         match statement {
+            Some(Statement::Version(_)) => self.version = true,
             Some(Statement::Harts(_)) => self.harts = true,
             Some(Statement::Ram(_)) => self.ram = true,
             Some(Statement::Heap { .. }) => self.heap = true,

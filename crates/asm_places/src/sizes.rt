@@ -1,19 +1,29 @@
-//! How many harts and how many bytes of RAM a source asks for.
+//! Which version of the image's file, how many harts and how many bytes of RAM a source asks for.
 
 ghost use Rattle.std.specs.Prelude.{◌≡◌};
 ghost use Rattle.std.specs.Option.{ok_or};
 ghost use Rattle.image_format.specs.Conditions.{is_harts, is_ram};
 ghost use Rattle.asm_read.specs.Source.{at_line};
-ghost use Rattle.asm_places.specs.Sizes.{harts_in, harts_of, natural_where, ram_in, ram_of};
+ghost use Rattle.asm_places.specs.Sizes.{harts_in, harts_of, natural_where, ram_in, ram_of, version_in, version_numbered, version_of};
 
 use asm_read::{AsmError, AsmErrorKind, Line, Statement};
-use image_format::{MOST_HARTS, MOST_RAM};
+use image_format::{MOST_HARTS, MOST_RAM, Version};
 
 /// How many harts there are where no line says so.
 const HARTS: u32 = 1;
 
 /// How many bytes of RAM there are where no line says so.
 const RAM: u32 = 65536;
+
+/// The number of a `.version`.
+fn version_in(statement: &Option<Statement<'_>>) -> Option<i64>
+    ensures { result ≡ version_in statement.now }
+{
+    match statement {
+        Some(Statement::Version(number)) => Some(*number),
+        _ => None,
+    }
+}
 
 /// The number of a `.harts`.
 fn harts_in(statement: &Option<Statement<'_>>) -> Option<i64>
@@ -32,6 +42,20 @@ fn ram_in(statement: &Option<Statement<'_>>) -> Option<i64>
     match statement {
         Some(Statement::Ram(number)) => Some(*number),
         _ => None,
+    }
+}
+
+/// The version that a line asks for: 1 or 2, or else the line's error.
+fn version_at(line: u64, number: i64) -> Result<Version, AsmError>
+    ensures { result ≡ at_line line (ok_or (version_numbered number) AsmErrorKind.Range) }
+{
+    match number {
+        1 => Ok(Version::One),
+        2 => Ok(Version::Two),
+        _ => Err(AsmError {
+            line,
+            kind: AsmErrorKind::Range,
+        }),
     }
 }
 
@@ -59,6 +83,18 @@ fn ram_at(line: u64, number: i64) -> Result<u32, AsmError>
             kind: AsmErrorKind::Range,
         }),
     }
+}
+
+/// The version that the first `.version` asks for, 1 or 2, or else its error; 1 where there is none.
+pub(crate) fn version_of(lines: &[Line<'_>]) -> Result<Version, AsmError>
+    ensures { result ≡ version_of lines.now }
+{
+    for line in lines {
+        if let Some(number) = version_in(&line.statement) {
+            return version_at(line.number, number);
+        }
+    }
+    Ok(Version::One)
 }
 
 /// The number of harts that the first `.harts` asks for, 1 to 8, or else its error; 1 where there is none.

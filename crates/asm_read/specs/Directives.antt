@@ -7,7 +7,7 @@ use Rattle.asm_read.specs.declared.statements.Statement.{Statement}
 use Rattle.asm_read.specs.declared.statements.Statement.TheVariants as statements
 use Rattle.asm_read.specs.Operands.{Text, no_operand, one_operand, three_operands, two_operands}
 use Rattle.shared_terms.specs.Steps.{◌>>=◌}
-use Rattle.asm_read.specs.Values.{number_at, target_at}
+use Rattle.asm_read.specs.Values.{mask_at, number_at, target_at}
 
 -- one number, or two: `Operand` where their count is another or one is empty, `Number` where one is no number
 unfoldable pub one_number : Text → Result ℤ AsmErrorKind
@@ -22,7 +22,7 @@ two_numbers text = do
   second ← number_at texts.1
   Ok (first, second)
 
--- `.harts N`, `.ram N`, `.org N`, `.zero N`, `.label ID`
+-- `.version N`, `.harts N`, `.ram N`, `.org N`, `.zero N`, `.label ID`
 abbrev pub of_number : (ℤ → Statement) → Text → Result Statement AsmErrorKind
 of_number statement text = do
   n ← one_number text
@@ -60,12 +60,13 @@ unfoldable pub compartment : Text → Result Statement AsmErrorKind
 compartment text = do
   texts ← three_operands text
   owner ← number_at texts.0
-  into ← number_at texts.1
-  write ← number_at texts.2
+  into ← mask_at texts.1
+  write ← mask_at texts.2
   Ok (statements.Compartment owner into write)
 
 -- the statement of the directive, by the text behind its first word
 unfoldable pub directive_of : Directive → Text → Result Statement AsmErrorKind
+directive_of directives.Version text = of_number statements.Version text
 directive_of directives.Harts text = of_number statements.Harts text
 directive_of directives.Ram text = of_number statements.Ram text
 directive_of directives.Heap text = of_numbers statements.Heap text

@@ -6,7 +6,7 @@ ghost use Rattle.asm_read.specs.Directives.{compartment, directive_of, entry, on
 use crate::errors::AsmErrorKind;
 use crate::operands::{no_operand, one_operand, three_operands, two_operands};
 use crate::statements::Statement;
-use crate::values::{number, target};
+use crate::values::{mask, number, target};
 use asm_table::Directive;
 
 /// The only operand, a number.
@@ -55,8 +55,8 @@ fn compartment<'a>(text: &'a [u8]) -> Result<Statement<'a>, AsmErrorKind>
 {
     let (owner, into, write) = three_operands(text)?;
     let owner = number(owner)?;
-    let into = number(into)?;
-    let write = number(write)?;
+    let into = mask(into)?;
+    let write = mask(write)?;
     Ok(Statement::Compartment { owner, into, write })
 }
 
@@ -69,6 +69,7 @@ pub(crate) fn directive_of<'a>(
     ensures { result ≡ directive_of directive text.now }
 {
     match directive {
+        Directive::Version => Ok(Statement::Version(one_number(text)?)),
         Directive::Harts => Ok(Statement::Harts(one_number(text)?)),
         Directive::Ram => Ok(Statement::Ram(one_number(text)?)),
         Directive::Heap => {

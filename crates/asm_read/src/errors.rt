@@ -26,7 +26,8 @@ pub enum AsmErrorKind {
     /// An operand, or the part of one in parentheses, is no register.
     #[error("register")]
     Register,
-    /// An operand, or the part of one before parentheses, is no number from -2^31 to 2^32 - 1.
+    /// An operand, or the part of one before parentheses, is no number from -2^31 to 2^32 - 1, or up to 2^128 - 1 where it is a
+    /// set of compartments.
     #[error("number")]
     Number,
     /// The name has a place already.

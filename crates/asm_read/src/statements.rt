@@ -15,7 +15,7 @@ pub enum Target<'a> {
 }
 
 /// A statement, with the forms that stand for one instruction as that instruction. Numbers are as the source writes them, from
-/// -2^31 to 2^32 - 1, whatever range they have to lie in.
+/// -2^31 to 2^32 - 1, and the sets of a `.comp` up to 2^128 - 1, whatever range they have to lie in.
 #[derive(Drop)]
 pub enum Statement<'a> {
     /// `add rd, rs1, rs2` and its like.
@@ -93,6 +93,8 @@ pub enum Statement<'a> {
         rd: Register,
         target: Target<'a>,
     },
+    /// `.version N`: the version of the image's file.
+    Version(i64),
     /// `.harts N`: how many harts there are.
     Harts(i64),
     /// `.ram N`: how many bytes of RAM there are.
@@ -124,11 +126,12 @@ pub enum Statement<'a> {
         source: i64,
         destination: i64,
     },
-    /// `.comp O, I, W`: the compartment of the words from here on, and who may go into them and write them.
+    /// `.comp O, I, W`: the compartment of the words from here on, and the sets of those that may go into them and write them, a
+    /// bit for each compartment. `None` is a negative number, which is in no version's range.
     Compartment {
         owner: i64,
-        into: i64,
-        write: i64,
+        into: Option<u128>,
+        write: Option<u128>,
     },
 }
 

@@ -1,7 +1,7 @@
 //! What an operand's text means.
 
 ghost use Rattle.std.specs.Prelude.{◌≡◌};
-ghost use Rattle.asm_read.specs.Values.{number_at, register_at, target_at};
+ghost use Rattle.asm_read.specs.Values.{mask_at, number_at, register_at, target_at};
 
 use crate::errors::AsmErrorKind;
 use crate::names::Name;
@@ -21,6 +21,18 @@ pub(crate) fn number(text: &[u8]) -> Result<i64, AsmErrorKind>
     ensures { result ≡ number_at text.now }
 {
     asm_text::number(text).ok_or(AsmErrorKind::Number)
+}
+
+/// The set of compartments that the text writes, as a number with a bit for each; `None` where the text writes a negative number.
+#[tactic(auto, unfolding(crate::specs::Values::mask_at))]
+pub(crate) fn mask(text: &[u8]) -> Result<Option<u128>, AsmErrorKind>
+    ensures { result ≡ mask_at text.now }
+{
+    if let Some(mask) = asm_text::wide_number(text) {
+        return Ok(Some(mask));
+    }
+    let number = number(text)?;
+    Ok(u128::try_from(number).ok())
 }
 
 /// The number that the text writes, or the name that it is.

@@ -79,7 +79,7 @@ pseudo_named word =
 unfoldable pub directive_named : List ℕ → Option Directive
 directive_named word =
     beside word
-    ((codes ".harts", directives.Harts) ∷ (codes ".ram", directives.Ram) ∷ (codes ".heap", directives.Heap) ∷ (codes ".entry", directives.Entry) ∷ (codes ".org", directives.Origin) ∷ (codes ".word", directives.Word) ∷ (codes ".zero", directives.Zeros) ∷ (codes ".text", directives.Text) ∷ (codes ".data", directives.Data) ∷ (codes ".label", directives.Label) ∷ (codes ".edge", directives.Edge) ∷ (codes ".comp", directives.Compartment) ∷ [])
+    ((codes ".version", directives.Version) ∷ (codes ".harts", directives.Harts) ∷ (codes ".ram", directives.Ram) ∷ (codes ".heap", directives.Heap) ∷ (codes ".entry", directives.Entry) ∷ (codes ".org", directives.Origin) ∷ (codes ".word", directives.Word) ∷ (codes ".zero", directives.Zeros) ∷ (codes ".text", directives.Text) ∷ (codes ".data", directives.Data) ∷ (codes ".label", directives.Label) ∷ (codes ".edge", directives.Edge) ∷ (codes ".comp", directives.Compartment) ∷ [])
 
 -- the instructions that calculate
 unfoldable pub arithmetic_named : List ℕ → Option Form

@@ -81,6 +81,8 @@ pub enum BranchOperation {
 /// A directive, whose word begins with a dot.
 #[derive(Clone, Copy)]
 pub enum Directive {
+    /// `.version N`, the version of the image's file.
+    Version,
     /// `.harts N`, how many harts there are.
     Harts,
     /// `.ram N`, how many bytes of RAM there are.

@@ -174,7 +174,8 @@ fn pseudo_instruction(word: &[u8]) -> Option<Form>
 }
 
 /// The directives.
-const DIRECTIVES: [(&[u8], Directive); 12] = [
+const DIRECTIVES: [(&[u8], Directive); 13] = [
+    (b".version", Directive::Version),
     (b".harts", Directive::Harts),
     (b".ram", Directive::Ram),
     (b".heap", Directive::Heap),

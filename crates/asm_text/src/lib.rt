@@ -8,4 +8,4 @@ mod numbers;
 
 pub use bytes::{is_name, only_allowed};
 pub use cuts::{cut, first_word, trim};
-pub use numbers::number;
+pub use numbers::{number, wide_number};

@@ -57,6 +57,7 @@ counted places place statements.Ecall = given (Some 1) (one Ecall) refl
 counted places place statements.Ebreak = given (Some 1) (one Ebreak) refl
 counted places place (statements.LoadNumber rd n) = given (Some (word_load_count (word_modulo n))) (load_number rd n) (load_counted rd (word_modulo n))
 counted places place (statements.LoadAddress rd target) = bound (Some 2) (address_of places target) (λ address. Ok (both_parts rd address)) (λ address. given (Some 2) (both_parts rd address) refl)
+counted places place (statements.Version n) = given (Some 0) (emissions.Nothing) refl
 counted places place (statements.Harts n) = given (Some 0) (emissions.Nothing) refl
 counted places place (statements.Ram n) = given (Some 0) (emissions.Nothing) refl
 counted places place (statements.Heap base bytes) = given (Some 0) (emissions.Nothing) refl

@@ -200,6 +200,7 @@ count_of statements.Ecall = Some 1
 count_of statements.Ebreak = Some 1
 count_of (statements.LoadNumber rd n) = Some (word_load_count (word_modulo n))
 count_of (statements.LoadAddress rd target) = Some 2
+count_of (statements.Version n) = Some 0
 count_of (statements.Harts n) = Some 0
 count_of (statements.Ram n) = Some 0
 count_of (statements.Heap base bytes) = Some 0

@@ -36,7 +36,8 @@ pub fn word_count(statement: &Statement<'_>) -> Option<u64>
         Statement::LoadNumber { number, .. } => Some(word_load_count(wrapped(*number))),
         Statement::LoadAddress { .. } => Some(2),
         Statement::Zeros(number) => zero_count(*number),
-        Statement::Harts(_)
+        Statement::Version(_)
+        | Statement::Harts(_)
         | Statement::Ram(_)
         | Statement::Heap { .. }
         | Statement::Entry { .. }

@@ -1,5 +1,5 @@
 -- The text of each tag of a part is not empty, and has no bar.
-use Rattle.std.proofs.Common.{◌≡◌, ℕ, ◌==◌, ◌<◌, ◌%◌, ◌^◌, Bool, true, false, not, List, [], ◌∷◌, ◌++◌, map, Option, Some, None, refl, arith, zero-add, ◌/◌, ◌-◌, ◌*◌}
+use Rattle.std.proofs.Common.{◌≡◌, ℕ, ◌==◌, ◌<◌, ◌%◌, ◌^◌, nat_lt, Bool, true, false, not, List, [], ◌∷◌, ◌++◌, map, Option, Some, None, refl, arith, zero-add, ◌/◌, ◌-◌, ◌*◌, if◌then◌else◌}
 use Rattle.std.specs.Prelude.{codes}
 use Rattle.std.specs.Char.{digit_value}
 use Rattle.std.specs.Fmt.{decimal}
@@ -13,10 +13,11 @@ use Rattle.std.proofs.lemmas.List.Folds.{list_all-append}
 use Rattle.std.proofs.lemmas.List.FromFn.{get_or-range_with_len, length-range_with_len}
 use Rattle.std.proofs.lemmas.List.Sums.{AllPass-from_list_all}
 use Rattle.pump_words.specs.Texts.{hex_digit, hex_digit_of, hex8_text}
+use Rattle.policy_trait.specs.Sets.{hex32_text, mask_text}
 use Rattle.sealing_policy.specs.Sealing.{sealing_text}
 use Rattle.sealing_policy.specs.declared.tag.SealTag.{SealTag}
 use Rattle.sealing_policy.specs.declared.tag.SealTag.TheVariants as seals
-use Rattle.compartment_policy.specs.Compartments.{IsOfWords, compartment_text}
+use Rattle.compartment_policy.specs.Compartments.{HasFittingNumbers, compartment_text}
 use Rattle.compartment_policy.specs.declared.tag.CompartmentTag.{CompartmentTag}
 use Rattle.compartment_policy.specs.declared.tag.CompartmentTag.TheVariants as places
 use Rattle.flow_policy.specs.Flow.{flow_text, label_text}
@@ -36,6 +37,9 @@ use Rattle.choice_texts.proofs.BarLemmas.{IsPiece, is_bare}
 
 bare_join : (x y : List ℕ) → is_bare x ≡ true → is_bare y ≡ true → is_bare (x ++ y) ≡ true
 bare_join x y x_bare y_bare = rw (list_all-append (λ byte. not (byte == 124)) x y, x_bare) y_bare
+
+bare_within : (prefix inner back : List ℕ) → is_bare prefix ≡ true → is_bare inner ≡ true → is_bare back ≡ true → is_bare (prefix ++ inner ++ back) ≡ true
+bare_within prefix inner back f i b = bare_join (prefix ++ inner) back (bare_join prefix inner f i) b
 
 digit_passes : (c : ℕ) → digit_value c < 10 → not (c == 124) ≡ true
 digit_passes c small = grind (arith, nat_tests)
@@ -62,10 +66,19 @@ bare_each f passes (k ∷ places) = rw (passes k) (bare_each f passes places)
 bare_word : (word : ℕ) → is_bare (hex8_text word) ≡ true
 bare_word word = bare_each (hex_digit_of word) (λ k. hex_passes (word / 2 ^ (28 - 4 * k) % 16) (omega arith)) (range_with_len 0 8)
 
--- ---- the tags' texts, most of them with something in parentheses
+bare_mask_by : (below : Bool) (bits : ℕ) → is_bare (if below then hex8_text bits else hex32_text bits) ≡ true
+bare_mask_by true bits = bare_word bits
+bare_mask_by false bits =
+    let x = hex8_text (bits / 2 ^ 96) in
+    let y = hex8_text (bits / 2 ^ 64 % 2 ^ 32) in
+    let z = hex8_text (bits / 2 ^ 32 % 2 ^ 32) in
+    let first = bare_join x y (bare_word (bits / 2 ^ 96)) (bare_word (bits / 2 ^ 64 % 2 ^ 32)) in
+    bare_within (x ++ y) z (hex8_text (bits % 2 ^ 32)) first (bare_word (bits / 2 ^ 32 % 2 ^ 32)) (bare_word (bits % 2 ^ 32))
 
-bare_within : (prefix inner back : List ℕ) → is_bare prefix ≡ true → is_bare inner ≡ true → is_bare back ≡ true → is_bare (prefix ++ inner ++ back) ≡ true
-bare_within prefix inner back f i b = bare_join (prefix ++ inner) back (bare_join prefix inner f i) b
+bare_mask : (bits : ℕ) → is_bare (mask_text bits) ≡ true
+bare_mask bits = bare_mask_by (nat_lt bits (2 ^ 32)) bits
+
+-- ---- the tags' texts, most of them with something in parentheses
 
 pub seal_piece : (x : SealTag) → HasSmallKey x → IsPiece (sealing_text x)
 seal_piece seals.Data small = record { some = omega arith; bare = refl }
@@ -77,13 +90,13 @@ bare_pc owner true small = bare_within (codes "pc(") (decimal owner) (codes ",j)
 bare_pc owner false small = bare_within (codes "pc(") (decimal owner) (codes ",-)") refl (bare_number owner small) refl
 
 bare_place : (owner into write : ℕ) → owner < 2 ^ 32
-    → is_bare (codes "place(" ++ decimal owner ++ codes "," ++ hex8_text into ++ codes "," ++ hex8_text write ++ codes ")") ≡ true
+    → is_bare (codes "place(" ++ decimal owner ++ codes "," ++ mask_text into ++ codes "," ++ mask_text write ++ codes ")") ≡ true
 bare_place owner into write small =
     let first = bare_within (codes "place(") (decimal owner) (codes ",") refl (bare_number owner small) refl in
-    let second = bare_within (codes "place(" ++ decimal owner ++ codes ",") (hex8_text into) (codes ",") first (bare_word into) refl in
-    bare_within (codes "place(" ++ decimal owner ++ codes "," ++ hex8_text into ++ codes ",") (hex8_text write) (codes ")") second (bare_word write) refl
+    let second = bare_within (codes "place(" ++ decimal owner ++ codes ",") (mask_text into) (codes ",") first (bare_mask into) refl in
+    bare_within (codes "place(" ++ decimal owner ++ codes "," ++ mask_text into ++ codes ",") (mask_text write) (codes ")") second (bare_mask write) refl
 
-pub comp_piece : (x : CompartmentTag) → IsOfWords x → IsPiece (compartment_text x)
+pub comp_piece : (x : CompartmentTag) → HasFittingNumbers x → IsPiece (compartment_text x)
 comp_piece places.Plain small = record { some = omega arith; bare = refl }
 comp_piece (places.Pc owner jumped) small = record { some = omega arith; bare = bare_pc owner jumped small }
 comp_piece (places.Place owner into write) small = record { some = omega arith; bare = bare_place owner into.bits write.bits small.0 }

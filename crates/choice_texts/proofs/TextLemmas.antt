@@ -10,7 +10,7 @@ use Rattle.policy_trait.specs.Model.{PolicyModel}
 use Rattle.sealing_policy.specs.Sealing.{sealing, sealing_text}
 use Rattle.sealing_policy.specs.declared.tag.SealTag.{SealTag}
 use Rattle.sealing_policy.specs.declared.tag.SealTag.TheVariants.{Data, Key, Sealed}
-use Rattle.compartment_policy.specs.Compartments.{IsOfWords, compartments}
+use Rattle.compartment_policy.specs.Compartments.{HasFittingNumbers, compartments}
 use Rattle.compartment_policy.proofs.TextLemmas.{text_apart}
 use Rattle.flow_policy.specs.Flow.{flow}
 use Rattle.flow_policy.specs.TextLaws.{HasSmallLabels}
@@ -65,7 +65,7 @@ part_told m fits chosen (Some s) (Some x) None rest others told on x_is y_is e =
 seal_told : IsTold sealing HasSmallKey
 seal_told = record { piece = λ s. seal_piece; apart = λ s. seal_apart }
 
-comp_told : IsTold compartments IsOfWords
+comp_told : IsTold compartments HasFittingNumbers
 comp_told = record { piece = λ s. comp_piece; apart = λ s. text_apart }
 
 flow_told : IsTold flow HasSmallLabels
@@ -81,7 +81,7 @@ pub texts_tell : (choice : Choice) (state : AllState) (x y : AllTag) → IsState
     → all.text state x ≡ all.text state y → x ≡ y
 texts_tell choice state x y on x_is y_is e =
     let first = part_told sealing HasSmallKey choice.seal state.0.part x.0 y.0 _ _ seal_told on.seal x_is.seal y_is.seal e in
-    let second = part_told compartments IsOfWords choice.comp state.1.0.part x.1.0 y.1.0 _ _ comp_told on.comp x_is.comp y_is.comp first.1 in
+    let second = part_told compartments HasFittingNumbers choice.comp state.1.0.part x.1.0 y.1.0 _ _ comp_told on.comp x_is.comp y_is.comp first.1 in
     let third = part_told flow HasSmallLabels choice.flow state.1.1.0.part x.1.1.0 y.1.1.0 _ _ flow_told on.flow x_is.flow y_is.flow second.1 in
     let last = part_told heap HasSmallBlocks choice.heap state.1.1.1.part x.1.1.1 y.1.1.1 [] [] heap_told on.heap x_is.heap y_is.heap (ap (λ text. joint_text text []) third.1) in
     same_pair x y first.0 (same_pair x.1 y.1 second.0 (same_pair x.1.1 y.1.1 third.0 last.0))

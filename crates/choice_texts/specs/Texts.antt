@@ -3,7 +3,7 @@ use Rattle.std.specs.Prelude.{◌≡◌, ◌^◌, ◌<◌, Bool, Option}
 use Rattle.std.specs.Option.{ForSome, is_some}
 use Rattle.sealing_policy.specs.declared.tag.SealTag.{SealTag}
 use Rattle.sealing_policy.specs.declared.tag.SealTag.TheVariants.{Data, Key, Sealed}
-use Rattle.compartment_policy.specs.Compartments.{IsOfWords}
+use Rattle.compartment_policy.specs.Compartments.{HasFittingNumbers}
 use Rattle.flow_policy.specs.TextLaws.{HasSmallLabels}
 use Rattle.heap_policy.specs.TextLaws.{HasSmallBlocks}
 use Rattle.policy_product.specs.declared.maybe.Maybe.{Maybe}
@@ -32,9 +32,9 @@ pub record IsComponentOf {T : Type 0} (HasSmallNumbers : T → Type 0) (chosen :
   pub there : is_some component ≡ chosen
   pub small : ForSome component HasSmallNumbers
 
--- each component is there exactly where its part is chosen, and each number is one of 32 bits
+-- each component is there exactly where its part is chosen; each number is one of 32 bits, and each set has 128
 pub record IsTagOf (choice : Choice) (tag : AllTag) : Type 0 where
   pub seal : IsComponentOf HasSmallKey choice.seal tag.0
-  pub comp : IsComponentOf IsOfWords choice.comp tag.1.0
+  pub comp : IsComponentOf HasFittingNumbers choice.comp tag.1.0
   pub flow : IsComponentOf HasSmallLabels choice.flow tag.1.1.0
   pub heap : IsComponentOf HasSmallBlocks choice.heap tag.1.1.1

@@ -7,8 +7,9 @@ ghost use Rattle.policy_choice.specs.declared.basis.Basis.{Basis};
 ghost use Rattle.policy_choice.specs.declared.choice.Choice.{Choice};
 ghost use Rattle.choice_texts.specs.Texts.{IsStateOf, IsTagOf};
 
-/// Whichever policies are chosen, two tags of one text are one tag, where both have a component for just the chosen ones
-/// and their numbers are of 32 bits. At the start of an image each policy is on exactly where it is chosen.
+/// Whichever policies are chosen, two tags of one text are one tag, where both have a component for just the chosen ones,
+/// their numbers are of 32 bits and their sets have 128. At the start of an image each policy is on exactly where it is
+/// chosen.
 pub fn text_law()
     ensures apart { (choice : Choice) (state : AllState) (x y : AllTag)
         → IsStateOf choice state → IsTagOf choice x → IsTagOf choice y

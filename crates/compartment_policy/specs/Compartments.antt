@@ -2,11 +2,10 @@
 -- The policy's value is how many compartments there are, and how many there may be.
 use Rattle.std.specs.Prelude.{ℕ, ◌+◌, ◌*◌, ◌%◌, ◌^◌, ◌<◌, ◌≤◌, ◌==◌, nat_le, nat_lt, Bool, true, false, not, ◌&&◌, ◌||◌, List, ◌++◌, codes, Option, Some, None, Result, Ok, Err, if◌then◌else◌}
 use Rattle.std.specs.Fmt.{decimal}
-use Rattle.pump_words.specs.Texts.{hex8_text}
 use Rattle.rv_decode.specs.declared.groups.Group.{Group}
 use Rattle.rv_decode.specs.declared.groups.Group.TheVariants as group
 use Rattle.policy_trait.specs.Model.{PolicyModel}
-use Rattle.policy_trait.specs.Sets.{has, set_of, set_with}
+use Rattle.policy_trait.specs.Sets.{has, mask_text, set_of, set_with}
 use Rattle.policy_trait.specs.declared.sets.CompartmentSet.{CompartmentSet}
 use Rattle.policy_trait.specs.declared.rules.Ins.{Ins}
 use Rattle.policy_trait.specs.declared.rules.Mask.{Mask}
@@ -26,14 +25,14 @@ use Rattle.compartment_policy.specs.declared.tag.CompartmentTag.TheVariants.{Pla
 
 -- a set of compartments has room for so many, which are numbered from 0
 abbrev pub compartment_limit : ℕ
-compartment_limit = 32
+compartment_limit = 128
 
 -- how many compartments there are, which is the number of the next, and how many there may be
 pub record CompartmentState : Type 0 where
   pub count : ℕ
   pub limit : ℕ
 
--- so many compartments at the start, and as many as a set has room for may come to be
+-- so many compartments, and as many as a set has room for may come to be
 abbrev pub first_compartments : ℕ → CompartmentState
 first_compartments count = record { count = count; limit = compartment_limit }
 
@@ -187,13 +186,13 @@ abbrev pub compartment_text : CompartmentTag → List ℕ
 compartment_text Plain = codes "plain"
 compartment_text (Pc owner jumped) = codes "pc(" ++ decimal owner ++ (if jumped then codes ",j)" else codes ",-)")
 compartment_text (Place owner into write) =
-    codes "place(" ++ decimal owner ++ codes "," ++ hex8_text into.bits ++ codes "," ++ hex8_text write.bits ++ codes ")"
+    codes "place(" ++ decimal owner ++ codes "," ++ mask_text into.bits ++ codes "," ++ mask_text write.bits ++ codes ")"
 
--- a tag whose numbers are words, as a program's are
-abbrev pub IsOfWords : CompartmentTag → Type 0
-IsOfWords Plain = Unit {0}
-IsOfWords (Pc owner jumped) = owner < 2 ^ 32
-IsOfWords (Place owner into write) = (owner < 2 ^ 32) × (into.bits < 2 ^ 32) × (write.bits < 2 ^ 32)
+-- a tag whose owner is a word and whose sets have 128 bits, as a program's are
+abbrev pub HasFittingNumbers : CompartmentTag → Type 0
+HasFittingNumbers Plain = Unit {0}
+HasFittingNumbers (Pc owner jumped) = owner < 2 ^ 32
+HasFittingNumbers (Place owner into write) = (owner < 2 ^ 32) × (into.bits < 2 ^ 128) × (write.bits < 2 ^ 128)
 
 abbrev pub compartments : PolicyModel CompartmentTag CompartmentState
 compartments = record {

@@ -3,8 +3,8 @@
 ghost use Rattle.std.specs.Prelude.{◌≡◌, ◌+◌, ◌≤◌, ◌++◌, codes, length};
 ghost use Rattle.std.specs.Fmt.{decimal};
 ghost use Rattle.arrayvec.specs.ArrayVec.{array_vec_len};
-ghost use Rattle.pump_words.specs.Texts.{hex8_text};
-ghost use Rattle.compartment_policy.specs.Compartments.{compartments, first_compartments};
+ghost use Rattle.policy_trait.specs.Sets.{mask_text};
+ghost use Rattle.compartment_policy.specs.Compartments.{compartments};
 
 use crate::rules::{entered, is_jump, is_store, is_writer, may_write, refused};
 use crate::services::{LET_IN, LET_WRITE, SPLIT, let_other, retagged, split};
@@ -16,9 +16,6 @@ use pump_words::{Line, dec, write_text};
 use rv_decode::Group;
 use std::alloc::AllocError;
 use std::marker::Model;
-
-/// How many compartments a set has room for.
-const COMPARTMENT_LIMIT: u32 = 32;
 
 /// The policy of compartments. Contracts see it as how many compartments there are, which is the number of the next one, and
 /// how many there may be; the numbers below the first are in use.
@@ -39,16 +36,14 @@ impl Model for Compartments {
 }
 
 impl Compartments {
-    /// So many compartments, from 1 to 32; there may be 32.
-    pub fn new(count: u32) -> Compartments
+    /// So many compartments, at least 1, where there may be `limit` of them, at most 128.
+    pub fn new(count: u32, limit: u32) -> Compartments
         requires some { 1 ≤ count }
-        requires few { count ≤ 32 }
-        ensures { result ≡ first_compartments count }
+        requires within { count ≤ limit }
+        requires few { limit ≤ 128 }
+        ensures { result ≡ record { count = count; limit = limit } }
     {
-        Compartments {
-            count,
-            limit: COMPARTMENT_LIMIT,
-        }
+        Compartments { count, limit }
     }
 }
 
@@ -62,7 +57,7 @@ impl Policy for Compartments {
 
     ghost holds = { IsCount };
 
-    ghost longest = { 90 };
+    ghost longest = { 138 };
 
     fn plain(&self) -> CompartmentTag {
         // read for the proof of `valid` alone: what reads the count knows its invariant
@@ -204,9 +199,9 @@ fn show_owner(to: &mut Line, prefix: &[u8], owner: u32)
 
 /// Appends a comma and a set.
 fn show_set(to: &mut Line, set: CompartmentSet)
-    requires { array_vec_len to.old + 9 ≤ 512 }
-    ensures text { to.new.items ≡ to.old.items ++ codes "," ++ hex8_text set.bits }
-    ensures len { array_vec_len to.new ≡ array_vec_len to.old + 9 }
+    requires { array_vec_len to.old + 33 ≤ 512 }
+    ensures text { to.new.items ≡ to.old.items ++ codes "," ++ mask_text set.bits }
+    ensures short { array_vec_len to.new ≤ array_vec_len to.old + 33 }
 {
     write_text(to, b",");
     set.show(to);

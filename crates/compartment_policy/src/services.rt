@@ -102,7 +102,7 @@ pub(crate) fn retagged(
     plan: &Plan<CompartmentTag>,
     old: CompartmentTag,
 ) -> Result<CompartmentTag, Refused>
-    requires { plan.now.note < 32 }
+    requires { plan.now.note < 128 }
     ensures { result ≡ new_place plan.now.service plan.now.note plan.now.pc old }
 {
     match (plan.pc, old) {
@@ -120,7 +120,7 @@ fn given(
     into: CompartmentSet,
     write: CompartmentSet,
 ) -> CompartmentTag
-    requires { number < 32 }
+    requires { number < 128 }
     ensures { result ≡ given_by service number owner into write }
 {
     match service {

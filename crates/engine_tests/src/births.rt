@@ -112,8 +112,8 @@ const BIRTHS: &[BirthRow] = &[
 fn birth_in(row: &BirthRow) -> Birth {
     Birth {
         owner: row.owner,
-        into: CompartmentSet::of_bits(row.into),
-        write: CompartmentSet::of_bits(row.write),
+        into: CompartmentSet::of_bits(u128::from(row.into)),
+        write: CompartmentSet::of_bits(u128::from(row.write)),
         code: row.code,
         label: row.label,
         heap: row.heap,

@@ -8,6 +8,9 @@ use rv_decode::Group;
 use std::alloc::AllocError;
 use std::cell::Cell;
 
+/// A word is below this number.
+const WORD: u128 = 1 << 32;
+
 /// A policy with the plain tag 5. It counts how often its rule was asked.
 ///
 /// The next tag of the pc is what is left of the pc's tag to 100, and the tag of the result is what is left of the first
@@ -36,7 +39,7 @@ impl Toy {
 }
 
 impl Policy for Toy {
-    ghost use Rattle.std.proofs.Common.{◌≡◌, ℕ, ◌-◌, ◌==◌, min, Some, Ok, Err, true, false, codes, if◌then◌else◌, lit≤, refl, rules};
+    ghost use Rattle.std.proofs.Common.{◌≡◌, ℕ, ◌-◌, ◌==◌, ◌%◌, ◌^◌, min, Some, Ok, Err, true, false, codes, if◌then◌else◌, lit≤, refl, rules};
     ghost use Rattle.policy_trait.specs.declared.rules.Part.TheVariants.{Heap};
     ghost use Rattle.policy_trait.specs.declared.rules.Why.TheVariants.{NotLive, NotOwner, Rule};
     ghost use Rattle.policy_trait.specs.declared.services.Rest.TheVariants.{Plain};
@@ -55,7 +58,7 @@ impl Policy for Toy {
       retag = λ s p old. if old == 9 then Err (record { part = Heap; why = NotLive }) else if old == 8 then Err (record { part = Heap; why = NotOwner }) else Ok (100 - old);
       wipe = λ s pc old. Ok pc;
       commit = λ s p. record s { noted = p.note };
-      start_pc = λ s birth. birth.into.bits;
+      start_pc = λ s birth. birth.into.bits % 2 ^ 32;
       start_word = λ s birth. birth.owner;
       text = λ s tag. codes "toy";
       listed = λ s place. Some (place, 4, 1);
@@ -148,7 +151,7 @@ impl Policy for Toy {
     }
 
     fn start_pc(&self, birth: &Birth) -> u32 {
-        birth.into.bits()
+        (birth.into.bits() % WORD) as u32
     }
 
     fn start_word(&self, birth: &Birth) -> u32 {

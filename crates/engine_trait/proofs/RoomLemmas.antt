@@ -29,10 +29,6 @@ module _ {T : Type 0} (eq : T → T → Bool) (standing : List T) (step : Accoun
 module _ {S T : Type 0} (eq : T → T → Bool) (m : PolicyModel T S) (s : Machine S T) (h : ℕ) (a : Account T) where
   -- ---- a turn whose rule needs more words than there may be
 
-  pub accounted_at_rule : is_over (rule_counted eq m s h a) ≡ true → account_after_turn eq m s h a ≡ record (rule_counted eq m s h a) { turns = next_count a.turns }
-  unfolding account_after_turn
-  accounted_at_rule full = ap (λ over. record (if over then rule_counted eq m s h a else service_counted eq m s h a) { turns = next_count a.turns }) full
-
   pub out_at_rule : is_over (rule_counted eq m s h a) ≡ true → account_out eq m s h a ≡ swept eq (standing_tags m s) (look_counted eq m s h a)
   out_at_rule full =
       ap (λ over. if over then swept eq (standing_tags m s) (look_counted eq m s h a) else swept eq (served_tags m s h) (rule_counted eq m s h a)) full

@@ -31,7 +31,7 @@ false_before false after leads is = refl
 
 -- ---- more tags are more words, so that an account with too many stays one
 
-over_longer : (limit few many : ℕ) → few ≤ many → nat_lt limit few ≡ true → nat_lt limit many ≡ true
+pub over_longer : (limit few many : ℕ) → few ≤ many → nat_lt limit few ≡ true → nat_lt limit many ≡ true
 over_longer limit few many longer over = lt-ltb limit many (let below : limit < few = ltb-true limit few over in omega (arith, below, longer))
 
 module _ {T : Type 0} (eq : T → T → Bool) where
@@ -39,7 +39,7 @@ module _ {T : Type 0} (eq : T → T → Bool) where
   with_tag_longer seen tag true = omega arith
   with_tag_longer seen tag false = let more : length (seen ++ tag ∷ []) ≡ length seen + 1 = length-append seen (tag ∷ []) in omega (arith, more)
 
-  with_tags_longer : (tags seen : List T) → length seen ≤ length (with_tags eq seen tags)
+  pub with_tags_longer : (tags seen : List T) → length seen ≤ length (with_tags eq seen tags)
   with_tags_longer [] seen = omega arith
   with_tags_longer (tag ∷ tags) seen =
       let first : length seen ≤ length (with_tag eq seen tag) = with_tag_longer seen tag (list_any (eq tag) seen) in

@@ -1,6 +1,9 @@
 //! Whole files that are read and written again, files that fail each condition, and files cut short.
 
-use image_format::{ImageEnd, ImageError, read_image, write_image};
+use image_format::{
+    CompartmentRange, CompartmentRows, ImageEnd, ImageError, OwnedRange, Version,
+    WideCompartmentRange, WordRange, read_image, write_image,
+};
 use std::alloc::{AllocError, Global};
 use std::test::Fail;
 
@@ -65,6 +68,43 @@ const FULL: &[u32] = &[
     0, // 32: compartment ranges
 ];
 
+/// The words of a file of version 2 with compartment ranges alone: compartment 127, and masks of 128 bits.
+const WIDE: &[u32] = &[
+    0x504D_5550,
+    0x0001_0002,
+    64,
+    0,
+    0, // 0: magic, version and harts, RAM, heap
+    0, // 5: entry
+    0,
+    0,
+    0,
+    0, // 6: no segments, no code ranges, no labels, no edges
+    2, // 10: compartment ranges
+    0,
+    1,
+    127, // 11: address, words, owner
+    1,
+    0,
+    0,
+    0x8000_0000, // 14: who may jump in
+    0xFFFF_FFFF,
+    0xFFFF_FFFF,
+    0xFFFF_FFFF,
+    0xFFFF_FFFF, // 18: who may write
+    4,
+    2,
+    0, // 22: address, words, owner
+    0x0123_4567,
+    0x89AB_CDEF,
+    0x0246_8ACE,
+    0x1357_9BDF, // 25: who may jump in
+    0,
+    0,
+    1,
+    0, // 29: who may write
+];
+
 fn bytes_of(alloc: Global, words: &[u32]) -> Result<Vec<u8>, AllocError> {
     let mut bytes = Vec::new(alloc);
     for word in words {
@@ -73,9 +113,14 @@ fn bytes_of(alloc: Global, words: &[u32]) -> Result<Vec<u8>, AllocError> {
     Ok(bytes)
 }
 
-/// The full file with another word at one place.
-fn full_with(alloc: Global, place: usize, value: u32) -> Result<Vec<u8>, AllocError> {
-    let mut words = Vec::from_slice(alloc, FULL)?;
+/// A file's words with another at one place.
+fn bytes_with(
+    alloc: Global,
+    words: &[u32],
+    place: usize,
+    value: u32,
+) -> Result<Vec<u8>, AllocError> {
+    let mut words = Vec::from_slice(alloc, words)?;
     if place < words.len() {
         words[place] = value;
     }
@@ -93,16 +138,107 @@ fn is_written_again(alloc: Global, bytes: &[u8]) -> Result<bool, AllocError> {
 #[test]
 fn files_are_written_again(rt: HostRuntime) -> Result<(), Fail> {
     let full = bytes_of(rt.alloc(), FULL)?;
-    for bytes in [HELLO, &full] {
+    let wide = bytes_of(rt.alloc(), WIDE)?;
+    let wide_hello = spliced(rt.alloc(), HELLO, 4, 5, &[2])?;
+    for bytes in [HELLO, &full, &wide, &wide_hello] {
         assert!(rt; is_written_again(rt.alloc(), bytes)?);
     }
     Ok(())
 }
 
+/// The address and the words of a compartment range, its owner, and its masks.
+type Owned = (u32, u32, u32, u128, u128);
+
+/// The compartment ranges of `FULL`.
+const FULL_OWNED: &[Owned] = &[(0, 1, 1, 2, 4), (4, 3, 31, 0, 0)];
+
+/// The compartment ranges of `WIDE`.
+const WIDE_OWNED: &[Owned] = &[
+    (
+        0,
+        1,
+        127,
+        0x8000_0000_0000_0000_0000_0000_0000_0001,
+        0xFFFF_FFFF_FFFF_FFFF_FFFF_FFFF_FFFF_FFFF,
+    ),
+    (
+        4,
+        2,
+        0,
+        0x1357_9BDF_0246_8ACE_89AB_CDEF_0123_4567,
+        0x0000_0000_0000_0001_0000_0000_0000_0000,
+    ),
+];
+
+/// A row as what its fields are.
+fn owned_of<R: OwnedRange>(row: &R) -> Owned {
+    let range = row.range();
+    (
+        range.address,
+        range.words,
+        row.owner(),
+        row.into_mask(),
+        row.write_mask(),
+    )
+}
+
+/// Whether the rows are these, one after the other.
+fn are_owned<R: OwnedRange>(rows: &[R], wanted: &[Owned]) -> bool {
+    rows.len() == wanted.len()
+        && rows
+            .iter()
+            .zip(wanted)
+            .all(|(row, &owned)| owned_of(row) == owned)
+}
+
+/// Whether the file is of that version, and has these compartment ranges.
+fn has_owned(alloc: Global, bytes: &[u8], version: Version, wanted: &[Owned]) -> bool {
+    match read_image(alloc, bytes) {
+        Ok(image) => {
+            image.version() == version
+                && match image.compartments() {
+                    CompartmentRows::Narrow(rows) => are_owned(rows, wanted),
+                    CompartmentRows::Wide(rows) => are_owned(rows, wanted),
+                }
+        }
+        Err(_) => false,
+    }
+}
+
+#[test]
+fn compartment_ranges_are_read(rt: HostRuntime) -> Result<(), Fail> {
+    let full = bytes_of(rt.alloc(), FULL)?;
+    let wide = bytes_of(rt.alloc(), WIDE)?;
+    assert!(rt; has_owned(rt.alloc(), &full, Version::One, FULL_OWNED));
+    assert!(rt; has_owned(rt.alloc(), &wide, Version::Two, WIDE_OWNED));
+    Ok(())
+}
+
+#[test]
+fn versions_have_their_limits(rt: HostRuntime) {
+    assert!(rt; Version::One.compartment_limit() == 32);
+    assert!(rt; Version::Two.compartment_limit() == 128);
+}
+
+#[test]
+fn rows_keep_what_they_are_made_of(rt: HostRuntime) {
+    let range = WordRange {
+        address: 8,
+        words: 3,
+    };
+    let narrow = CompartmentRange::new(range, 31, 0x8000_0001, 0xFFFF_FFFF);
+    assert!(rt; owned_of(&narrow) == (8, 3, 31, 0x8000_0001, 0xFFFF_FFFF));
+    let wide = WideCompartmentRange::new(range, 127, 1 << 127, u128::MAX);
+    assert!(rt; owned_of(&wide) == (8, 3, 127, 1 << 127, u128::MAX));
+}
+
 /// A word of the full file, another value for it, how many bytes are left of the file, and its error then.
 const DAMAGES: &[(usize, u32, usize, ImageError)] = &[
     (0, 0x504D_5551, 172, ImageError::Magic),
-    (1, 0x0002_0002, 172, ImageError::Version(2)),
+    (1, 0x0002_0000, 172, ImageError::Version(0)),
+    (1, 0x0002_0003, 172, ImageError::Version(3)),
+    // The rows of version 1 are too short for version 2.
+    (1, 0x0002_0002, 172, ImageError::Short(172)),
     // The sizes.
     (1, 0x0000_0001, 172, ImageError::Field(1, 6)),
     (1, 0x0009_0001, 172, ImageError::Field(1, 6)),
@@ -149,6 +285,25 @@ const DAMAGES: &[(usize, u32, usize, ImageError)] = &[
     (32, 1, 172, ImageError::Trailing(152)),
     (32, 3, 172, ImageError::Short(172)),
     (32, 0xFFFF_FFFF, 172, ImageError::Short(172)),
+];
+
+/// The same of the file of version 2.
+const WIDE_DAMAGES: &[(usize, u32, usize, ImageError)] = &[
+    (1, 0x0001_0003, 132, ImageError::Version(3)),
+    // Version 1 has no compartment 127, and version 2 has no compartment 128.
+    (1, 0x0001_0001, 132, ImageError::Field(14, 52)),
+    (13, 128, 132, ImageError::Field(14, 52)),
+    (24, 128, 132, ImageError::Field(14, 96)),
+    (23, 16, 132, ImageError::Field(13, 92)),
+    // A row's order comes after its last mask.
+    (22, 0, 132, ImageError::Order(5, 1)),
+    (22, 0, 131, ImageError::Short(131)),
+    // Cut inside a mask, between two of its words.
+    (22, 4, 80, ImageError::Short(80)),
+    // Fewer rows are counted than there are, and more.
+    (10, 1, 132, ImageError::Trailing(88)),
+    (10, 3, 132, ImageError::Short(132)),
+    (10, 0xFFFF_FFFF, 132, ImageError::Short(132)),
 ];
 
 /// From where to where bytes of `HELLO` are gone, what stands in their place, and the error then.
@@ -208,14 +363,21 @@ fn is_refused(alloc: Global, bytes: &[u8], wanted: ImageError) -> bool {
 
 #[test]
 fn the_first_error_is_named(rt: HostRuntime) -> Result<(), Fail> {
-    for &(place, value, left, error) in DAMAGES {
-        let mut file = full_with(rt.alloc(), place, value)?;
-        file.truncate(left);
-        assert!(rt;
-            is_refused(rt.alloc(), &file, error),
-            "the word at {place} is {value}"
-        );
+    for (words, damages) in [(FULL, DAMAGES), (WIDE, WIDE_DAMAGES)] {
+        for &(place, value, left, error) in damages {
+            let mut file = bytes_with(rt.alloc(), words, place, value)?;
+            file.truncate(left);
+            assert!(rt;
+                is_refused(rt.alloc(), &file, error),
+                "the word at {place} is {value}"
+            );
+        }
     }
+    Ok(())
+}
+
+#[test]
+fn the_first_error_of_other_bytes_is_named(rt: HostRuntime) -> Result<(), Fail> {
     for &(from, to, put, error) in HELLO_DAMAGES {
         let file = spliced(rt.alloc(), HELLO, from, to, put)?;
         assert!(rt; is_refused(rt.alloc(), &file, error), "from {from} to {to}");
@@ -226,7 +388,8 @@ fn the_first_error_is_named(rt: HostRuntime) -> Result<(), Fail> {
 #[test]
 fn files_that_are_cut_are_too_short(rt: HostRuntime) -> Result<(), Fail> {
     let full = bytes_of(rt.alloc(), FULL)?;
-    for file in [HELLO, &full] {
+    let wide = bytes_of(rt.alloc(), WIDE)?;
+    for file in [HELLO, &full, &wide] {
         for left in 0..file.len() {
             assert!(rt; is_refused(rt.alloc(), &file[..left], ImageError::Short(left)));
         }

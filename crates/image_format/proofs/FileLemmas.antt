@@ -1,21 +1,23 @@
 -- A file that is read is the spelling of an image, and each image is read again from its spelling.
-use Rattle.std.proofs.Common.{◌≡◌, ℕ, ◌+◌, ◌-◌, ◌^◌, ◌<◌, ◌≤◌, true, ◌&&◌, eqb, leb, ltb, List, [], ◌++◌, length, Result, Ok, Err, refl, sym, ap, subst, ◌∙◌, append_assoc, arith}
+use Rattle.std.proofs.Common.{◌≡◌, ℕ, ◌+◌, ◌-◌, ◌^◌, ◌<◌, ◌≤◌, Bool, true, false, cond, ◌==◌, ◌&&◌, eqb, leb, ltb, List, [], ◌++◌, length, Result, Ok, Err, refl, sym, ap, subst, ◌∙◌, append_assoc, arith}
 use Rattle.std.specs.Prelude.{codes, IfOk}
 use Rattle.std.specs.List.{flat_map, list_all}
 use Rattle.std.specs.Int.{w16, w32}
 use Rattle.std.proofs.lemmas.Bool.{eqb-true, leb-true, ltb-true}
 use Rattle.std.proofs.lemmas.List.{append-nil, nil_from_length}
-use Rattle.image_format.specs.declared.errors.ImageError.TheVariants.{Magic, Version, Field, Trailing}
+use Rattle.image_format.specs.declared.errors.ImageError.TheVariants.{Magic, Version as OtherVersion, Field, Trailing}
 use Rattle.image_format.specs.declared.errors.ImageEnd.{ImageEnd}
 use Rattle.image_format.specs.declared.errors.ImageEnd.TheVariants as ends
+use Rattle.image_format.specs.declared.version.Version.{Version}
+use Rattle.image_format.specs.declared.version.Version.TheVariants.{One, Two}
 use Rattle.image_format.specs.declared.sizes.Sizes.{Sizes}
 use Rattle.image_format.specs.Picture.{Picture}
 use Rattle.image_format.specs.Conditions.{is_aligned, is_harts, is_ram, is_heap_base, is_heap_bytes, is_place, is_range, is_label, is_edge, is_compartment, is_segment, is_clear_of, is_label_after, is_edge_after, is_compartment_after, extent_of, whole, IsImage, IsList}
-use Rattle.image_format.specs.Spelling.{half, number, range_spelling, segment_spelling, label_spelling, edge_spelling, compartment_spelling, list_spelling, opening_spelling, sizes_spelling, lists_spelling, spelling, IsFileOf}
+use Rattle.image_format.specs.Spelling.{half, number, range_spelling, segment_spelling, label_spelling, edge_spelling, compartment_spelling, list_spelling, version_number, opening_spelling, sizes_spelling, lists_spelling, spelling, IsFileOf}
 use Rattle.shared_terms.specs.Steps.{demand}
-use Rattle.image_format.specs.Reading.{GivesImage, IsBad, tested_at, field_at, range_at, label_at, edge_at, compartment_at, segment_at, row_at, list_at, is_magic, is_version, harts_at, opening_at, sizes_at, entries_at, lists_at, picture_at, image_of}
+use Rattle.image_format.specs.Reading.{GivesImage, IsBad, number_at, tested_at, field_at, range_at, label_at, edge_at, compartment_at, segment_at, row_at, list_at, is_magic, version_numbered, version_at, harts_at, opening_at, sizes_at, entries_at, lists_at, picture_at, image_of}
 use Rattle.shared_terms.proofs.StepLemmas.{on_ok, demanded, ok_is}
-use Rattle.image_format.proofs.FieldLemmas.{both, IsBytes, Takes, takes_then, ReadsExactly, tested_exact, half_exact}
+use Rattle.image_format.proofs.FieldLemmas.{both, IsBytes, Takes, takes_then, ReadsExactly, tested_exact, plain_half_exact, half_exact}
 use Rattle.image_format.proofs.LoopLemmas.{times_length}
 use Rattle.image_format.proofs.ListLemmas.{items_take, items_again, row_reads, list_exact}
 use Rattle.image_format.proofs.RowLemmas.{field_exact, range_exact, label_exact, edge_exact, compartment_exact, segment_reads, regroup_4}
@@ -26,25 +28,34 @@ magic_is : (n : ℕ) → is_magic n ≡ true → number n ≡ codes "PUMP"
 unfolding number
 magic_is n e = ap number (eqb-true n _ e)
 
-version_is : (n : ℕ) → is_version n ≡ true → half n ≡ half 1
-version_is n e = ap half (eqb-true n 1 e)
+-- a number that is that of a version
+numbered_is : (one two : Bool) (n : ℕ) (version : Version) → (n == 1) ≡ one → (n == 2) ≡ two → cond one (Ok One) (cond two (Ok Two) (Err (OtherVersion n))) ≡ Ok version → n ≡ version_number version
+numbered_is true two n version one-is two-is e = subst (λ (v : Version). n ≡ version_number v) (ok_is One version e) (eqb-true n 1 one-is)
+numbered_is false true n version one-is two-is e = subst (λ (v : Version). n ≡ version_number v) (ok_is Two version e) (eqb-true n 2 two-is)
+numbered_is false false n version one-is two-is e = absurd cc
 
-opening_takes : (size : ℕ) (bytes rest : List ℕ) → IsBytes bytes → opening_at size bytes ≡ Ok rest → Takes bytes opening_spelling rest
-unfolding opening_at
-opening_takes size bytes rest is_bytes e =
-    on_ok (tested_at w32 size is_magic (λ _. Magic) bytes) _ rest e λ magic magic-is e1.
-    on_ok (tested_at w16 size is_version (λ n. Version n) magic.1) _ rest e1 λ version version-is e2.
+version_again : (size : ℕ) (version : Version) (rest : List ℕ) → version_at size (half (version_number version) ++ rest) ≡ Ok (version, rest)
+unfolding version_at
+version_again size One rest = rw ((plain_half_exact size).again 1 rest (omega arith)) refl
+version_again size Two rest = rw ((plain_half_exact size).again 2 rest (omega arith)) refl
+
+opening_takes : (size : ℕ) (bytes : List ℕ) (x : Version × List ℕ) → IsBytes bytes → opening_at size bytes ≡ Ok x → Takes bytes (opening_spelling x.0) x.1
+unfolding opening_at version_at
+opening_takes size bytes x is_bytes e =
+    on_ok (tested_at w32 size is_magic (λ _. Magic) bytes) _ x e λ magic magic-is e1.
+    on_ok (number_at w16 size magic.1) _ x e1 λ n n-is e2.
+    on_ok (version_numbered n.0) _ x e2 λ version version-is e3.
     let t1 = (tested_exact size is_magic (λ _. Magic)).takes bytes magic is_bytes magic-is in
-    let t2 = (half_exact size is_version (λ n. Version n)).takes magic.1 version t1.0.rest_is_bytes version-is in
-    let taken = takes_then bytes (number magic.0) magic.1 (half version.0) version.1 t1.0 t2.0 in
-    let named = subst (λ (text : List ℕ). Takes bytes (text ++ half version.0) version.1) (magic_is magic.0 t1.1.1) taken in
-    let whole = subst (λ (text : List ℕ). Takes bytes (codes "PUMP" ++ text) version.1) (version_is version.0 t2.1.1) named in
-    subst (λ (left : List ℕ). Takes bytes opening_spelling left) (ok_is version.1 rest e2) whole
+    let t2 = (plain_half_exact size).takes magic.1 n t1.0.rest_is_bytes n-is in
+    let taken = takes_then bytes (number magic.0) magic.1 (half n.0) n.1 t1.0 t2.0 in
+    let named = subst (λ (text : List ℕ). Takes bytes (text ++ half n.0) n.1) (magic_is magic.0 t1.1.1) taken in
+    let spelled = subst (λ (k : ℕ). Takes bytes (codes "PUMP" ++ half k) n.1) (numbered_is (n.0 == 1) (n.0 == 2) n.0 version refl refl version-is) named in
+    subst (λ (y : Version × List ℕ). Takes bytes (opening_spelling y.0) y.1) (ok_is (version, n.1) x e3) spelled
 
-pub opening_again : (size : ℕ) (rest : List ℕ) → opening_at size (opening_spelling ++ rest) ≡ Ok rest
+pub opening_again : (size : ℕ) (version : Version) (rest : List ℕ) → opening_at size (opening_spelling version ++ rest) ≡ Ok (version, rest)
 unfolding opening_at number
-opening_again size rest =
-    rw ((tested_exact size is_magic (λ _. Magic)).again 0x504D5550 (half 1 ++ rest) (omega arith, refl), (half_exact size is_version (λ n. Version n)).again 1 rest (omega arith, refl)) refl
+opening_again size version rest =
+    rw ((tested_exact size is_magic (λ _. Magic)).again 0x504D5550 (half (version_number version) ++ rest) (omega arith, refl), version_again size version rest) refl
 
 -- ---- the sizes
 
@@ -117,41 +128,43 @@ labels_exact size ram small = list_exact size (row_at 3 is_label_after (label_at
 pub edges_exact : (size : ℕ) → ReadsExactly (list_at size (row_at 4 is_edge_after (edge_at size))) (list_spelling edge_spelling) (IsList whole is_edge is_edge_after)
 edges_exact size = list_exact size (row_at 4 is_edge_after (edge_at size)) whole edge_spelling is_edge is_edge_after (row_reads 4 is_edge_after (edge_at size) edge_spelling is_edge (edge_exact size))
 
-compartments_exact : (size ram : ℕ) → ram < 2 ^ 32 → ReadsExactly (list_at size (row_at 5 is_compartment_after (compartment_at size ram))) (list_spelling compartment_spelling) (IsList whole (is_compartment ram) is_compartment_after)
-compartments_exact size ram small = list_exact size (row_at 5 is_compartment_after (compartment_at size ram)) whole compartment_spelling (is_compartment ram) is_compartment_after (row_reads 5 is_compartment_after (compartment_at size ram) compartment_spelling (is_compartment ram) (compartment_exact size ram small))
+compartments_exact : (version : Version) (size ram : ℕ) → ram < 2 ^ 32 → ReadsExactly (list_at size (row_at 5 is_compartment_after (compartment_at version size ram))) (list_spelling (compartment_spelling version)) (IsList whole (is_compartment version ram) is_compartment_after)
+compartments_exact version size ram small = list_exact size (row_at 5 is_compartment_after (compartment_at version size ram)) whole (compartment_spelling version) (is_compartment version ram) is_compartment_after (row_reads 5 is_compartment_after (compartment_at version size ram) (compartment_spelling version) (is_compartment version ram) (compartment_exact version size ram small))
 
--- an image that was read under sizes and entries
-record TakesLists (sizes : Sizes) (entries bytes : List ℕ) (x : Picture × List ℕ) : Type 0 where
+-- an image that was read under a version, sizes and entries
+record TakesLists (version : Version) (sizes : Sizes) (entries bytes : List ℕ) (x : Picture × List ℕ) : Type 0 where
   pub taken : Takes bytes (lists_spelling x.0) x.1
   pub is_image : IsImage x.0
   pub sizes_spelling_is : sizes_spelling x.0 ≡ spelling_of_sizes sizes
   pub entries_are : x.0.entries ≡ entries
+  pub version_is : x.0.version ≡ version
 
-lists_take : (size : ℕ) (sizes : Sizes) (entries bytes : List ℕ) (x : Picture × List ℕ) → FitSizes sizes → length entries ≡ sizes.harts → list_all (is_place sizes.ram) entries ≡ true → IsBytes bytes → lists_at size sizes entries bytes ≡ Ok x → TakesLists sizes entries bytes x
+lists_take : (size : ℕ) (version : Version) (sizes : Sizes) (entries bytes : List ℕ) (x : Picture × List ℕ) → FitSizes sizes → length entries ≡ sizes.harts → list_all (is_place sizes.ram) entries ≡ true → IsBytes bytes → lists_at size version sizes entries bytes ≡ Ok x → TakesLists version sizes entries bytes x
 unfolding lists_at
-lists_take size sizes entries bytes x fits count places is_bytes e =
+lists_take size version sizes entries bytes x fits count places is_bytes e =
     on_ok (list_at size (segment_at size sizes.ram) bytes) _ x e λ segments segments-are e1.
     on_ok (list_at size (row_at 2 is_clear_of (range_at size sizes.ram 8)) segments.1) _ x e1 λ code code-is e2.
     on_ok (list_at size (row_at 3 is_label_after (label_at size sizes.ram)) code.1) _ x e2 λ labels labels-are e3.
     on_ok (list_at size (row_at 4 is_edge_after (edge_at size)) labels.1) _ x e3 λ edges edges-are e4.
-    on_ok (list_at size (row_at 5 is_compartment_after (compartment_at size sizes.ram)) edges.1) _ x e4 λ compartments compartments-are e5.
+    on_ok (list_at size (row_at 5 is_compartment_after (compartment_at version size sizes.ram)) edges.1) _ x e4 λ compartments compartments-are e5.
     let small = ram_small sizes.ram fits.ram in
     let t1 = (segments_exact size sizes.ram small).takes bytes segments is_bytes segments-are in
     let t2 = (code_exact size sizes.ram small).takes segments.1 code t1.0.rest_is_bytes code-is in
     let t3 = (labels_exact size sizes.ram small).takes code.1 labels t2.0.rest_is_bytes labels-are in
     let t4 = (edges_exact size).takes labels.1 edges t3.0.rest_is_bytes edges-are in
-    let t5 = (compartments_exact size sizes.ram small).takes edges.1 compartments t4.0.rest_is_bytes compartments-are in
-    let from_edges = takes_then labels.1 (list_spelling edge_spelling edges.0) edges.1 (list_spelling compartment_spelling compartments.0) compartments.1 t4.0 t5.0 in
-    let from_labels = takes_then code.1 (list_spelling label_spelling labels.0) labels.1 (list_spelling edge_spelling edges.0 ++ list_spelling compartment_spelling compartments.0) compartments.1 t3.0 from_edges in
-    let from_code = takes_then segments.1 (list_spelling range_spelling code.0) code.1 (list_spelling label_spelling labels.0 ++ (list_spelling edge_spelling edges.0 ++ list_spelling compartment_spelling compartments.0)) compartments.1 t2.0 from_labels in
-    let taken = takes_then bytes (list_spelling segment_spelling segments.0) segments.1 (list_spelling range_spelling code.0 ++ (list_spelling label_spelling labels.0 ++ (list_spelling edge_spelling edges.0 ++ list_spelling compartment_spelling compartments.0))) compartments.1 t1.0 from_code in
-    let made : Picture × List ℕ = (record { ram = sizes.ram; heap_base = sizes.heap_base; heap_bytes = sizes.heap_bytes; entries = entries; segments = segments.0; code = code.0; labels = labels.0; edges = edges.0; compartments = compartments.0 }, compartments.1) in
+    let t5 = (compartments_exact version size sizes.ram small).takes edges.1 compartments t4.0.rest_is_bytes compartments-are in
+    let from_edges = takes_then labels.1 (list_spelling edge_spelling edges.0) edges.1 (list_spelling (compartment_spelling version) compartments.0) compartments.1 t4.0 t5.0 in
+    let from_labels = takes_then code.1 (list_spelling label_spelling labels.0) labels.1 (list_spelling edge_spelling edges.0 ++ list_spelling (compartment_spelling version) compartments.0) compartments.1 t3.0 from_edges in
+    let from_code = takes_then segments.1 (list_spelling range_spelling code.0) code.1 (list_spelling label_spelling labels.0 ++ (list_spelling edge_spelling edges.0 ++ list_spelling (compartment_spelling version) compartments.0)) compartments.1 t2.0 from_labels in
+    let taken = takes_then bytes (list_spelling segment_spelling segments.0) segments.1 (list_spelling range_spelling code.0 ++ (list_spelling label_spelling labels.0 ++ (list_spelling edge_spelling edges.0 ++ list_spelling (compartment_spelling version) compartments.0))) compartments.1 t1.0 from_code in
+    let made : Picture × List ℕ = (record { version = version; ram = sizes.ram; heap_base = sizes.heap_base; heap_bytes = sizes.heap_bytes; entries = entries; segments = segments.0; code = code.0; labels = labels.0; edges = edges.0; compartments = compartments.0 }, compartments.1) in
     let harts : is_harts (length entries) ≡ true = subst (λ (n : ℕ). is_harts n ≡ true) (sym count) fits.harts in
-    subst (TakesLists sizes entries bytes) (ok_is made x e5) (record {
+    subst (TakesLists version sizes entries bytes) (ok_is made x e5) (record {
       taken = taken;
       is_image = record { harts = harts; ram = fits.ram; heap_base = fits.heap_base; heap_bytes = fits.heap_bytes; entries = places; segments = t1.1; code = t2.1; labels = t3.1; edges = t4.1; compartments = t5.1 };
       sizes_spelling_is = ap (λ (n : ℕ). half n ++ (number sizes.ram ++ (number sizes.heap_base ++ number sizes.heap_bytes))) count;
       entries_are = refl;
+      version_is = refl;
     })
 
 -- the sizes of an image
@@ -161,21 +174,21 @@ sizes_of g = record { harts = length g.entries; ram = g.ram; heap_base = g.heap_
 regroup_5 : (a b c d e rest : List ℕ) → (a ++ (b ++ (c ++ (d ++ e)))) ++ rest ≡ a ++ (b ++ (c ++ (d ++ (e ++ rest))))
 regroup_5 a b c d e rest = simp append_assoc
 
-lists_again : (size : ℕ) (g : Picture) (rest : List ℕ) → IsImage g → lists_at size (sizes_of g) g.entries (lists_spelling g ++ rest) ≡ Ok (g, rest)
+lists_again : (size : ℕ) (g : Picture) (rest : List ℕ) → IsImage g → lists_at size g.version (sizes_of g) g.entries (lists_spelling g ++ rest) ≡ Ok (g, rest)
 unfolding lists_at
 lists_again size g rest is =
     let small = ram_small g.ram is.ram in
-    let compartments = list_spelling compartment_spelling g.compartments ++ rest in
+    let compartments = list_spelling (compartment_spelling g.version) g.compartments ++ rest in
     let edges = list_spelling edge_spelling g.edges ++ compartments in
     let labels = list_spelling label_spelling g.labels ++ edges in
     let code = list_spelling range_spelling g.code ++ labels in
-    ap (lists_at size (sizes_of g) g.entries) (regroup_5 (list_spelling segment_spelling g.segments) (list_spelling range_spelling g.code) (list_spelling label_spelling g.labels) (list_spelling edge_spelling g.edges) (list_spelling compartment_spelling g.compartments) rest)
+    ap (lists_at size g.version (sizes_of g) g.entries) (regroup_5 (list_spelling segment_spelling g.segments) (list_spelling range_spelling g.code) (list_spelling label_spelling g.labels) (list_spelling edge_spelling g.edges) (list_spelling (compartment_spelling g.version) g.compartments) rest)
     ∙ rw (
       (segments_exact size g.ram small).again g.segments code is.segments,
       (code_exact size g.ram small).again g.code labels is.code,
       (labels_exact size g.ram small).again g.labels edges is.labels,
       (edges_exact size).again g.edges compartments is.edges,
-      (compartments_exact size g.ram small).again g.compartments rest is.compartments,
+      (compartments_exact g.version size g.ram small).again g.compartments rest is.compartments,
     ) refl
 
 -- ---- the whole
@@ -190,28 +203,29 @@ picture_exact : (size : ℕ) → ReadsExactly (picture_at size) spelling IsImage
 unfolding picture_at spelling
 picture_exact size = record {
   takes = λ bytes x is_bytes e.
-      on_ok (opening_at size bytes) _ x e λ rest rest-is e1.
-      on_ok (sizes_at size rest) _ x e1 λ sizes sizes-are e2.
+      on_ok (opening_at size bytes) _ x e λ opening opening-is e1.
+      on_ok (sizes_at size opening.1) _ x e1 λ sizes sizes-are e2.
       on_ok (entries_at size sizes.0 sizes.1) _ x e2 λ entries entries-are e3.
-      let t1 = opening_takes size bytes rest is_bytes rest-is in
-      let t2 = (sizes_exact size).takes rest sizes t1.rest_is_bytes sizes-are in
+      let t1 = opening_takes size bytes opening is_bytes opening-is in
+      let t2 = (sizes_exact size).takes opening.1 sizes t1.rest_is_bytes sizes-are in
       let entry = field_at size 5 (is_place sizes.0.ram) in
       let t3 = items_take entry number (λ n. (n < 2 ^ 32) × (is_place sizes.0.ram n ≡ true)) (is_place sizes.0.ram) (field_exact size 5 (is_place sizes.0.ram)) (λ n fits. fits.1) sizes.0.harts sizes.1 entries t2.0.rest_is_bytes entries-are in
       let count = times_length sizes.0.harts entry sizes.1 entries entries-are in
-      let t4 = lists_take size sizes.0 entries.0 entries.1 x t2.1 count t3.1 t3.0.rest_is_bytes e3 in
+      let t4 = lists_take size opening.0 sizes.0 entries.0 entries.1 x t2.1 count t3.1 t3.0.rest_is_bytes e3 in
       let from_entries = takes_then sizes.1 (flat_map number entries.0) entries.1 (lists_spelling x.0) x.1 t3.0 t4.taken in
-      let from_sizes = takes_then rest (spelling_of_sizes sizes.0) sizes.1 (flat_map number entries.0 ++ lists_spelling x.0) x.1 t2.0 from_entries in
-      let taken = takes_then bytes opening_spelling rest (spelling_of_sizes sizes.0 ++ (flat_map number entries.0 ++ lists_spelling x.0)) x.1 t1 from_sizes in
-      let of_sizes = subst (λ (text : List ℕ). Takes bytes (opening_spelling ++ (text ++ (flat_map number entries.0 ++ lists_spelling x.0))) x.1) (sym t4.sizes_spelling_is) taken in
-      (subst (λ (es : List ℕ). Takes bytes (opening_spelling ++ (sizes_spelling x.0 ++ (flat_map number es ++ lists_spelling x.0))) x.1) (sym t4.entries_are) of_sizes, t4.is_image);
+      let from_sizes = takes_then opening.1 (spelling_of_sizes sizes.0) sizes.1 (flat_map number entries.0 ++ lists_spelling x.0) x.1 t2.0 from_entries in
+      let taken = takes_then bytes (opening_spelling opening.0) opening.1 (spelling_of_sizes sizes.0 ++ (flat_map number entries.0 ++ lists_spelling x.0)) x.1 t1 from_sizes in
+      let of_sizes = subst (λ (text : List ℕ). Takes bytes (opening_spelling opening.0 ++ (text ++ (flat_map number entries.0 ++ lists_spelling x.0))) x.1) (sym t4.sizes_spelling_is) taken in
+      let of_entries = subst (λ (es : List ℕ). Takes bytes (opening_spelling opening.0 ++ (sizes_spelling x.0 ++ (flat_map number es ++ lists_spelling x.0))) x.1) (sym t4.entries_are) of_sizes in
+      (subst (λ (version : Version). Takes bytes (opening_spelling version ++ (sizes_spelling x.0 ++ (flat_map number x.0.entries ++ lists_spelling x.0))) x.1) (sym t4.version_is) of_entries, t4.is_image);
   again = λ g rest is.
       let small = ram_small g.ram is.ram in
       let lists = lists_spelling g ++ rest in
       let entries = flat_map number g.entries ++ lists in
       let entries_again = items_again (field_at size 5 (is_place g.ram)) number (λ n. (n < 2 ^ 32) × (is_place g.ram n ≡ true)) (is_place g.ram) (field_exact size 5 (is_place g.ram)) (λ n below. entry_small g.ram n small below) g.entries lists is.entries in
-      ap (picture_at size) (regroup_4 opening_spelling (sizes_spelling g) (flat_map number g.entries) (lists_spelling g) rest)
+      ap (picture_at size) (regroup_4 (opening_spelling g.version) (sizes_spelling g) (flat_map number g.entries) (lists_spelling g) rest)
       ∙ rw (
-        opening_again size (sizes_spelling g ++ entries),
+        opening_again size g.version (sizes_spelling g ++ entries),
         (sizes_exact size).again (sizes_of g) entries (record { harts = is.harts; ram = is.ram; heap_base = is.heap_base; heap_bytes = is.heap_bytes }),
         entries_again,
         lists_again size g rest is,

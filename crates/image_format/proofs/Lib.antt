@@ -8,4 +8,5 @@ pub mod ListLemmas
 pub mod RowLemmas
 pub mod FileLemmas
 pub mod ImageLemmas
+pub mod MigratedLemmas
 pub mod PrefixLemmas

@@ -1,20 +1,22 @@
 -- A proper prefix of a file is short, at its own length.
 use Rattle.std.proofs.Common.{◌≡◌, ℕ, suc, ◌+◌, ◌-◌, ◌*◌, ◌^◌, ◌<◌, ◌≤◌, Bool, true, leb, Option, Some, None, List, [], ◌∷◌, ◌++◌, length, take, Result, Err, refl, sym, ap, subst, ◌∙◌, zero-add, arith, inl, inr}
 use Rattle.std.specs.List.{list_all, flat_map}
-use Rattle.std.specs.Int.{Width, w16, w32, byte_len, to_le_bytes}
+use Rattle.std.specs.Int.{Width, w16, w32, w128, byte_len, to_le_bytes}
 use Rattle.std.proofs.lemmas.Bool.{cases_lt, lt-ltb, leb-true, ltb-true}
 use Rattle.std.proofs.lemmas.List.{take-append-le, length-append, length-take-le}
 use Rattle.std.proofs.lemmas.List.Concat.{flat_map-cons}
 use Rattle.image_format.specs.declared.errors.ImageError.{ImageError}
-use Rattle.image_format.specs.declared.errors.ImageError.TheVariants.{Magic, Version, Short, Field}
+use Rattle.image_format.specs.declared.errors.ImageError.TheVariants.{Magic, Short, Field}
+use Rattle.image_format.specs.declared.version.Version.{Version}
+use Rattle.image_format.specs.declared.version.Version.TheVariants.{One, Two}
 use Rattle.image_format.specs.Picture.{Picture}
 use Rattle.image_format.specs.Conditions.{is_u32, is_aligned, is_harts, is_ram, is_heap_base, is_heap_bytes, is_place, is_word_count, is_owner, is_range, is_label, is_edge, is_compartment, is_segment, is_clear_of, is_label_after, is_edge_after, is_compartment_after, in_order, are_rows, extent_of, whole, IsImage, IsList}
-use Rattle.image_format.specs.Spelling.{half, number, range_spelling, segment_spelling, label_spelling, edge_spelling, compartment_spelling, list_spelling, opening_spelling, sizes_spelling, lists_spelling, spelling, IsFileOf}
-use Rattle.image_format.specs.Reading.{Reads, Place, number_at, tested_at, field_at, times, range_at, label_at, edge_at, compartment_at, row_at, range_behind_at, segment_at, rows_at, list_at, is_magic, is_version, opening_at, sizes_at, lists_at, picture_at, image_of}
-use Rattle.image_format.proofs.FieldLemmas.{both, ReadsExactly, number_exact, tested_exact}
+use Rattle.image_format.specs.Spelling.{half, number, wide_number, mask_spelling, range_spelling, segment_spelling, label_spelling, edge_spelling, compartment_spelling, list_spelling, version_number, opening_spelling, sizes_spelling, lists_spelling, spelling, IsFileOf}
+use Rattle.image_format.specs.Reading.{Reads, Place, number_at, mask_at, tested_at, field_at, times, range_at, label_at, edge_at, compartment_at, row_at, range_behind_at, segment_at, rows_at, list_at, is_magic, version_at, opening_at, sizes_at, lists_at, picture_at, image_of}
+use Rattle.image_format.proofs.FieldLemmas.{both, ReadsExactly, number_exact, mask_exact, tested_exact}
 use Rattle.image_format.proofs.LoopLemmas.{placed}
 use Rattle.image_format.proofs.ListLemmas.{items_again, ReadsRow, row_reads}
-use Rattle.image_format.proofs.RowLemmas.{field_exact, range_exact, label_exact, edge_exact, compartment_exact, segment_reads}
+use Rattle.image_format.proofs.RowLemmas.{field_exact, range_exact, label_exact, edge_exact, owner_small, compartment_exact, segment_reads}
 use Rattle.image_format.proofs.FileLemmas.{FitSizes, spelling_of_sizes, sizes_of, ram_small, harts_small, entry_small, harts_exact, sizes_exact, opening_again, segments_exact, code_exact, labels_exact, edges_exact}
 
 -- ---- a text of two parts, cut
@@ -65,6 +67,15 @@ field_short size field test value n lt = tested_short w32 size test (λ _. Field
 id_short : (size value n : ℕ) → n < length (number value) → number_at w32 size (take n (number value)) ≡ Err (Short size)
 id_short size value n lt = number_short w32 size (take n (number value)) (number_cut value n lt)
 
+wide_short : (size value n : ℕ) → n < length (wide_number value) → number_at w128 size (take n (wide_number value)) ≡ Err (Short size)
+unfolding wide_number
+wide_short size value n lt =
+    number_short w128 size (take n (wide_number value)) (omega (arith, length-take-le n (to_le_bytes w128 value) (omega arith)))
+
+mask_short : (version : Version) (size value n : ℕ) → n < length (mask_spelling version value) → mask_at version size (take n (mask_spelling version value)) ≡ Err (Short size)
+mask_short One size value n lt = id_short size value n lt
+mask_short Two size value n lt = wide_short size value n lt
+
 -- ---- rows
 
 range_short : (size ram field : ℕ) → ram < 2 ^ 32 → TellsShort size (range_at size ram field) range_spelling (λ range. is_range ram range ≡ true)
@@ -101,25 +112,26 @@ edge_short size = record {
       (λ m in_target. rw ((number_exact size).again edge.source (take m (number edge.target)) parts.0, id_short size edge.target m in_target) refl);
 }
 
-compartment_short : (size ram : ℕ) → ram < 2 ^ 32 → TellsShort size (compartment_at size ram) compartment_spelling (λ row. is_compartment ram row ≡ true)
+compartment_short : (version : Version) (size ram : ℕ) → ram < 2 ^ 32 → TellsShort size (compartment_at version size ram) (compartment_spelling version) (λ row. is_compartment version ram row ≡ true)
 unfolding compartment_at
-compartment_short size ram small = record {
+compartment_short version size ram small = record {
   short = λ row n fits lt.
+      let mask = mask_spelling version in
       let p4 = both _ _ fits in
       let p3 = both _ _ p4.0 in
       let p2 = both _ _ p3.0 in
-      let most : row.owner ≤ 31 = leb-true _ _ p2.1 in
+      let owner_fits : (row.owner < 2 ^ 32) × (is_owner version row.owner ≡ true) = (owner_small version row.owner p2.1, p2.1) in
       let range = (range_exact size ram 12 small).again row.range in
-      let owner = (field_exact size 14 is_owner).again row.owner in
-      let into = (number_exact size).again row.into in
-      let IsShort : List ℕ → Type 0 = λ t. compartment_at size ram t ≡ Err (Short size) in
-      cut IsShort n (range_spelling row.range) (number row.owner ++ (number row.into ++ number row.write)) lt
+      let owner = (field_exact size 14 (is_owner version)).again row.owner in
+      let into = (mask_exact version size).again row.into in
+      let IsShort : List ℕ → Type 0 = λ t. compartment_at version size ram t ≡ Err (Short size) in
+      cut IsShort n (range_spelling row.range) (number row.owner ++ (mask row.into ++ mask row.write)) lt
       (λ in_range. rw ((range_short size ram 12 small).short row.range n p2.0 in_range) refl)
-      (λ n1 lt1. cut (λ (t : List ℕ). IsShort (range_spelling row.range ++ t)) n1 (number row.owner) (number row.into ++ number row.write) lt1
-      (λ in_owner. rw (range (take n1 (number row.owner)) p2.0, field_short size 14 is_owner row.owner n1 in_owner) refl)
-      (λ n2 lt2. cut (λ (t : List ℕ). IsShort (range_spelling row.range ++ (number row.owner ++ t))) n2 (number row.into) (number row.write) lt2
-      (λ in_into. rw (range (number row.owner ++ take n2 (number row.into)) p2.0, owner (take n2 (number row.into)) (omega arith, p2.1), id_short size row.into n2 in_into) refl)
-      (λ n3 in_write. rw (range (number row.owner ++ (number row.into ++ take n3 (number row.write))) p2.0, owner (number row.into ++ take n3 (number row.write)) (omega arith, p2.1), into (take n3 (number row.write)) p3.1, id_short size row.write n3 in_write) refl)));
+      (λ n1 lt1. cut (λ (t : List ℕ). IsShort (range_spelling row.range ++ t)) n1 (number row.owner) (mask row.into ++ mask row.write) lt1
+      (λ in_owner. rw (range (take n1 (number row.owner)) p2.0, field_short size 14 (is_owner version) row.owner n1 in_owner) refl)
+      (λ n2 lt2. cut (λ (t : List ℕ). IsShort (range_spelling row.range ++ (number row.owner ++ t))) n2 (mask row.into) (mask row.write) lt2
+      (λ in_into. rw (range (number row.owner ++ take n2 (mask row.into)) p2.0, owner (take n2 (mask row.into)) owner_fits, mask_short version size row.into n2 in_into) refl)
+      (λ n3 in_write. rw (range (number row.owner ++ (mask row.into ++ take n3 (mask row.write))) p2.0, owner (mask row.into ++ take n3 (mask row.write)) owner_fits, into (take n3 (mask row.write)) p3.1, mask_short version size row.write n3 in_write) refl)));
 }
 
 -- ---- items and rows, one behind the other
@@ -183,13 +195,14 @@ segment_short size ram small = record {
 
 -- ---- the parts of a file
 
-opening_short : (size n : ℕ) → n < length opening_spelling → opening_at size (take n opening_spelling) ≡ Err (Short size)
-unfolding opening_at number
-opening_short size n lt =
+opening_short : (size : ℕ) (version : Version) (n : ℕ) → n < length (opening_spelling version) → opening_at size (take n (opening_spelling version)) ≡ Err (Short size)
+unfolding opening_at version_at number
+opening_short size version n lt =
+    let text = half (version_number version) in
     let magic = (tested_exact size is_magic (λ _. Magic)).again 0x504D5550 in
-    cut (λ (t : List ℕ). opening_at size t ≡ Err (Short size)) n (number 0x504D5550) (half 1) lt
+    cut (λ (t : List ℕ). opening_at size t ≡ Err (Short size)) n (number 0x504D5550) text lt
     (λ in_magic. rw (tested_short w32 size is_magic (λ _. Magic) (take n (number 0x504D5550)) (number_cut 0x504D5550 n in_magic)) refl)
-    (λ m in_version. rw (magic (take m (half 1)) (omega arith, refl), tested_short w16 size is_version (λ n. Version n) (take m (half 1)) (half_cut 1 m in_version)) refl)
+    (λ m in_version. rw (magic (take m text) (omega arith, refl), number_short w16 size (take m text) (half_cut (version_number version) m in_version)) refl)
 
 sizes_short : (size : ℕ) → TellsShort size (sizes_at size) spelling_of_sizes FitSizes
 unfolding sizes_at
@@ -217,7 +230,7 @@ entries_short size ram entries n small places lt =
     items_short size (field_at size 5 (is_place ram)) number (λ n. (n < 2 ^ 32) × (is_place ram n ≡ true)) (is_place ram) (field_exact size 5 (is_place ram)) entry (λ n below. entry_small ram n small below) entries n places lt
 
 -- the five lists
-lists_short : (size : ℕ) (g : Picture) (n : ℕ) → IsImage g → n < length (lists_spelling g) → lists_at size (sizes_of g) g.entries (take n (lists_spelling g)) ≡ Err (Short size)
+lists_short : (size : ℕ) (g : Picture) (n : ℕ) → IsImage g → n < length (lists_spelling g) → lists_at size g.version (sizes_of g) g.entries (take n (lists_spelling g)) ≡ Err (Short size)
 unfolding lists_at
 lists_short size g n is lt =
     let small = ram_small g.ram is.ram in
@@ -225,7 +238,7 @@ lists_short size g n is lt =
     let t2 = list_spelling range_spelling g.code in
     let t3 = list_spelling label_spelling g.labels in
     let t4 = list_spelling edge_spelling g.edges in
-    let t5 = list_spelling compartment_spelling g.compartments in
+    let t5 = list_spelling (compartment_spelling g.version) g.compartments in
     let again1 = λ (rest : List ℕ). (segments_exact size g.ram small).again g.segments rest is.segments in
     let again2 = λ (rest : List ℕ). (code_exact size g.ram small).again g.code rest is.code in
     let again3 = λ (rest : List ℕ). (labels_exact size g.ram small).again g.labels rest is.labels in
@@ -234,8 +247,8 @@ lists_short size g n is lt =
     let short2 = list_short size (row_at 2 is_clear_of (range_at size g.ram 8)) whole range_spelling (is_range g.ram) is_clear_of (row_reads 2 is_clear_of (range_at size g.ram 8) range_spelling (is_range g.ram) (range_exact size g.ram 8 small)) (row_short size 2 is_clear_of (range_at size g.ram 8) range_spelling (is_range g.ram) (range_short size g.ram 8 small)) in
     let short3 = list_short size (row_at 3 is_label_after (label_at size g.ram)) whole label_spelling (is_label g.ram) is_label_after (row_reads 3 is_label_after (label_at size g.ram) label_spelling (is_label g.ram) (label_exact size g.ram small)) (row_short size 3 is_label_after (label_at size g.ram) label_spelling (is_label g.ram) (label_short size g.ram small)) in
     let short4 = list_short size (row_at 4 is_edge_after (edge_at size)) whole edge_spelling is_edge is_edge_after (row_reads 4 is_edge_after (edge_at size) edge_spelling is_edge (edge_exact size)) (row_short size 4 is_edge_after (edge_at size) edge_spelling is_edge (edge_short size)) in
-    let short5 = list_short size (row_at 5 is_compartment_after (compartment_at size g.ram)) whole compartment_spelling (is_compartment g.ram) is_compartment_after (row_reads 5 is_compartment_after (compartment_at size g.ram) compartment_spelling (is_compartment g.ram) (compartment_exact size g.ram small)) (row_short size 5 is_compartment_after (compartment_at size g.ram) compartment_spelling (is_compartment g.ram) (compartment_short size g.ram small)) in
-    let IsShort : List ℕ → Type 0 = λ t. lists_at size (sizes_of g) g.entries t ≡ Err (Short size) in
+    let short5 = list_short size (row_at 5 is_compartment_after (compartment_at g.version size g.ram)) whole (compartment_spelling g.version) (is_compartment g.version g.ram) is_compartment_after (row_reads 5 is_compartment_after (compartment_at g.version size g.ram) (compartment_spelling g.version) (is_compartment g.version g.ram) (compartment_exact g.version size g.ram small)) (row_short size 5 is_compartment_after (compartment_at g.version size g.ram) (compartment_spelling g.version) (is_compartment g.version g.ram) (compartment_short g.version size g.ram small)) in
+    let IsShort : List ℕ → Type 0 = λ t. lists_at size g.version (sizes_of g) g.entries t ≡ Err (Short size) in
     cut IsShort n t1 (t2 ++ (t3 ++ (t4 ++ t5))) lt
     (λ in1. rw (short1.short g.segments n is.segments in1) refl)
     (λ n1 lt1. cut (λ (t : List ℕ). IsShort (t1 ++ t)) n1 t2 (t3 ++ (t4 ++ t5)) lt1
@@ -252,18 +265,19 @@ picture_short size = record {
   short = λ g n is lt.
       let small = ram_small g.ram is.ram in
       let fit_sizes : FitSizes (sizes_of g) = record { harts = is.harts; ram = is.ram; heap_base = is.heap_base; heap_bytes = is.heap_bytes } in
+      let t1 = opening_spelling g.version in
       let t2 = sizes_spelling g in
       let t3 = flat_map number g.entries in
       let t4 = lists_spelling g in
-      let again1 = λ (rest : List ℕ). opening_again size rest in
+      let again1 = λ (rest : List ℕ). opening_again size g.version rest in
       let again2 = λ (rest : List ℕ). (sizes_exact size).again (sizes_of g) rest fit_sizes in
       let again3 = λ (rest : List ℕ). items_again (field_at size 5 (is_place g.ram)) number (λ n. (n < 2 ^ 32) × (is_place g.ram n ≡ true)) (is_place g.ram) (field_exact size 5 (is_place g.ram)) (λ n below. entry_small g.ram n small below) g.entries rest is.entries in
       let IsShort : List ℕ → Type 0 = λ t. picture_at size t ≡ Err (Short size) in
-      cut IsShort n opening_spelling (t2 ++ (t3 ++ t4)) lt
-      (λ in1. rw (opening_short size n in1) refl)
-      (λ n1 lt1. cut (λ (t : List ℕ). IsShort (opening_spelling ++ t)) n1 t2 (t3 ++ t4) lt1
+      cut IsShort n t1 (t2 ++ (t3 ++ t4)) lt
+      (λ in1. rw (opening_short size g.version n in1) refl)
+      (λ n1 lt1. cut (λ (t : List ℕ). IsShort (t1 ++ t)) n1 t2 (t3 ++ t4) lt1
       (λ in2. rw (again1 (take n1 t2), (sizes_short size).short (sizes_of g) n1 fit_sizes in2) refl)
-      (λ n2 lt2. cut (λ (t : List ℕ). IsShort (opening_spelling ++ (t2 ++ t))) n2 t3 t4 lt2
+      (λ n2 lt2. cut (λ (t : List ℕ). IsShort (t1 ++ (t2 ++ t))) n2 t3 t4 lt2
       (λ in3. rw (again1 (t2 ++ take n2 t3), again2 (take n2 t3), entries_short size g.ram g.entries n2 small is.entries in3) refl)
       (λ n3 in4. rw (again1 (t2 ++ (t3 ++ take n3 t4)), again2 (t3 ++ take n3 t4), again3 (take n3 t4), lists_short size g n3 is in4) refl)));
 }

@@ -10,9 +10,8 @@ use Rattle.image_format.specs.declared.errors.ImageError.TheVariants.{Short}
 use Rattle.image_format.specs.declared.rows.WordRange.{WordRange}
 use Rattle.image_format.specs.declared.rows.Label.{Label}
 use Rattle.image_format.specs.declared.rows.Edge.{Edge}
-use Rattle.image_format.specs.declared.rows.CompartmentRange.{CompartmentRange}
-use Rattle.image_format.specs.Conditions.{is_aligned, is_word_count, is_place, is_owner}
-use Rattle.image_format.specs.Reading.{Gives, Reads, number_at, tested_at, field_at, times, range_at, label_at, edge_at, compartment_at}
+use Rattle.image_format.specs.Conditions.{is_aligned, is_word_count, is_place}
+use Rattle.image_format.specs.Reading.{Gives, Reads, number_at, tested_at, field_at, times, range_at, label_at, edge_at}
 use Rattle.image_format.specs.Rooms.{HasPlacesFor, RoomState, TakesAtLeast}
 use Rattle.image_format.proofs.FieldLemmas.{guard_ok}
 
@@ -59,20 +58,6 @@ edge_takes size bytes x e =
     let first = number_takes w32 size bytes source source-is in
     let second = number_takes w32 size source.1 target target-is in
     subst (λ (y : Edge × List ℕ). length y.1 + 8 ≤ length bytes) (ok_is made x e2) (omega arith)
-
-pub compartment_takes : (size ram : ℕ) → TakesAtLeast 20 (compartment_at size ram)
-unfolding compartment_at
-compartment_takes size ram bytes x e =
-    on_ok (range_at size ram 12 bytes) _ x e λ range range-is e1.
-    on_ok (field_at size 14 is_owner range.1) _ x e1 λ owner owner-is e2.
-    on_ok (number_at w32 size owner.1) _ x e2 λ into into-is e3.
-    on_ok (number_at w32 size into.1) _ x e3 λ write write-is e4.
-    let made : CompartmentRange × List ℕ = (record { range = range.0; owner = owner.0; into = into.0; write = write.0 }, write.1) in
-    let first = range_takes size ram 12 bytes range range-is in
-    let second = field_takes size 14 is_owner range.1 owner owner-is in
-    let third = number_takes w32 size owner.1 into into-is in
-    let fourth = number_takes w32 size into.1 write write-is in
-    subst (λ (y : CompartmentRange × List ℕ). length y.1 + 20 ≤ length bytes) (ok_is made x e4) (omega arith)
 
 -- what a function returned takes what reading takes
 pub given_takes : {X A : Type 0} (least : ℕ) (read : Reads A) → TakesAtLeast least read → (bytes : List ℕ) (view : X

@@ -7,14 +7,15 @@ use Rattle.image_format.specs.declared.errors.ImageError.TheVariants.{Field, Ord
 use Rattle.image_format.specs.declared.rows.WordRange.{WordRange}
 use Rattle.image_format.specs.declared.rows.Label.{Label}
 use Rattle.image_format.specs.declared.rows.Edge.{Edge}
-use Rattle.image_format.specs.declared.rows.CompartmentRange.{CompartmentRange}
-use Rattle.image_format.specs.Picture.{Segment}
+use Rattle.image_format.specs.declared.version.Version.{Version}
+use Rattle.image_format.specs.declared.version.Version.TheVariants.{One, Two}
+use Rattle.image_format.specs.Picture.{Segment, CompartmentRow}
 use Rattle.image_format.specs.Conditions.{is_u32, is_aligned, is_word_count, is_place, is_owner, is_range, is_label, is_edge, is_compartment, is_segment, is_clear_of, in_order, extent_of}
-use Rattle.image_format.specs.Spelling.{number, range_spelling, label_spelling, edge_spelling, compartment_spelling, segment_spelling}
+use Rattle.image_format.specs.Spelling.{number, mask_spelling, range_spelling, label_spelling, edge_spelling, compartment_spelling, segment_spelling}
 use Rattle.shared_terms.specs.Steps.{demand}
-use Rattle.image_format.specs.Reading.{Place, number_at, field_at, times, range_at, label_at, edge_at, compartment_at, range_behind_at, segment_at}
+use Rattle.image_format.specs.Reading.{Place, number_at, mask_at, field_at, times, range_at, label_at, edge_at, compartment_at, range_behind_at, segment_at}
 use Rattle.shared_terms.proofs.StepLemmas.{on_ok, demanded, ok_is}
-use Rattle.image_format.proofs.FieldLemmas.{and_is, both, IsBytes, Takes, takes_then, ReadsExactly, number_exact, tested_exact}
+use Rattle.image_format.proofs.FieldLemmas.{and_is, both, IsBytes, Takes, takes_then, ReadsExactly, number_exact, mask_exact, tested_exact}
 use Rattle.image_format.proofs.LoopLemmas.{placed, times_length}
 use Rattle.image_format.proofs.ListLemmas.{items_take, items_again, ReadsRow}
 
@@ -82,30 +83,36 @@ edge_exact size = record {
 pub regroup_4 : (a b c d rest : List ℕ) → (a ++ (b ++ (c ++ d))) ++ rest ≡ a ++ (b ++ (c ++ (d ++ rest)))
 regroup_4 a b c d rest = simp append_assoc
 
-pub compartment_exact : (size ram : ℕ) → ram < 2 ^ 32 → ReadsExactly (compartment_at size ram) compartment_spelling (λ row. is_compartment ram row ≡ true)
+-- an owner that fits is one that four bytes hold
+pub owner_small : (version : Version) (owner : ℕ) → is_owner version owner ≡ true → owner < 2 ^ 32
+owner_small One owner fits = let below : owner < 32 = ltb-true _ _ fits in omega arith
+owner_small Two owner fits = let below : owner < 128 = ltb-true _ _ fits in omega arith
+
+pub compartment_exact : (version : Version) (size ram : ℕ) → ram < 2 ^ 32 → ReadsExactly (compartment_at version size ram) (compartment_spelling version) (λ row. is_compartment version ram row ≡ true)
 unfolding compartment_at
-compartment_exact size ram small = record {
+compartment_exact version size ram small = record {
   takes = λ bytes x is_bytes e.
       on_ok (range_at size ram 12 bytes) _ x e λ range range-is e1.
-      on_ok (field_at size 14 is_owner range.1) _ x e1 λ owner owner-is e2.
-      on_ok (number_at w32 size owner.1) _ x e2 λ into into-is e3.
-      on_ok (number_at w32 size into.1) _ x e3 λ write write-is e4.
+      on_ok (field_at size 14 (is_owner version) range.1) _ x e1 λ owner owner-is e2.
+      on_ok (mask_at version size owner.1) _ x e2 λ into into-is e3.
+      on_ok (mask_at version size into.1) _ x e3 λ write write-is e4.
+      let mask = mask_spelling version in
       let t1 = (range_exact size ram 12 small).takes bytes range is_bytes range-is in
-      let t2 = (field_exact size 14 is_owner).takes range.1 owner t1.0.rest_is_bytes owner-is in
-      let t3 = (number_exact size).takes owner.1 into t2.0.rest_is_bytes into-is in
-      let t4 = (number_exact size).takes into.1 write t3.0.rest_is_bytes write-is in
-      let masks = takes_then owner.1 (number into.0) into.1 (number write.0) write.1 t3.0 t4.0 in
-      let owned = takes_then range.1 (number owner.0) owner.1 (number into.0 ++ number write.0) write.1 t2.0 masks in
-      let made : CompartmentRange × List ℕ = (record { range = range.0; owner = owner.0; into = into.0; write = write.0 }, write.1) in
-      subst (λ (y : CompartmentRange × List ℕ). Takes bytes (compartment_spelling y.0) y.1 × (is_compartment ram y.0 ≡ true)) (ok_is made x e4)
-      (takes_then bytes (range_spelling range.0) range.1 (number owner.0 ++ (number into.0 ++ number write.0)) write.1 t1.0 owned, and_is _ _ (and_is _ _ (and_is _ _ t1.1 t2.1.1) t3.1) t4.1);
+      let t2 = (field_exact size 14 (is_owner version)).takes range.1 owner t1.0.rest_is_bytes owner-is in
+      let t3 = (mask_exact version size).takes owner.1 into t2.0.rest_is_bytes into-is in
+      let t4 = (mask_exact version size).takes into.1 write t3.0.rest_is_bytes write-is in
+      let masks = takes_then owner.1 (mask into.0) into.1 (mask write.0) write.1 t3.0 t4.0 in
+      let owned = takes_then range.1 (number owner.0) owner.1 (mask into.0 ++ mask write.0) write.1 t2.0 masks in
+      let made : CompartmentRow × List ℕ = (record { range = range.0; owner = owner.0; into = into.0; write = write.0 }, write.1) in
+      subst (λ (y : CompartmentRow × List ℕ). Takes bytes (compartment_spelling version y.0) y.1 × (is_compartment version ram y.0 ≡ true)) (ok_is made x e4)
+      (takes_then bytes (range_spelling range.0) range.1 (number owner.0 ++ (mask into.0 ++ mask write.0)) write.1 t1.0 owned, and_is _ _ (and_is _ _ (and_is _ _ t1.1 t2.1.1) t3.1) t4.1);
   again = λ row rest fits.
+      let mask = mask_spelling version in
       let p4 = both _ _ fits in
       let p3 = both _ _ p4.0 in
       let p2 = both _ _ p3.0 in
-      let most : row.owner ≤ 31 = leb-true _ _ p2.1 in
-      ap (compartment_at size ram) (regroup_4 (range_spelling row.range) (number row.owner) (number row.into) (number row.write) rest)
-      ∙ rw ((range_exact size ram 12 small).again row.range (number row.owner ++ (number row.into ++ (number row.write ++ rest))) p2.0, (field_exact size 14 is_owner).again row.owner (number row.into ++ (number row.write ++ rest)) (omega arith, p2.1), (number_exact size).again row.into (number row.write ++ rest) p3.1, (number_exact size).again row.write rest p4.1) refl;
+      ap (compartment_at version size ram) (regroup_4 (range_spelling row.range) (number row.owner) (mask row.into) (mask row.write) rest)
+      ∙ rw ((range_exact size ram 12 small).again row.range (number row.owner ++ (mask row.into ++ (mask row.write ++ rest))) p2.0, (field_exact size 14 (is_owner version)).again row.owner (mask row.into ++ (mask row.write ++ rest)) (owner_small version row.owner p2.1, p2.1), (mask_exact version size).again row.into (mask row.write ++ rest) p3.1, (mask_exact version size).again row.write rest p4.1) refl;
 }
 
 -- ---- segments

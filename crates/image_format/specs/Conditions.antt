@@ -1,11 +1,12 @@
 -- The conditions of an image's fields and rows, and what an image is.
 use Rattle.std.specs.Prelude.{◌≡◌, ℕ, ◌+◌, ◌*◌, ◌%◌, ◌^◌, ◌<◌, Bool, true, IsTrue, ◌==◌, nat_lt, nat_le, ◌&&◌, ◌||◌, List, [], ◌∷◌, length, Option, Some, None}
 use Rattle.std.specs.List.{list_all}
+use Rattle.image_format.specs.declared.version.Version.{Version}
+use Rattle.image_format.specs.declared.version.Version.TheVariants.{One, Two}
 use Rattle.image_format.specs.declared.rows.WordRange.{WordRange}
 use Rattle.image_format.specs.declared.rows.Label.{Label}
 use Rattle.image_format.specs.declared.rows.Edge.{Edge}
-use Rattle.image_format.specs.declared.rows.CompartmentRange.{CompartmentRange}
-use Rattle.image_format.specs.Picture.{Segment, Picture}
+use Rattle.image_format.specs.Picture.{Segment, CompartmentRow, Picture}
 
 -- what four bytes hold
 abbrev pub is_u32 : ℕ → Bool
@@ -39,9 +40,18 @@ is_place ram address = is_aligned address && nat_lt address ram
 abbrev pub is_word_count : ℕ → ℕ → ℕ → Bool
 is_word_count ram address words = nat_le 1 words && nat_le (address + 4 * words) ram
 
--- one of 32 compartments
-abbrev pub is_owner : ℕ → Bool
-is_owner n = nat_le n 31
+-- how many compartments an image of the version may have, which are numbered from 0
+abbrev pub compartment_limit : Version → ℕ
+compartment_limit One = 32
+compartment_limit Two = 128
+
+-- a compartment's number
+abbrev pub is_owner : Version → ℕ → Bool
+is_owner version n = nat_lt n (compartment_limit version)
+
+-- a bit for each compartment that there may be
+abbrev pub is_mask : Version → ℕ → Bool
+is_mask version n = nat_lt n (2 ^ compartment_limit version)
 
 -- ---- rows of the five lists, and their order
 
@@ -77,12 +87,12 @@ is_edge edge = is_u32 edge.source && is_u32 edge.target
 abbrev pub is_edge_after : Edge → Edge → Bool
 is_edge_after before edge = nat_lt before.source edge.source || (before.source == edge.source && nat_lt before.target edge.target)
 
--- words of the RAM, their owner, and any two masks
-abbrev pub is_compartment : ℕ → CompartmentRange → Bool
-is_compartment ram row = is_range ram row.range && is_owner row.owner && is_u32 row.into && is_u32 row.write
+-- words of the RAM, their owner, and any two sets of compartments
+abbrev pub is_compartment : Version → ℕ → CompartmentRow → Bool
+is_compartment version ram row = is_range ram row.range && is_owner version row.owner && is_mask version row.into && is_mask version row.write
 
 -- compartment ranges ascend as their words do
-abbrev pub is_compartment_after : CompartmentRange → CompartmentRange → Bool
+abbrev pub is_compartment_after : CompartmentRow → CompartmentRow → Bool
 is_compartment_after before row = is_clear_of before.range row.range
 
 -- ---- lists
@@ -119,7 +129,7 @@ pub record IsImage (g : Picture) : Type 0 where
   pub code : IsList whole (is_range g.ram) is_clear_of g.code
   pub labels : IsList whole (is_label g.ram) is_label_after g.labels
   pub edges : IsList whole is_edge is_edge_after g.edges
-  pub compartments : IsList whole (is_compartment g.ram) is_compartment_after g.compartments
+  pub compartments : IsList whole (is_compartment g.version g.ram) is_compartment_after g.compartments
 
 -- a multiple of 4 below the RAM's end
 pub record IsPlace (ram address : ℕ) : Type 0 where

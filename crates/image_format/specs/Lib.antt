@@ -3,7 +3,11 @@ pub mod Conditions
 pub mod Spelling
 pub mod Building
 pub mod Parts
+pub mod Masks
+pub mod WideLaws
+pub mod Compartments
 pub mod Seen
 pub mod Made
+pub mod Migrated
 pub mod Reading
 pub mod Rooms

@@ -1,17 +1,26 @@
 -- What an image says: the value of an `Image` in contracts.
 use Rattle.std.specs.Prelude.{ℕ, List, [], slice_index_or}
+use Rattle.image_format.specs.declared.version.Version.{Version}
 use Rattle.image_format.specs.declared.rows.WordRange.{WordRange}
 use Rattle.image_format.specs.declared.rows.Label.{Label}
 use Rattle.image_format.specs.declared.rows.Edge.{Edge}
-use Rattle.image_format.specs.declared.rows.CompartmentRange.{CompartmentRange}
 
 -- words that the memory starts with, from an address on
 pub record Segment : Type 0 where
   pub address : ℕ
   pub words : List ℕ
 
--- sizes in bytes, one entry for each hart, and the five lists
+-- a row of the fifth list: words, the compartment that owns them, and the sets of those that may jump to them and may write
+-- them, a bit for each compartment
+pub record CompartmentRow : Type 0 where
+  pub range : WordRange
+  pub owner : ℕ
+  pub into : ℕ
+  pub write : ℕ
+
+-- the file's version, sizes in bytes, one entry for each hart, and the five lists
 pub record Picture : Type 0 where
+  pub version : Version
   pub ram : ℕ
   pub heap_base : ℕ
   pub heap_bytes : ℕ
@@ -20,7 +29,7 @@ pub record Picture : Type 0 where
   pub code : List WordRange
   pub labels : List Label
   pub edges : List Edge
-  pub compartments : List CompartmentRange
+  pub compartments : List CompartmentRow
 
 -- no words, at 0
 abbrev pub no_segment : Segment

@@ -1,17 +1,18 @@
 -- Reading an image from its first byte to its last, up to the first condition that fails.
 use Rattle.std.specs.Prelude.{◌≡◌, ℕ, zero, suc, ◌+◌, ◌-◌, List, [], ◌∷◌, ◌++◌, length, take, drop, Bool, Option, Some, None, Result, Ok, Err, nat_lt, ◌==◌, if◌then◌else◌}
-use Rattle.std.specs.Int.{Width, w16, w32, byte_len, from_le_bytes}
+use Rattle.std.specs.Int.{Width, w16, w32, w128, byte_len, from_le_bytes}
 use Rattle.shared_terms.specs.Steps.{◌>>=◌, demand}
 use Rattle.image_format.specs.declared.errors.ImageError.{ImageError}
-use Rattle.image_format.specs.declared.errors.ImageError.TheVariants.{Magic, Version, Short, Field, Order, Trailing}
+use Rattle.image_format.specs.declared.errors.ImageError.TheVariants.{Magic, Version as OtherVersion, Short, Field, Order, Trailing}
 use Rattle.image_format.specs.declared.errors.ImageEnd.{ImageEnd}
 use Rattle.image_format.specs.declared.errors.ImageEnd.TheVariants as ends
+use Rattle.image_format.specs.declared.version.Version.{Version}
+use Rattle.image_format.specs.declared.version.Version.TheVariants.{One, Two}
 use Rattle.image_format.specs.declared.rows.WordRange.{WordRange}
 use Rattle.image_format.specs.declared.rows.Label.{Label}
 use Rattle.image_format.specs.declared.rows.Edge.{Edge}
-use Rattle.image_format.specs.declared.rows.CompartmentRange.{CompartmentRange}
 use Rattle.image_format.specs.declared.sizes.Sizes.{Sizes}
-use Rattle.image_format.specs.Picture.{Segment, Picture}
+use Rattle.image_format.specs.Picture.{Segment, CompartmentRow, Picture}
 use Rattle.image_format.specs.Conditions.{is_harts, is_ram, is_heap_base, is_heap_bytes, is_place, is_aligned, is_word_count, is_owner, is_clear_of, is_label_after, is_edge_after, is_compartment_after, in_order}
 
 -- an early end is the error that reading gives, unless memory ran out
@@ -84,13 +85,18 @@ edge_at size bytes = do
   target ← number_at w32 size source.1
   Ok (record { source = source.0; target = target.0 }, target.1)
 
+-- a set of compartments: a number of four bytes or of sixteen
+abbrev pub mask_at : Version → ℕ → Reads ℕ
+mask_at One size = number_at w32 size
+mask_at Two size = number_at w128 size
+
 -- a range, its owner, and the two masks
-unfoldable pub compartment_at : ℕ → ℕ → Reads CompartmentRange
-compartment_at size ram bytes = do
+unfoldable pub compartment_at : Version → ℕ → ℕ → Reads CompartmentRow
+compartment_at version size ram bytes = do
   range ← range_at size ram 12 bytes
-  owner ← field_at size 14 is_owner range.1
-  into ← number_at w32 size owner.1
-  write ← number_at w32 size into.1
+  owner ← field_at size 14 (is_owner version) range.1
+  into ← mask_at version size owner.1
+  write ← mask_at version size into.1
   Ok (record { range = range.0; owner = owner.0; into = into.0; write = write.0 }, write.1)
 
 -- where a row is read: its number, the part of the row before it that the order looks at, and the bytes from it on
@@ -138,16 +144,22 @@ list_at size step bytes = do
 abbrev pub is_magic : ℕ → Bool
 is_magic n = n == 0x504D5550
 
--- the one version
-abbrev pub is_version : ℕ → Bool
-is_version n = n == 1
+-- the version of this number: there are 1 and 2
+abbrev pub version_numbered : ℕ → Result Version ImageError
+version_numbered n = if n == 1 then Ok One else if n == 2 then Ok Two else Err (OtherVersion n)
+
+-- a number of two bytes, and the version of this number
+unfoldable pub version_at : ℕ → Reads Version
+version_at size bytes = do
+  n ← number_at w16 size bytes
+  version ← version_numbered n.0
+  Ok (version, n.1)
 
 -- the magic, and the version
-unfoldable pub opening_at : ℕ → List ℕ → Result (List ℕ) ImageError
+unfoldable pub opening_at : ℕ → Reads Version
 opening_at size bytes = do
   magic ← tested_at w32 size is_magic (λ _. Magic) bytes
-  version ← tested_at w16 size is_version (λ n. Version n) magic.1
-  Ok version.1
+  version_at size magic.1
 
 -- the number of harts, which is field 1
 abbrev pub harts_at : ℕ → Reads ℕ
@@ -166,23 +178,23 @@ sizes_at size bytes = do
 abbrev pub entries_at : ℕ → Sizes → Reads (List ℕ)
 entries_at size sizes bytes = times sizes.harts (field_at size 5 (is_place sizes.ram)) bytes
 
--- the five lists, under the sizes and entries that were read before them
-unfoldable pub lists_at : ℕ → Sizes → List ℕ → Reads Picture
-lists_at size sizes entries bytes = do
+-- the five lists, under the version, sizes and entries that were read before them
+unfoldable pub lists_at : ℕ → Version → Sizes → List ℕ → Reads Picture
+lists_at size version sizes entries bytes = do
   segments ← list_at size (segment_at size sizes.ram) bytes
   code ← list_at size (row_at 2 is_clear_of (range_at size sizes.ram 8)) segments.1
   labels ← list_at size (row_at 3 is_label_after (label_at size sizes.ram)) code.1
   edges ← list_at size (row_at 4 is_edge_after (edge_at size)) labels.1
-  compartments ← list_at size (row_at 5 is_compartment_after (compartment_at size sizes.ram)) edges.1
-  Ok (record { ram = sizes.ram; heap_base = sizes.heap_base; heap_bytes = sizes.heap_bytes; entries = entries; segments = segments.0; code = code.0; labels = labels.0; edges = edges.0; compartments = compartments.0 }, compartments.1)
+  compartments ← list_at size (row_at 5 is_compartment_after (compartment_at version size sizes.ram)) edges.1
+  Ok (record { version = version; ram = sizes.ram; heap_base = sizes.heap_base; heap_bytes = sizes.heap_bytes; entries = entries; segments = segments.0; code = code.0; labels = labels.0; edges = edges.0; compartments = compartments.0 }, compartments.1)
 
 -- the opening, the sizes, the entries and the lists
 unfoldable pub picture_at : ℕ → Reads Picture
 picture_at size bytes = do
-  rest ← opening_at size bytes
-  sizes ← sizes_at size rest
+  version ← opening_at size bytes
+  sizes ← sizes_at size version.1
   entries ← entries_at size sizes.0 sizes.1
-  lists_at size sizes.0 entries.0 entries.1
+  lists_at size version.0 sizes.0 entries.0 entries.1
 
 -- all of the bytes: the image whose file they are, or the first condition that they fail
 unfoldable pub image_of : List ℕ → Result Picture ImageError

@@ -1,12 +1,13 @@
 -- The one spelling of an image, and what its file is.
 use Rattle.std.specs.Prelude.{◌≡◌, ℕ, List, ◌++◌, length, codes}
 use Rattle.std.specs.List.{flat_map}
-use Rattle.std.specs.Int.{w16, w32, to_le_bytes}
+use Rattle.std.specs.Int.{w16, w32, w128, to_le_bytes}
+use Rattle.image_format.specs.declared.version.Version.{Version}
+use Rattle.image_format.specs.declared.version.Version.TheVariants.{One, Two}
 use Rattle.image_format.specs.declared.rows.WordRange.{WordRange}
 use Rattle.image_format.specs.declared.rows.Label.{Label}
 use Rattle.image_format.specs.declared.rows.Edge.{Edge}
-use Rattle.image_format.specs.declared.rows.CompartmentRange.{CompartmentRange}
-use Rattle.image_format.specs.Picture.{Segment, Picture}
+use Rattle.image_format.specs.Picture.{Segment, CompartmentRow, Picture}
 use Rattle.image_format.specs.Conditions.{IsImage, extent_of}
 
 -- two bytes, the low one first
@@ -16,6 +17,10 @@ half n = to_le_bytes w16 n
 -- four bytes, the low one first
 unfoldable pub number : ℕ → List ℕ
 number n = to_le_bytes w32 n
+
+-- sixteen bytes, the low one first
+unfoldable pub wide_number : ℕ → List ℕ
+wide_number n = to_le_bytes w128 n
 
 -- ---- rows
 
@@ -35,9 +40,14 @@ label_spelling label = number label.address ++ number label.id
 abbrev pub edge_spelling : Edge → List ℕ
 edge_spelling edge = number edge.source ++ number edge.target
 
+-- a set of compartments, in four bytes or in sixteen
+abbrev pub mask_spelling : Version → ℕ → List ℕ
+mask_spelling One mask = number mask
+mask_spelling Two mask = wide_number mask
+
 -- the range, the owner, who may jump in, and who may write
-abbrev pub compartment_spelling : CompartmentRange → List ℕ
-compartment_spelling row = range_spelling row.range ++ (number row.owner ++ (number row.into ++ number row.write))
+abbrev pub compartment_spelling : Version → CompartmentRow → List ℕ
+compartment_spelling version row = range_spelling row.range ++ (number row.owner ++ (mask_spelling version row.into ++ mask_spelling version row.write))
 
 -- a count, and that many rows
 abbrev pub list_spelling : {A : Type 0} → (A → List ℕ) → List A → List ℕ
@@ -45,9 +55,14 @@ list_spelling text rows = number (length rows) ++ flat_map text rows
 
 -- ---- the whole
 
--- the magic, and version 1
-abbrev pub opening_spelling : List ℕ
-opening_spelling = codes "PUMP" ++ half 1
+-- the number of a version in a file
+abbrev pub version_number : Version → ℕ
+version_number One = 1
+version_number Two = 2
+
+-- the magic, and the version
+abbrev pub opening_spelling : Version → List ℕ
+opening_spelling version = codes "PUMP" ++ half (version_number version)
 
 -- how many harts there are, and the sizes of the RAM and the heap region
 abbrev pub sizes_spelling : Picture → List ℕ
@@ -56,11 +71,11 @@ sizes_spelling g = half (length g.entries) ++ (number g.ram ++ (number g.heap_ba
 -- segments, code ranges, labels, edges, compartment ranges
 abbrev pub lists_spelling : Picture → List ℕ
 lists_spelling g =
-    list_spelling segment_spelling g.segments ++ (list_spelling range_spelling g.code ++ (list_spelling label_spelling g.labels ++ (list_spelling edge_spelling g.edges ++ list_spelling compartment_spelling g.compartments)))
+    list_spelling segment_spelling g.segments ++ (list_spelling range_spelling g.code ++ (list_spelling label_spelling g.labels ++ (list_spelling edge_spelling g.edges ++ list_spelling (compartment_spelling g.version) g.compartments)))
 
 -- the whole file; the entries have no count of their own
 unfoldable pub spelling : Picture → List ℕ
-spelling g = opening_spelling ++ (sizes_spelling g ++ (flat_map number g.entries ++ lists_spelling g))
+spelling g = opening_spelling g.version ++ (sizes_spelling g ++ (flat_map number g.entries ++ lists_spelling g))
 
 -- the bytes are the file of the image
 pub record IsFileOf (bytes : List ℕ) (g : Picture) : Type 0 where

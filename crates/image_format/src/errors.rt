@@ -6,7 +6,7 @@ ghost use Rattle.image_format.specs.declared.errors.ImageEnd.TheVariants.{Memory
 use std::alloc::{AllocError, AllocFailed};
 use thiserror::Error;
 
-/// Why bytes are refused as a file of the project's image format, version 1: the first of its
+/// Why bytes are refused as a file of the project's image format, version 1 or 2: the first of its
 /// conditions, in the order of reading, that they fail.
 ///
 /// Lengths and offsets are in bytes, and offsets count from the file's first byte. The lists have
@@ -17,7 +17,7 @@ pub enum ImageError {
     /// The file doesn't begin with the four bytes `PUMP`.
     #[error("magic")]
     Magic,
-    /// The version, a number of two bytes behind the magic, is this and not 1.
+    /// The version, a number of two bytes behind the magic, is this, and neither 1 nor 2.
     #[error("version {0}")]
     Version(u16),
     /// The file ends before a number that is due: the file's length.
@@ -28,7 +28,7 @@ pub enum ImageError {
     /// The fields are 1 the number of harts, 2 the bytes of the RAM, 3 the heap base, 4 the heap's
     /// bytes, 5 an entry, 6 a segment's address, 7 its number of words, 8 a code range's address, 9 its
     /// number of words, 10 a label's address, 12 a compartment range's address, 13 its number of words,
-    /// 14 its owner.
+    /// 14 its owner, which is at most 31 in version 1 and at most 127 in version 2.
     #[error("field {0} at {1}")]
     Field(u8, usize),
     /// A row doesn't stand in its list's order behind the row before it: the list's number, and the

@@ -1,17 +1,15 @@
 //! Numbers and fields at the front of bytes. `size` is the length of the file, whose rest the bytes are.
 
 ghost use Rattle.std.specs.Prelude.{◌≡◌, ◌-◌, length};
-ghost use Rattle.std.specs.Int.{w16, w32};
+ghost use Rattle.std.specs.Int.{w16, w32, w128};
 ghost use Rattle.image_format.specs.Conditions.{is_ram, is_heap_base, is_heap_bytes, is_place, is_aligned, is_word_count, is_owner};
-ghost use Rattle.image_format.specs.Reading.{Gives, number_at, field_at, opening_at, harts_at};
+ghost use Rattle.image_format.specs.Reading.{Gives, number_at, field_at, version_at, opening_at, harts_at};
 
 use crate::errors::{ImageEnd, ImageError};
+use crate::version::Version;
 
 /// What every file begins with: `PUMP`, read as a number.
 pub(crate) const MAGIC: u32 = 0x504D_5550;
-
-/// The one version.
-pub(crate) const VERSION: u16 = 1;
 
 /// The most harts of an image: 8.
 pub const MOST_HARTS: u16 = 8;
@@ -42,6 +40,19 @@ pub(crate) fn number_of(size: usize, bytes: &[u8]) -> Result<(u32, &[u8]), Image
     Ok((number, rest))
 }
 
+/// Sixteen bytes, the low one first.
+pub(crate) fn wide_number_of(size: usize, bytes: &[u8]) -> Result<(u128, &[u8]), ImageEnd>
+    ensures { Gives (λ x. (x.0, x.1.now)) result (number_at w128 size bytes.now) }
+{
+    if bytes.len() < 16 {
+        return Err(ImageEnd::Bad(ImageError::Short(size)));
+    }
+    let (prefix, rest) = bytes.split_at(16);
+    let mut number = [0; 16];
+    number.copy_from_slice(prefix);
+    Ok((u128::from_le_bytes(number), rest))
+}
+
 /// That the field at the front of the bytes fails its condition.
 fn bad_field(number: u8, size: usize, bytes: &[u8]) -> ImageEnd
     ensures { result ≡ ImageEnd.Bad (ImageError.Field number (size - length bytes.now)) }
@@ -49,20 +60,29 @@ fn bad_field(number: u8, size: usize, bytes: &[u8]) -> ImageEnd
     ImageEnd::Bad(ImageError::Field(number, size.saturating_sub(bytes.len())))
 }
 
-/// The magic and the version: what stands behind them.
+/// The version.
+#[tactic(auto, unfolding(crate::specs::Reading::version_at))]
+fn version_of(size: usize, bytes: &[u8]) -> Result<(Version, &[u8]), ImageEnd>
+    ensures { Gives (λ x. (x.0, x.1.now)) result (version_at size bytes.now) }
+{
+    let (number, rest) = half_of(size, bytes)?;
+    match number {
+        1 => Ok((Version::One, rest)),
+        2 => Ok((Version::Two, rest)),
+        _ => Err(ImageEnd::Bad(ImageError::Version(number))),
+    }
+}
+
+/// The magic and the version.
 #[tactic(auto, unfolding(crate::specs::Reading::opening_at, crate::specs::Reading::tested_at))]
-pub(crate) fn opening_of(size: usize, bytes: &[u8]) -> Result<&[u8], ImageEnd>
-    ensures { Gives (λ rest. rest.now) result (opening_at size bytes.now) }
+pub(crate) fn opening_of(size: usize, bytes: &[u8]) -> Result<(Version, &[u8]), ImageEnd>
+    ensures { Gives (λ x. (x.0, x.1.now)) result (opening_at size bytes.now) }
 {
     let (magic, rest) = number_of(size, bytes)?;
     if magic != MAGIC {
         return Err(ImageEnd::Bad(ImageError::Magic));
     }
-    let (version, rest) = half_of(size, rest)?;
-    if version != VERSION {
-        return Err(ImageEnd::Bad(ImageError::Version(version)));
-    }
-    Ok(rest)
+    version_of(size, rest)
 }
 
 /// The number of harts.
@@ -169,11 +189,15 @@ pub(crate) fn word_count_of(
 
 /// A compartment's number.
 #[tactic(auto, unfolding(crate::specs::Reading::tested_at))]
-pub(crate) fn owner_of(size: usize, bytes: &[u8]) -> Result<(u32, &[u8]), ImageEnd>
-    ensures { Gives (λ x. (x.0, x.1.now)) result (field_at size 14 is_owner bytes.now) }
+pub(crate) fn owner_of(
+    version: Version,
+    size: usize,
+    bytes: &[u8],
+) -> Result<(u32, &[u8]), ImageEnd>
+    ensures { Gives (λ x. (x.0, x.1.now)) result (field_at size 14 (is_owner version) bytes.now) }
 {
     let (owner, rest) = number_of(size, bytes)?;
-    if owner > 31 {
+    if owner >= version.compartment_limit() {
         return Err(bad_field(14, size, bytes));
     }
     Ok((owner, rest))

@@ -3,9 +3,11 @@
 ghost use Rattle.std.specs.Prelude.{◌≡◌, ◌+◌, ◌*◌, ◌%◌, ◌<◌, ◌≤◌, length, All};
 ghost use Rattle.image_format.specs.Conditions.{IsPlace, IsList, whole, extent_of, is_segment, is_range, is_label, is_edge, is_compartment, is_clear_of, is_label_after, is_edge_after, is_compartment_after};
 
+use crate::compartments::{CompartmentRanges, CompartmentRows};
 use crate::parts::ImageParts;
-use crate::rows::{CompartmentRange, Edge, Label, WordRange};
+use crate::rows::{Edge, Label, WordRange};
 use crate::segments::Segments;
+use crate::version::Version;
 use std::marker::Model;
 
 /// What a machine starts from: the sizes of the RAM and of the heap region, one entry for each of 1 to
@@ -20,7 +22,7 @@ pub struct Image {
     pub(crate) code: Vec<WordRange>,
     pub(crate) labels: Vec<Label>,
     pub(crate) edges: Vec<Edge>,
-    pub(crate) compartments: Vec<CompartmentRange>,
+    pub(crate) compartments: CompartmentRanges,
 }
 
 impl Model for Image {
@@ -40,6 +42,7 @@ impl Image {
     ghost use Rattle.image_format.specs.Picture.{nth_segment};
     ghost use Rattle.image_format.specs.Conditions.{IsImage};
     ghost use Rattle.image_format.specs.Made.{picture_from};
+    ghost use Rattle.image_format.specs.Compartments.{lent_version, lent_rows};
 
     /// The image that has these parts, which meet the conditions of the format.
     pub fn new(parts: ImageParts) -> Image
@@ -57,6 +60,31 @@ impl Image {
             edges: parts.edges,
             compartments: parts.compartments,
         }
+    }
+
+    /// The parts that it is made of, which meet the conditions of the format.
+    pub fn into_parts(self) -> ImageParts
+        ensures value { picture_from result ≡ self }
+        ensures fits { IsImage (picture_from result) }
+    {
+        ImageParts {
+            ram: self.ram,
+            heap_base: self.heap_base,
+            heap_bytes: self.heap_bytes,
+            entries: self.entries,
+            segments: self.segments,
+            code: self.code,
+            labels: self.labels,
+            edges: self.edges,
+            compartments: self.compartments,
+        }
+    }
+
+    /// The version of its file.
+    pub fn version(&self) -> Version
+        ensures { result ≡ self.now.version }
+    {
+        self.compartments.version()
     }
 
     /// The bytes of the RAM: a multiple of 4, 4 to 16,777,216.
@@ -149,11 +177,13 @@ impl Image {
         &self.edges
     }
 
-    /// The words that compartments own. They ascend, and no two ranges meet.
-    pub fn compartments(&self) -> &[CompartmentRange]
-        ensures value { result.now ≡ self.now.compartments }
-        ensures rows { IsList whole (is_compartment self.now.ram) is_compartment_after result.now }
+    /// The words that compartments own, in rows of the image's version. They ascend, and no two ranges meet.
+    pub fn compartments(&self) -> CompartmentRows<'_>
+        ensures version { lent_version result ≡ self.now.version }
+        ensures value { lent_rows result ≡ self.now.compartments }
+        ensures rows { IsList whole
+            (is_compartment self.now.version self.now.ram) is_compartment_after (lent_rows result) }
     {
-        &self.compartments
+        self.compartments.lent()
     }
 }

@@ -5,10 +5,12 @@ ghost use Rattle.std.proofs.Common.{arith};
 ghost use Rattle.image_format.specs.Conditions.{is_clear_of, is_label_after, is_edge_after, is_compartment_after, in_order};
 ghost use Rattle.image_format.specs.Reading.{Gives, Reads, range_at, label_at, edge_at, compartment_at, row_at, rows_at, list_at};
 
+use crate::compartments::{CompartmentRange, OwnedRange, WideCompartmentRange};
 use crate::errors::{ImageEnd, ImageError};
-use crate::fields::{aligned_of, number_of, owner_of, place_of, word_count_of};
+use crate::fields::{aligned_of, number_of, owner_of, place_of, wide_number_of, word_count_of};
 use crate::room::{Kept, Room, Rooms};
-use crate::rows::{CompartmentRange, Edge, Label, WordRange};
+use crate::rows::{Edge, Label, WordRange};
+use crate::version::Version;
 
 /// What rows are read under: the file's length, and the bytes of the RAM.
 #[derive(Clone, Copy)]
@@ -138,14 +140,16 @@ impl Kept for CompartmentRange {
 }
 
 impl Row for CompartmentRange {
-    ghost fields = { compartment_at };
+    ghost use Rattle.image_format.specs.declared.version.Version.TheVariants.{One};
+
+    ghost fields = { compartment_at One };
 
     ghost follows = { is_compartment_after };
 
     #[tactic(auto, unfolding(crate::specs::Reading::compartment_at))]
     fn read(bounds: Bounds, bytes: &[u8]) -> Result<(CompartmentRange, &[u8]), ImageEnd> {
         let (range, rest) = range_of(12, bounds, bytes)?;
-        let (owner, rest) = owner_of(bounds.size, rest)?;
+        let (owner, rest) = owner_of(Version::One, bounds.size, rest)?;
         let (into, rest) = number_of(bounds.size, rest)?;
         let (write, rest) = number_of(bounds.size, rest)?;
         Ok((
@@ -160,6 +164,35 @@ impl Row for CompartmentRange {
     }
 
     fn is_after(self, before: CompartmentRange) -> bool {
+        self.range.is_after(before.range)
+    }
+}
+
+impl Kept for WideCompartmentRange {
+    ghost BYTES = { 44 };
+
+    const BYTES: usize = size_of::<WideCompartmentRange>();
+
+    ghost has_bytes = { Prim.omega arith };
+}
+
+impl Row for WideCompartmentRange {
+    ghost use Rattle.image_format.specs.declared.version.Version.TheVariants.{Two};
+
+    ghost fields = { compartment_at Two };
+
+    ghost follows = { is_compartment_after };
+
+    #[tactic(auto, unfolding(crate::specs::Reading::compartment_at))]
+    fn read(bounds: Bounds, bytes: &[u8]) -> Result<(WideCompartmentRange, &[u8]), ImageEnd> {
+        let (range, rest) = range_of(12, bounds, bytes)?;
+        let (owner, rest) = owner_of(Version::Two, bounds.size, rest)?;
+        let (into, rest) = wide_number_of(bounds.size, rest)?;
+        let (write, rest) = wide_number_of(bounds.size, rest)?;
+        Ok((WideCompartmentRange::new(range, owner, into, write), rest))
+    }
+
+    fn is_after(self, before: WideCompartmentRange) -> bool {
         self.range.is_after(before.range)
     }
 }

@@ -1,6 +1,7 @@
 //! What an image is made from.
 
-use crate::rows::{CompartmentRange, Edge, Label, WordRange};
+use crate::compartments::CompartmentRanges;
+use crate::rows::{Edge, Label, WordRange};
 use crate::segments::Segments;
 
 /// The sizes, entries and lists of an image, under no condition yet. Sizes and addresses are in bytes.
@@ -22,6 +23,6 @@ pub struct ImageParts {
     pub labels: Vec<Label>,
     /// The allowed ways from label to label.
     pub edges: Vec<Edge>,
-    /// The words that compartments own.
-    pub compartments: Vec<CompartmentRange>,
+    /// The words that compartments own, in rows of the image's version.
+    pub compartments: CompartmentRanges,
 }

@@ -1,18 +1,22 @@
 //! The whole file, read from its first byte to its last.
 
-ghost use Rattle.std.specs.Prelude.{IfOk, Ok};
+ghost use Rattle.std.specs.Prelude.{◌≡◌, IfOk, Ok};
 ghost use Rattle.image_format.specs.Picture.{Picture};
+ghost use Rattle.image_format.specs.Compartments.{version_of, rows_of};
+ghost use Rattle.image_format.specs.Conditions.{is_compartment_after};
 ghost use Rattle.image_format.specs.Spelling.{IsFileOf};
-ghost use Rattle.image_format.specs.Reading.{Gives, GivesImage, IsBad, sizes_at, entries_at, image_of};
+ghost use Rattle.image_format.specs.Reading.{Gives, GivesImage, IsBad, compartment_at, row_at, list_at, sizes_at, entries_at, image_of};
 
+use crate::compartments::{CompartmentRange, CompartmentRanges, WideCompartmentRange};
 use crate::errors::{ImageEnd, ImageError};
 use crate::fields::{harts_of, heap_base_of, heap_bytes_of, opening_of, place_of, ram_of};
 use crate::image::Image;
 use crate::lists::{Bounds, list_of};
 use crate::room::{Room, Rooms};
-use crate::rows::{CompartmentRange, Edge, Label, WordRange};
+use crate::rows::{Edge, Label, WordRange};
 use crate::segments::segment_list_of;
 use crate::sizes::Sizes;
+use crate::version::Version;
 use std::alloc::Global;
 
 /// The sizes behind the version.
@@ -52,6 +56,31 @@ fn entries_of(
     Ok((entries.into_items(), rest))
 }
 
+/// The fifth list, in rows of the version.
+fn compartments_of(
+    rooms: Rooms,
+    version: Version,
+    bounds: Bounds,
+    bytes: &[u8],
+) -> Result<(CompartmentRanges, &[u8]), ImageEnd>
+    ensures read { Gives (λ x. (rows_of x.0, x.1.now)) result
+        (list_at bounds.size
+        (row_at 5 is_compartment_after
+        (compartment_at version bounds.size bounds.ram)) bytes.now) }
+    ensures version { IfOk result (λ x. version_of x.0 ≡ version) }
+{
+    match version {
+        Version::One => {
+            let (rows, rest) = list_of::<CompartmentRange>(rooms, 5, bounds, bytes)?;
+            Ok((CompartmentRanges::Narrow(rows), rest))
+        }
+        Version::Two => {
+            let (rows, rest) = list_of::<WideCompartmentRange>(rooms, 5, bounds, bytes)?;
+            Ok((CompartmentRanges::Wide(rows), rest))
+        }
+    }
+}
+
 /// The image up to the first condition that fails.
 #[tactic(auto, unfolding(crate::specs::Reading::image_of, crate::specs::Reading::picture_at, crate::specs::Reading::lists_at))]
 fn image_in(alloc: Global, bytes: &[u8]) -> Result<Image, ImageEnd>
@@ -59,7 +88,7 @@ fn image_in(alloc: Global, bytes: &[u8]) -> Result<Image, ImageEnd>
 {
     let rooms = Rooms::new(alloc);
     let size = bytes.len();
-    let rest = opening_of(size, bytes)?;
+    let (version, rest) = opening_of(size, bytes)?;
     let (sizes, rest) = sizes_of(size, rest)?;
     let (entries, rest) = entries_of(rooms, sizes, size, rest)?;
     let bounds = Bounds {
@@ -70,7 +99,7 @@ fn image_in(alloc: Global, bytes: &[u8]) -> Result<Image, ImageEnd>
     let (code, rest) = list_of::<WordRange>(rooms, 2, bounds, rest)?;
     let (labels, rest) = list_of::<Label>(rooms, 3, bounds, rest)?;
     let (edges, rest) = list_of::<Edge>(rooms, 4, bounds, rest)?;
-    let (compartments, rest) = list_of::<CompartmentRange>(rooms, 5, bounds, rest)?;
+    let (compartments, rest) = compartments_of(rooms, version, bounds, rest)?;
     if !rest.is_empty() {
         let offset = size.saturating_sub(rest.len());
         return Err(ImageEnd::Bad(ImageError::Trailing(offset)));

@@ -20,13 +20,3 @@ pub struct Edge {
     pub source: u32,
     pub target: u32,
 }
-
-/// Words that a compartment owns at the start, 0 to 31. Bit i of `into` lets compartment i jump to
-/// them, and bit i of `write` lets it write them.
-#[derive(Clone, Copy)]
-pub struct CompartmentRange {
-    pub range: WordRange,
-    pub owner: u32,
-    pub into: u32,
-    pub write: u32,
-}

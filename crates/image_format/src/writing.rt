@@ -3,11 +3,13 @@
 ghost use Rattle.std.specs.Prelude.{◌≡◌, ℕ, ◌^◌, ◌<◌, List, ◌++◌, length, OnOk, IfOk};
 ghost use Rattle.std.specs.List.{flat_map};
 ghost use Rattle.image_format.specs.Picture.{nth_segment};
-ghost use Rattle.image_format.specs.Spelling.{half, number, range_spelling, segment_spelling, label_spelling, edge_spelling, compartment_spelling, list_spelling, opening_spelling, sizes_spelling, lists_spelling, IsFileOf};
+ghost use Rattle.image_format.specs.Spelling.{half, number, wide_number, range_spelling, segment_spelling, label_spelling, edge_spelling, compartment_spelling, list_spelling, opening_spelling, sizes_spelling, lists_spelling, IsFileOf};
 
-use crate::fields::{MAGIC, VERSION};
+use crate::compartments::{CompartmentRange, CompartmentRows, WideCompartmentRange};
+use crate::fields::MAGIC;
 use crate::image::Image;
-use crate::rows::{CompartmentRange, Edge, Label, WordRange};
+use crate::rows::{Edge, Label, WordRange};
+use crate::version::Version;
 use std::alloc::{AllocError, Global};
 
 /// What stands in a file as bytes of its own.
@@ -23,6 +25,15 @@ impl Written for u32 {
     ghost text = { number };
 
     #[tactic(auto, unfolding(crate::specs::Spelling::number))]
+    fn put(self, out: &mut Vec<u8>) -> Result<(), AllocError> {
+        out.extend_from_slice(&self.to_le_bytes())
+    }
+}
+
+impl Written for u128 {
+    ghost text = { wide_number };
+
+    #[tactic(auto, unfolding(crate::specs::Spelling::wide_number))]
     fn put(self, out: &mut Vec<u8>) -> Result<(), AllocError> {
         out.extend_from_slice(&self.to_le_bytes())
     }
@@ -61,12 +72,27 @@ impl Written for Edge {
 }
 
 impl Written for CompartmentRange {
-    ghost text = { compartment_spelling };
+    ghost use Rattle.image_format.specs.declared.version.Version.TheVariants.{One};
+
+    ghost text = { compartment_spelling One };
 
     fn put(self, out: &mut Vec<u8>) -> Result<(), AllocError> {
         self.range.put(out)?;
         self.owner.put(out)?;
         put_pair(out, self.into, self.write)
+    }
+}
+
+impl Written for WideCompartmentRange {
+    ghost use Rattle.image_format.specs.declared.version.Version.TheVariants.{Two};
+
+    ghost text = { compartment_spelling Two };
+
+    fn put(self, out: &mut Vec<u8>) -> Result<(), AllocError> {
+        self.range.put(out)?;
+        self.owner.put(out)?;
+        self.into.bits().put(out)?;
+        self.write.bits().put(out)
     }
 }
 
@@ -115,11 +141,11 @@ fn put_segments(out: &mut Vec<u8>, image: &Image) -> Result<(), AllocError>
 
 /// The magic and the version.
 #[tactic(auto, unfolding(crate::specs::Spelling::number, crate::specs::Spelling::half))]
-fn put_opening(out: &mut Vec<u8>) -> Result<(), AllocError>
-    ensures { OnOk result (out.new.items ≡ out.old.items ++ opening_spelling) }
+fn put_opening(out: &mut Vec<u8>, version: Version) -> Result<(), AllocError>
+    ensures { OnOk result (out.new.items ≡ out.old.items ++ opening_spelling version) }
 {
     MAGIC.put(out)?;
-    out.extend_from_slice(&VERSION.to_le_bytes())
+    out.extend_from_slice(&version.number().to_le_bytes())
 }
 
 /// The number of harts, and the sizes of the RAM and the heap region.
@@ -133,6 +159,17 @@ fn put_sizes(out: &mut Vec<u8>, image: &Image) -> Result<(), AllocError>
     put_pair(out, image.heap_base, image.heap_bytes)
 }
 
+/// The fifth list, in rows of the image's version.
+fn put_compartments(out: &mut Vec<u8>, image: &Image) -> Result<(), AllocError>
+    ensures { OnOk result (out.new.items ≡ out.old.items
+        ++ list_spelling (compartment_spelling image.now.version) image.now.compartments) }
+{
+    match image.compartments() {
+        CompartmentRows::Narrow(rows) => put_list(out, rows),
+        CompartmentRows::Wide(rows) => put_list(out, rows),
+    }
+}
+
 /// The five lists.
 fn put_lists(out: &mut Vec<u8>, image: &Image) -> Result<(), AllocError>
     ensures { OnOk result (out.new.items ≡ out.old.items ++ lists_spelling image.now) }
@@ -141,7 +178,7 @@ fn put_lists(out: &mut Vec<u8>, image: &Image) -> Result<(), AllocError>
     put_list(out, &image.code)?;
     put_list(out, &image.labels)?;
     put_list(out, &image.edges)?;
-    put_list(out, &image.compartments)
+    put_compartments(out, image)
 }
 
 /// The one spelling of an image. The time is linear in its bytes.
@@ -151,7 +188,7 @@ pub fn write_image(alloc: Global, image: &Image) -> Result<Vec<u8>, AllocError>
     ensures { IfOk result (λ bytes. IsFileOf bytes.items image.now) }
 {
     let mut out = Vec::new(alloc);
-    put_opening(&mut out)?;
+    put_opening(&mut out, image.version())?;
     put_sizes(&mut out, image)?;
     put_rows(&mut out, &image.entries)?;
     put_lists(&mut out, image)?;

@@ -74,6 +74,7 @@ const OTHER_FORMS: &[Row] = &[
 
 /// Directives.
 const DIRECTIVES: &[Row] = &[
+    (b".version 2", "1 .version 2"),
     (b".harts 2", "1 .harts 2"),
     (b".ram 65536", "1 .ram 65536"),
     (b".heap 61440, 4096", "1 .heap 61440 4096"),
@@ -134,7 +135,21 @@ const NUMBERS: &[Row] = &[
     (b"li x1, -2147483648", "1 li x1 -2147483648"),
     (b".harts 0", "1 .harts 0"),
     (b".zero -1", "1 .zero -1"),
-    (b".comp 32, -1, -1", "1 .comp 32 -1 -1"),
+    (b".version 0", "1 .version 0"),
+    (b".comp 32, -1, -2147483648", "1 .comp 32 negative negative"),
+    (b".comp -1, -0, 007", "1 .comp -1 0 7"),
+    (
+        b".comp 0, 4294967296, 0x100000000",
+        "1 .comp 0 4294967296 4294967296",
+    ),
+    (
+        b".comp 4294967295, 340282366920938463463374607431768211455, 0",
+        "1 .comp 4294967295 340282366920938463463374607431768211455 0",
+    ),
+    (
+        b".comp 0, 0, 0x00ffffffffFFFFFFFFffffffffFFFFFFFF",
+        "1 .comp 0 0 340282366920938463463374607431768211455",
+    ),
     (b".label -1", "1 .label -1"),
     (b".entry 9, -1", "1 .entry 9 -1"),
     (b"lui x1, -1", "1 Lui x1 -1"),
@@ -214,6 +229,7 @@ const COUNT_ERRORS: &[Row] = &[
     (b"j", "line 1 operand"),
     (b".word", "line 1 operand"),
     (b".word 1, 2", "line 1 operand"),
+    (b".version", "line 1 operand"),
     (b".harts", "line 1 operand"),
     (b".heap 1", "line 1 operand"),
     (b".entry 0", "line 1 operand"),
@@ -279,6 +295,23 @@ const NUMBER_ERRORS: &[Row] = &[
     (b".entry q, 5z", "line 1 number"),
     (b".edge 1, two", "line 1 number"),
     (b".comp 1, 2, three", "line 1 number"),
+    (b".version two", "line 1 number"),
+    (b".version 4294967296", "line 1 number"),
+    (b".comp 4294967296, 0, 0", "line 1 number"),
+    (b".comp 0, -2147483649, 0", "line 1 number"),
+    (b".comp 0, -0x1, 0", "line 1 number"),
+    (
+        b".comp 0, 340282366920938463463374607431768211456, 0",
+        "line 1 number",
+    ),
+    (
+        b".comp 0, 0, 0x100000000000000000000000000000000",
+        "line 1 number",
+    ),
+    (
+        b".comp 0, 0, 1000000000000000000000000000000000000000",
+        "line 1 number",
+    ),
 ];
 
 /// A name's text.
@@ -294,9 +327,18 @@ fn target_told(alloc: Global, target: &Target<'_>) -> Result<String, AllocError>
     }
 }
 
+/// A set of compartments as the tables write it.
+fn mask_told(alloc: Global, mask: Option<u128>) -> Result<String, AllocError> {
+    match mask {
+        Some(mask) => format!(in alloc; "{mask}"),
+        None => format!(in alloc; "negative"),
+    }
+}
+
 /// A directive as the tables write it.
 fn directive_told(alloc: Global, statement: &Statement<'_>) -> Result<String, AllocError> {
     match statement {
+        Statement::Version(number) => format!(in alloc; ".version {number}"),
         Statement::Harts(number) => format!(in alloc; ".harts {number}"),
         Statement::Ram(number) => format!(in alloc; ".ram {number}"),
         Statement::Heap { base, bytes } => format!(in alloc; ".heap {base} {bytes}"),
@@ -317,7 +359,9 @@ fn directive_told(alloc: Global, statement: &Statement<'_>) -> Result<String, Al
             destination,
         } => format!(in alloc; ".edge {source} {destination}"),
         Statement::Compartment { owner, into, write } => format!(in alloc;
-            ".comp {owner} {into} {write}"
+            ".comp {owner} {} {}",
+            mask_told(alloc, *into)?.as_str(),
+            mask_told(alloc, *write)?.as_str()
         ),
         _ => format!(in alloc; "?"),
     }

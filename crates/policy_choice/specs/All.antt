@@ -2,8 +2,8 @@
 use Rattle.std.specs.Prelude.{ℕ, ◌+◌, max, Bool, ◌&&◌, List, Option, Some, None, Result, map, if◌then◌else◌}
 use Rattle.std.specs.List.{fold}
 use Rattle.std.specs.Option.{option_eq}
-use Rattle.image_format.specs.Picture.{Picture}
-use Rattle.image_format.specs.declared.rows.CompartmentRange.{CompartmentRange}
+use Rattle.image_format.specs.Conditions.{compartment_limit}
+use Rattle.image_format.specs.Picture.{CompartmentRow, Picture}
 use Rattle.image_format.specs.declared.rows.Edge.{Edge}
 use Rattle.policy_trait.specs.Model.{PolicyModel}
 use Rattle.policy_trait.specs.declared.services.Args.{Args}
@@ -12,7 +12,7 @@ use Rattle.policy_trait.specs.declared.services.PlanEnd.{PlanEnd}
 use Rattle.sealing_policy.specs.Sealing.{sealing}
 use Rattle.sealing_policy.specs.contracts.tag.SealTagPartialEq.TheImpl as seal_tag
 use Rattle.sealing_policy.specs.declared.tag.SealTag.{SealTag}
-use Rattle.compartment_policy.specs.Compartments.{CompartmentState, compartments, first_compartments}
+use Rattle.compartment_policy.specs.Compartments.{CompartmentState, compartments}
 use Rattle.compartment_policy.specs.contracts.tag.CompartmentTagPartialEq.TheImpl as compartment_tag
 use Rattle.compartment_policy.specs.declared.tag.CompartmentTag.{CompartmentTag}
 use Rattle.flow_policy.specs.Flow.{flow}
@@ -46,12 +46,12 @@ all_eq x y =
 -- ---- the start
 
 -- one more than the greatest owner, or 1
-abbrev pub compartment_count : List CompartmentRange → ℕ
-compartment_count rows = fold (λ (count : ℕ) (row : CompartmentRange). max count (row.owner + 1)) 1 rows
+abbrev pub compartment_count : List CompartmentRow → ℕ
+compartment_count rows = fold (λ (count : ℕ) (row : CompartmentRow). max count (row.owner + 1)) 1 rows
 
--- the image's compartments, before words were split off
+-- the image's compartments, before words were split off; there may be as many as its version allows
 abbrev pub compartments_of : Picture → CompartmentState
-compartments_of g = first_compartments (compartment_count g.compartments)
+compartments_of g = record { count = compartment_count g.compartments; limit = compartment_limit g.version }
 
 abbrev pub pair_of : Edge → ℕ × ℕ
 pair_of edge = (edge.source, edge.target)

@@ -1,10 +1,11 @@
 //! All policies as one.
 
-ghost use Rattle.std.specs.Prelude.{◌≡◌, ◌+◌, ◌≤◌, ◌++◌, IfOk, IsTrue, Ok, Err, map};
+ghost use Rattle.std.specs.Prelude.{◌≡◌, ◌+◌, ◌<◌, ◌≤◌, ◌++◌, All, IfOk, IsTrue, Ok, Err, map};
+ghost use Rattle.image_format.specs.Conditions.{compartment_limit};
 ghost use Rattle.heap_policy.specs.Heap.{heap};
 ghost use Rattle.policy_trait.specs.Maps.{args_by, ok_by, plan_by};
 ghost use Rattle.policy_trait.specs.Model.{CanPlan};
-ghost use Rattle.policy_choice.specs.All.{all, all_lent, all_owner_plan, choice_state, compartment_count, heap_of};
+ghost use Rattle.policy_choice.specs.All.{all, all_lent, all_owner_plan, choice_state, compartment_count, compartments_of, heap_of};
 ghost use Rattle.policy_choice.specs.All.{pair_of, part_if};
 ghost use Rattle.policy_choice.specs.Flat.{parts_of};
 
@@ -17,7 +18,7 @@ use crate::tag::{
 use compartment_policy::Compartments;
 use flow_policy::Flow;
 use heap_policy::Heap;
-use image_format::{Edge, Image};
+use image_format::{CompartmentRows, Edge, Image, OwnedRange};
 use policy_product::Maybe;
 use policy_trait::{Args, Birth, Ins, InsAt, Mask, Outs, Part, Plan, PlanEnd, Policy, Refused};
 use pump_words::Line;
@@ -48,17 +49,29 @@ impl<T> Model for Together<T> {
 /// All policies together, with their tags: a type of its own, so that what names it has no nest of types to prove.
 pub type All = Together<AllTag>;
 
-/// How many compartments an image starts with: one more than the greatest owner, or 1.
-fn compartment_count(image: &Image) -> u32
-    ensures value { result ≡ compartment_count image.now.compartments }
+/// How many compartments own the words of these rows: one more than the greatest owner, or 1.
+fn compartment_count<R: OwnedRange>(rows: &[R]) -> u32
+    requires { All (λ row. (R.OwnedRange.row row).owner < compartment_limit R.version) rows.now }
+    ensures value { result ≡ compartment_count (map R.OwnedRange.row rows.now) }
     ensures some { 1 ≤ result }
-    ensures few { result ≤ 32 }
+    ensures within { result ≤ compartment_limit R.version }
 {
     let mut count = 1;
-    for row in image.compartments() {
-        count = count.max(row.owner + 1);
+    for row in rows {
+        count = count.max(row.owner() + 1);
     }
     count
+}
+
+/// The image's compartments, before words were split off.
+fn compartments_of(image: &Image) -> Compartments
+    ensures { result ≡ compartments_of image.now }
+{
+    let count = match image.compartments() {
+        CompartmentRows::Narrow(rows) => compartment_count(rows),
+        CompartmentRows::Wide(rows) => compartment_count(rows),
+    };
+    Compartments::new(count, image.version().compartment_limit())
 }
 
 /// The edges as pairs of labels.
@@ -105,16 +118,14 @@ fn heap_of(alloc: Global, image: &Image) -> Heap
 }
 
 /// The chosen policies at the start of the image, before anything was asked of them; the others are off. The image says how
-/// many compartments there are, the edges, and where the heap region is; its memory has the bytes that they count on. The only error is running out of memory.
+/// many compartments there are and may be, the edges, and where the heap region is; its memory has the bytes that they count
+/// on. The only error is running out of memory.
 pub fn choose(alloc: Global, basis: Basis, image: &Image) -> Result<All, AllocError>
     ensures value { IfOk result (λ policy. policy ≡ choice_state basis image.now) }
     ensures room { IfOk result (λ policy. all.room policy ≤ image.now.ram) }
 {
     let seal = part_if(basis.choice.seal, Sealing::new());
-    let comp = part_if(
-        basis.choice.comp,
-        Compartments::new(compartment_count(image)),
-    );
+    let comp = part_if(basis.choice.comp, compartments_of(image));
     let flow = flow_of(alloc, basis.choice.flow, image)?;
     let heap = part_if(basis.choice.heap, heap_of(alloc, image));
     Ok(Together {
@@ -180,7 +191,7 @@ impl Policy for Together<AllTag> {
 
     ghost holds = { AllHold };
 
-    ghost longest = { 363 };
+    ghost longest = { 411 };
 
     fn plain(&self) -> AllTag {
         AllTag {

@@ -2,16 +2,18 @@
 
 ghost use Rattle.std.specs.Prelude.{◌≡◌, ◌+◌, ◌<◌, ◌≤◌, ◌++◌, ◌==◌, ◌||◌, ℕ};
 ghost use Rattle.arrayvec.specs.ArrayVec.{array_vec_len};
-ghost use Rattle.pump_words.specs.Texts.{hex8_text};
-ghost use Rattle.policy_trait.specs.Sets.{has, set_of, set_with};
+ghost use Rattle.policy_trait.specs.Sets.{has, hex32_text, mask_text, set_of, set_with};
 
 use pump_words::{Line, Same, hex8};
 
-/// A set of compartments, whose numbers are 0 to 31. It has a bit for each, and bit n says whether compartment n is in
+/// A word is below this number.
+const WORD: u128 = 1 << 32;
+
+/// A set of compartments, whose numbers are 0 to 127. It has a bit for each, and bit n says whether compartment n is in
 /// the set. Contracts see it as these bits.
 #[derive(Clone, Copy, PartialEq, Eq, PartialOrd, Ord, Hash)]
 pub struct CompartmentSet {
-    bits: u32,
+    bits: u128,
 }
 
 impl Same for CompartmentSet {
@@ -29,20 +31,20 @@ impl CompartmentSet {
     }
 
     /// The set of the compartments whose bits are 1.
-    pub fn of_bits(bits: u32) -> CompartmentSet
+    pub fn of_bits(bits: u128) -> CompartmentSet
         ensures { result ≡ set_of bits }
     {
         CompartmentSet { bits }
     }
 
     /// The bit of each compartment.
-    pub fn bits(self) -> u32
+    pub fn bits(self) -> u128
         ensures { result ≡ self.bits }
     {
         self.bits
     }
 
-    /// Whether the compartment of this number is in the set; no number from 32 on is.
+    /// Whether the compartment of this number is in the set; no number from 128 on is.
     pub fn has(self, number: u32) -> bool
         ensures { result ≡ has self number }
     {
@@ -50,9 +52,8 @@ impl CompartmentSet {
     }
 
     /// The set with the compartment of this number too.
-    #[tactic(auto, using(crate::proofs::SetLemmas::has_with))]
     pub fn with(self, number: u32) -> CompartmentSet
-        requires { number < 32 }
+        requires { number < 128 }
         ensures value { result ≡ set_with self number }
         ensures members { (other : ℕ) → has result other ≡ (has self other || (other == number)) }
     {
@@ -61,20 +62,37 @@ impl CompartmentSet {
         }
     }
 
-    /// Appends the bits as eight hexadecimal digits in upper case.
+    /// Appends the bits in hexadecimal digits in upper case: eight where no compartment from 32 on is in the set, else
+    /// thirty-two.
     pub fn show(self, to: &mut Line)
-        requires { array_vec_len to.old + 8 ≤ 512 }
-        ensures text { to.new.items ≡ to.old.items ++ hex8_text self.bits }
-        ensures len { array_vec_len to.new ≡ array_vec_len to.old + 8 }
+        requires { array_vec_len to.old + 32 ≤ 512 }
+        ensures text { to.new.items ≡ to.old.items ++ mask_text self.bits }
+        ensures short { array_vec_len to.new ≤ array_vec_len to.old + 32 }
     {
-        hex8(to, self.bits);
+        if self.bits < WORD {
+            hex8(to, self.bits as u32);
+        } else {
+            hex32(to, self.bits);
+        }
     }
 }
 
-/// Whether bit `number` is 1; no bit from 32 on is.
+/// Appends 128 bits as thirty-two hexadecimal digits in upper case.
+fn hex32(to: &mut Line, bits: u128)
+    requires { array_vec_len to.old + 32 ≤ 512 }
+    ensures text { to.new.items ≡ to.old.items ++ hex32_text bits }
+    ensures len { array_vec_len to.new ≡ array_vec_len to.old + 32 }
+{
+    hex8(to, (bits >> 96) as u32);
+    hex8(to, ((bits >> 64) % WORD) as u32);
+    hex8(to, ((bits >> 32) % WORD) as u32);
+    hex8(to, (bits % WORD) as u32);
+}
+
+/// Whether bit `number` is 1; no bit from 128 on is.
 #[tactic(auto, using(crate::proofs::SetLemmas::has_none))]
-fn is_set(bits: u32, number: u32) -> bool
+fn is_set(bits: u128, number: u32) -> bool
     ensures { result ≡ has (set_of bits) number }
 {
-    number < 32 && (bits >> number) % 2 == 1
+    number < 128 && (bits >> number) % 2 == 1
 }

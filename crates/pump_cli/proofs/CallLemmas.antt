@@ -7,12 +7,12 @@ use Rattle.shared_terms.specs.Counts.{next_count}
 use Rattle.host_io.specs.Environment.{NoFault, Environment, WriteFault}
 use Rattle.image_format.specs.Picture.{Picture}
 use Rattle.image_format.specs.Spelling.{spelling}
-use Rattle.pump_line.specs.Request.{AssembleTask}
-use Rattle.pump_line.specs.Task.{Task, assemble, disassemble, load, run, shell}
+use Rattle.pump_line.specs.Request.{SaveTask}
+use Rattle.pump_line.specs.Task.{Task, disassemble, load, run, save, shell}
 use Rattle.pump_cli.specs.Calls.{CallsMade, EndsAs, FaultBy, FileCall, HeldAfter, IsReadAs, Load, MakesAll, Save, calls_of, calls_of_task, counted_by, held_after}
 use Rattle.pump_cli.specs.Codes.{status_of_refusal}
 use Rattle.pump_cli.specs.Facts.{AtMost}
-use Rattle.pump_cli.specs.Reading.{content_of, content_read, source_read}
+use Rattle.pump_cli.specs.Reading.{content_of, content_read, made_read, source_read}
 use Rattle.pump_cli.specs.declared.refusal.Refusal.{Refusal}
 use Rattle.pump_cli.specs.declared.refusal.Refusal.TheVariants as refusals
 use Rattle.pump_cli.specs.declared.status.Status.{Status}
@@ -46,7 +46,7 @@ other_way task (Some bytes) read is = sym is
 abbrev pub first_file : Task → Option (List ℕ)
 first_file (run task) = Some task.image
 first_file (shell task) = Some task.image
-first_file (assemble task) = Some task.source
+first_file (save task) = Some task.source
 first_file (disassemble task) = Some task.image
 first_file (load task) = None
 
@@ -54,7 +54,7 @@ first_file (load task) = None
 abbrev pub count_after_load : Task → ℕ → ℕ
 count_after_load (run task) before = next_count before
 count_after_load (shell task) before = next_count before
-count_after_load (assemble task) before = next_count before
+count_after_load (save task) before = next_count before
 count_after_load (disassemble task) before = next_count before
 count_after_load (load task) before = before
 
@@ -62,8 +62,8 @@ count_after_load (load task) before = before
 abbrev behind_load : Task → Result Picture Refusal → List FileCall
 behind_load (run task) read = []
 behind_load (shell task) read = []
-behind_load (assemble task) (Ok picture) = Save task.image (spelling picture) ∷ []
-behind_load (assemble task) (Err refusal) = []
+behind_load (save task) (Ok picture) = Save task.image (spelling picture) ∷ []
+behind_load (save task) (Err refusal) = []
 behind_load (disassemble task) read = []
 behind_load (load task) read = []
 
@@ -72,16 +72,16 @@ load_first : (task : Task) (name : List ℕ) (read : Result Picture Refusal) →
     → Load name ∷ behind_load task read ≡ calls_of_task task read
 load_first (run task) name read is = let same : task.image ≡ name = cc in ap (λ (file : List ℕ). Load file ∷ []) (sym same)
 load_first (shell task) name read is = let same : task.image ≡ name = cc in ap (λ (file : List ℕ). Load file ∷ []) (sym same)
-load_first (assemble task) name (Ok picture) is =
+load_first (save task) name (Ok picture) is =
     let same : task.source ≡ name = cc in ap (λ (file : List ℕ). Load file ∷ Save task.image (spelling picture) ∷ []) (sym same)
-load_first (assemble task) name (Err refusal) is = let same : task.source ≡ name = cc in ap (λ (file : List ℕ). Load file ∷ []) (sym same)
+load_first (save task) name (Err refusal) is = let same : task.source ≡ name = cc in ap (λ (file : List ℕ). Load file ∷ []) (sym same)
 load_first (disassemble task) name read is = let same : task.image ≡ name = cc in ap (λ (file : List ℕ). Load file ∷ []) (sym same)
 load_first (load task) name read is = absurd cc
 
 load_counted : (task : Task) (name : List ℕ) (before now : ℕ) → first_file task ≡ Some name → now ≡ count_after_load task before → now ≡ next_count before
 load_counted (run task) name before now is counted = counted
 load_counted (shell task) name before now is counted = counted
-load_counted (assemble task) name before now is counted = counted
+load_counted (save task) name before now is counted = counted
 load_counted (disassemble task) name before now is counted = counted
 load_counted (load task) name before now is counted = absurd cc
 
@@ -90,7 +90,7 @@ load_counted (load task) name before now is counted = absurd cc
 refused_parts : (task : Task) (refusal : Refusal) → calls_of_task task (Err refusal) ++ [] ≡ calls_of_task task (Err refusal)
 refused_parts (run task) refusal = refl
 refused_parts (shell task) refusal = refl
-refused_parts (assemble task) refusal = refl
+refused_parts (save task) refusal = refl
 refused_parts (disassemble task) refusal = refl
 refused_parts (load task) refusal = refl
 
@@ -98,7 +98,7 @@ refused_counted : (task : Task) (refusal : Refusal) (before now : ℕ) → now �
     → now ≡ counted_by (calls_of_task task (Err refusal)) before
 refused_counted (run task) refusal before now counted = counted
 refused_counted (shell task) refusal before now counted = counted
-refused_counted (assemble task) refusal before now counted = counted
+refused_counted (save task) refusal before now counted = counted
 refused_counted (disassemble task) refusal before now counted = counted
 refused_counted (load task) refusal before now counted = counted
 
@@ -107,7 +107,7 @@ refused_held : (task : Task) (refusal : Refusal) (tells : Bool) (held : List ℕ
     → held ≡ held_after tells (calls_of_task task (Err refusal)) held
 refused_held (run task) refusal tells held = refl
 refused_held (shell task) refusal tells held = refl
-refused_held (assemble task) refusal tells held = refl
+refused_held (save task) refusal tells held = refl
 refused_held (disassemble task) refusal tells held = refl
 refused_held (load task) refusal tells held = refl
 
@@ -221,12 +221,12 @@ unread_called (Some task) before = record {
   unsaved = λ memory. refl;
 }
 
--- ---- `asm` of a source that is assembled
+-- ---- an image that is made and saved
 
-module _ {I : Type 0} (task : AssembleTask) (picture : Picture) (before after : Environment I)
-    (taken : IfSome (before.held task.source) (λ bytes. source_read bytes ≡ Ok picture)) where
-  is_taken : IfSome (before.held task.source) (λ bytes. Ok picture ≡ source_read bytes)
-  is_taken = other_way (assemble task) (before.held task.source) (Ok picture) taken
+module _ {I : Type 0} (task : SaveTask) (picture : Picture) (before after : Environment I)
+    (taken : IfSome (before.held task.source) (λ bytes. made_read task.making bytes ≡ Ok picture)) where
+  is_taken : IfSome (before.held task.source) (λ bytes. Ok picture ≡ made_read task.making bytes)
+  is_taken = other_way (save task) (before.held task.source) (Ok picture) taken
 
   abbrev the_save : FileCall
   the_save = Save task.image (spelling picture)
@@ -242,7 +242,7 @@ module _ {I : Type 0} (task : AssembleTask) (picture : Picture) (before after : 
   -- it was saved
   pub save_called : after.held task.image ≡ then_some before.tells (spelling picture)
       → ((other : List ℕ) → other ≢ task.image → after.held other ≡ before.held other)
-      → after.calls ≡ next_count (next_count before.calls) → NoFault before.faults after.faults → Called (Some (assemble task)) statuses.Done before after
+      → after.calls ≡ next_count (next_count before.calls) → NoFault before.faults after.faults → Called (Some (save task)) statuses.Done before after
   save_called file others counted faults = record {
     calls = record {
       read = Ok picture;
@@ -262,7 +262,7 @@ module _ {I : Type 0} (task : AssembleTask) (picture : Picture) (before after : 
 
   -- that failed
   pub save_failed : ((other : List ℕ) → other ≢ task.image → after.held other ≡ before.held other) → after.calls ≡ next_count (next_count before.calls)
-      → WriteFault task.image before.faults after.faults → Called (Some (assemble task)) statuses.WriteFailed before after
+      → WriteFault task.image before.faults after.faults → Called (Some (save task)) statuses.WriteFailed before after
   save_failed others counted faults = record {
     calls = record {
       read = Ok picture;
@@ -282,7 +282,7 @@ module _ {I : Type 0} (task : AssembleTask) (picture : Picture) (before after : 
 
   -- memory ran out before the save, or in it
   pub save_unmade : after.held ≡ before.held → AtMost 1 (next_count before.calls) after.calls → NoFault before.faults after.faults
-      → Called (Some (assemble task)) statuses.Memory before after
+      → Called (Some (save task)) statuses.Memory before after
   save_unmade held (inl counted) faults = record {
     calls = record {
       read = Ok picture;

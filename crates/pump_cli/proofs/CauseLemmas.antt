@@ -12,7 +12,7 @@ use Rattle.rounds.specs.Course.{Course, hart_stops}
 use Rattle.rounds.proofs.SpentLemmas.{rounds_have_memory, rounds_spent, turn_is_next}
 use Rattle.cache_size.specs.Sizes.{keeps_no_rule}
 use Rattle.pump_loader.specs.Loads.{cached_start_of}
-use Rattle.pump_line.specs.Task.{RunTask, Task, assemble, disassemble, load, run, shell, task_of}
+use Rattle.pump_line.specs.Task.{RunTask, Task, disassemble, load, run, save, shell, task_of}
 use Rattle.pump_cli.specs.Endings.{Outcome, has_any, is_of, is_out, status_of, status_of_stops}
 use Rattle.pump_cli.specs.Program.{basis_of, course_of_run, outcome_of_content, outcome_of_fed, outcome_of_image, outcome_of_input, outcome_of_load, outcome_of_picture, outcome_of_run, outcome_of_words, program, run_of_load, start_of_run, started_account}
 use Rattle.pump_cli.specs.Reading.{content_of, content_read, input_read}
@@ -128,7 +128,7 @@ module _ (status : Status) (Ran : RunTask → Picture → List ℕ → Type 0) (
   of_picture (run task) picture input says = of_input task picture input says
   of_picture (shell task) picture None says = tt
   of_picture (shell task) picture (Some input) says = tt
-  of_picture (assemble task) picture input says = tt
+  of_picture (save task) picture input says = tt
   of_picture (disassemble task) picture input says = tt
   of_picture (load task) picture input says = each (run_of_load task) picture [] says
 

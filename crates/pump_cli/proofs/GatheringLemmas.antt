@@ -1,10 +1,12 @@
 -- What a file and the input are read as.
 use Rattle.std.proofs.Common.{◌≡◌, ℕ, ◌<◌, ◌≤◌, nat_le, if◌then◌else◌, arith, Bool, true, false, List, length, Option, Some, None, Result, Ok, Err, IfOk, IfSome, ap, subst, sym, ◌∙◌}
 use Rattle.std.proofs.lemmas.Bool.Decides.{nat_tests}
+use Rattle.shared_terms.specs.Steps.{result_view}
+use Rattle.image_format.specs.Migrated.{migrated}
 use Rattle.image_format.specs.Picture.{Picture}
 use Rattle.image_format.specs.Reading.{image_of}
 use Rattle.asm_emit.specs.Assembled.{image_of_source}
-use Rattle.pump_cli.specs.Reading.{file_as, file_limit, image_or_refusal, image_read, input_limit, input_read, source_or_refusal, source_read, within_limit}
+use Rattle.pump_cli.specs.Reading.{file_as, file_limit, image_or_refusal, image_read, input_limit, input_read, migrated_read, source_or_refusal, source_read, within_limit}
 use Rattle.pump_cli.specs.declared.reading.EarlyEnd.{EarlyEnd}
 use Rattle.pump_cli.specs.declared.refusal.Refusal.{Refusal}
 use Rattle.pump_cli.specs.declared.refusal.Refusal.TheVariants.{TooLong}
@@ -105,3 +107,9 @@ pub input_too_long : (left : Option (List ℕ)) → IfSome left (λ all. 1677721
 unfolding input_read input_limit
 input_too_long None past = tt
 input_too_long (Some all) past = ap (λ (short : Bool). if short then Ok all else Err TooLong) (exceeds (length all) 16777216 past)
+
+-- an image that is refused is not migrated
+pub migrated_refused : (held : Option (List ℕ)) (refusal : Refusal) → IfSome held (λ bytes. image_read bytes ≡ Err refusal)
+    → IfSome held (λ bytes. migrated_read bytes ≡ Err refusal)
+migrated_refused None refusal is = tt
+migrated_refused (Some bytes) refusal is = ap (result_view migrated) is

@@ -1,5 +1,4 @@
 pub mod AnswerLemmas
-pub mod AsmWayLemmas
 pub mod BareLemmas
 pub mod CallLemmas
 pub mod CauseLemmas
@@ -9,11 +8,13 @@ pub mod GatheringLemmas
 pub mod ListLemmas
 pub mod LoadLemmas
 pub mod LoadWayLemmas
+pub mod MigratedLemmas
 pub mod NoneRunLemmas
 mod OneTagLemmas
 mod OneTagRunLemmas
 pub mod RunWayLemmas
 pub mod SafeRunLemmas
+pub mod SaveWayLemmas
 pub mod SessionLemmas
 mod SessionRunLemmas
 pub mod ShellWayLemmas

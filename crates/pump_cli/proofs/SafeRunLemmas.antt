@@ -20,9 +20,9 @@ use Rattle.policy_choice.specs.All.{AllState, AllTag, all, all_eq}
 use Rattle.rounds.proofs.RunLemmas.{rounds_are_run}
 use Rattle.run_props.proofs.RunLemmas.{run_is_safe}
 use Rattle.run_props.specs.Safe.{IsSafe}
-use Rattle.pump_line.specs.Task.{RunTask, ShellTask, Task, assemble, disassemble, load, run, shell, task_of}
+use Rattle.pump_line.specs.Task.{RunTask, ShellTask, Task, disassemble, load, run, save, shell, task_of}
 use Rattle.pump_cli.specs.Program.{basis_of, course_of_run, run_of_load, start_of_run}
-use Rattle.pump_cli.specs.Reading.{content_of, content_read, file_as, file_limit, image_or_refusal, image_read, input_read, source_or_refusal, source_read}
+use Rattle.pump_cli.specs.Reading.{content_of, content_read, file_as, file_limit, image_or_refusal, image_read, input_read, made_read, source_or_refusal, source_read}
 use Rattle.pump_cli.specs.Runs.{AfterContent, AfterFed, AfterImage, AfterInput, AfterLines, AfterPicture, AfterWords, EachRun, HoldsOfLines, HoldsOfRun, IsSafeRun, items_after_lines}
 use Rattle.pump_cli.specs.declared.refusal.Refusal.{Refusal}
 
@@ -101,7 +101,7 @@ safe_lines task g (Some input) is = λ prefix rest due. run_is_safe (basis_of ta
 safe_picture : (task : Task) (g : Picture) (input : Option (List ℕ)) → IsImage g → AfterPicture SafeRan SafeExecuted task g input
 safe_picture (run task) g input is = safe_input task g input is
 safe_picture (shell task) g input is = safe_lines task g input is
-safe_picture (assemble task) g input is = tt
+safe_picture (save task) g input is = tt
 safe_picture (disassemble task) g input is = tt
 safe_picture (load task) g input is = safe_course (run_of_load task) g [] is
 
@@ -127,8 +127,8 @@ safe_content (run task) held input tells =
     safe_file (run task) (held task.image) input (tells task.image) (λ bytes are_bytes. safe_image (run task) (image_read bytes) input (λ g read. file_is_image bytes g are_bytes read))
 safe_content (shell task) held input tells =
     safe_file (shell task) (held task.image) input (tells task.image) (λ bytes are_bytes. safe_image (shell task) (image_read bytes) input (λ g read. file_is_image bytes g are_bytes read))
-safe_content (assemble task) held input tells =
-    safe_file (assemble task) (held task.source) input (tells task.source) (λ bytes are_bytes. none_made (assemble task) (λ g given. tt) (source_read bytes) input)
+safe_content (save task) held input tells =
+    safe_file (save task) (held task.source) input (tells task.source) (λ bytes are_bytes. none_made (save task) (λ g given. tt) (made_read task.making bytes) input)
 safe_content (disassemble task) held input tells =
     safe_file (disassemble task) (held task.image) input (tells task.image) (λ bytes are_bytes. none_made (disassemble task) (λ g given. tt) (image_read bytes) input)
 safe_content (load task) held input tells =

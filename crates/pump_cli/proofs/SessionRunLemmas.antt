@@ -21,7 +21,7 @@ use Rattle.shell_script.specs.Shell.{shell_of}
 use Rattle.shell_script.proofs.GainLemmas.{closed_by, next_told, script_start, shell_is_told}
 use Rattle.shell_script.proofs.RunLemmas.{script_goes}
 use Rattle.pump_shell.specs.Told.{out_at_start, start_of_setup, told_by, told_from, told_of}
-use Rattle.pump_line.specs.Task.{RunTask, ShellTask, Task, assemble, disassemble, load, run, shell, task_of}
+use Rattle.pump_line.specs.Task.{RunTask, ShellTask, Task, disassemble, load, run, save, shell, task_of}
 use Rattle.pump_cli.specs.Program.{basis_of, is_over_at_start, setup_of}
 use Rattle.pump_cli.specs.Reading.{content_of, content_read, input_limit, input_read}
 use Rattle.pump_cli.specs.Runs.{AfterContent, AfterFed, AfterImage, AfterInput, AfterLines, AfterPicture, AfterWords, Run, items_after_lines, run_after_lines}
@@ -112,7 +112,7 @@ after_lines task g (Some input) = tells_runs task g input
 after_picture : (task : Task) (g : Picture) (input : Option (List ℕ)) → AfterPicture AnyRun TellsRuns task g input
 after_picture (run task) g input = any_input task g input
 after_picture (shell task) g input = after_lines task g input
-after_picture (assemble task) g input = tt
+after_picture (save task) g input = tt
 after_picture (disassemble task) g input = tt
 after_picture (load task) g input = tt
 

@@ -1,7 +1,7 @@
 -- What the status of a task says of what it is not.
 use Rattle.std.proofs.Common.{◌≡◌, ◌⊎◌, Option, Some, Result, IfOk, refl, sym, subst, inl, inr}
 use Rattle.host_io.specs.TwoSinks.{PutFaults}
-use Rattle.pump_line.specs.Task.{Task, assemble, disassemble, load, run, shell}
+use Rattle.pump_line.specs.Task.{Task, disassemble, load, run, save, shell}
 use Rattle.pump_cli.specs.Calls.{MakesAll}
 use Rattle.pump_cli.specs.Codes.{IsFinal, IsOfRefusal, IsOfRun, IsSilent, ReadsAll, status_of_cut, status_of_refusal}
 use Rattle.pump_cli.specs.Facts.{PutsFaultBy, status_in}
@@ -33,7 +33,7 @@ cut_not_run cut.Memory of_run = of_run
 all_read_is : (task : Task) (status : Status) → ReadsAll task status → IsOfRun status
 all_read_is (run task) status all = all
 all_read_is (shell task) status all = absurd all
-all_read_is (assemble task) status all = absurd all
+all_read_is (save task) status all = absurd all
 all_read_is (disassemble task) status all = absurd all
 all_read_is (load task) status all = absurd all
 

@@ -1,5 +1,5 @@
 -- What is due at the end of a task, why something is refused, and what is done to file and input.
-use Rattle.std.proofs.Common.{◌≡◌, ℕ, ◌+◌, ◌<◌, ◌⊎◌, nat_le, if◌then◌else◌, Bool, true, false, List, [], length, Option, Some, None, Result, Ok, Err, IfSome, IsErr, IsTrue, refl, sym, subst, arith, inl, inr, ◌∙◌}
+use Rattle.std.proofs.Common.{◌≡◌, ℕ, ◌+◌, ◌<◌, ◌⊎◌, nat_le, if◌then◌else◌, Bool, true, false, List, [], length, Option, Some, None, Result, Ok, Err, IfSome, IsErr, IsTrue, refl, sym, subst, arith, inl, inr, ◌∙◌, ap}
 use Rattle.std.proofs.lemmas.Bool.Decides.{nat_tests}
 use Rattle.std.specs.Io.KnownBytes.{prepend_known}
 use Rattle.host_io.specs.Prefixes.{LosesPrefix}
@@ -10,14 +10,18 @@ use Rattle.image_format.specs.declared.errors.ImageError.{ImageError}
 use Rattle.asm_read.specs.declared.errors.AsmError.{AsmError}
 use Rattle.asm_emit.specs.Assembled.{image_of_source}
 use Rattle.workload.specs.Source.{source_of_workload}
-use Rattle.pump_line.specs.Request.{AssembleTask, DisassembleTask}
-use Rattle.pump_line.specs.Task.{LoadTask, RunTask, ShellTask, Task, assemble, disassemble, load, run, shell}
+use Rattle.pump_line.specs.Request.{DisassembleTask, SaveTask}
+use Rattle.pump_line.specs.Task.{LoadTask, RunTask, ShellTask, Task, disassemble, load, run, save, shell}
 use Rattle.pump_cli.specs.Codes.{IsBeforeInput, ReadsAll}
 use Rattle.pump_cli.specs.Endings.{Outcome}
 use Rattle.host_io.proofs.PrefixLemmas.{if_some_each}
 use Rattle.pump_cli.specs.Facts.{FileFacts, IsLongFile, IsLongInput, IsTooLong, Executed, ExecutedIn, SessionFacts}
 use Rattle.pump_cli.specs.Program.{is_over_at_start, outcome_of_content, outcome_of_fed, outcome_of_image, outcome_of_lines, outcome_of_listing, outcome_of_load, outcome_of_no_start, outcome_of_run, outcome_of_saving, refusal_outcome}
-use Rattle.pump_cli.specs.Reading.{content_of, content_read, file_as, file_limit, image_or_refusal, image_read, input_limit, input_read, source_or_refusal, source_read}
+use Rattle.shared_terms.specs.Steps.{result_view}
+use Rattle.image_format.specs.Migrated.{migrated}
+use Rattle.pump_line.specs.declared.task.Making.{Making}
+use Rattle.pump_line.specs.declared.task.Making.TheVariants.{Assemble, Migrate}
+use Rattle.pump_cli.specs.Reading.{content_of, content_read, file_as, file_limit, image_or_refusal, image_read, input_limit, input_read, made_read, source_or_refusal, source_read}
 use Rattle.pump_cli.specs.declared.refusal.Refusal.{Refusal}
 use Rattle.pump_cli.specs.declared.refusal.Refusal.TheVariants as refusals
 use Rattle.pump_cli.specs.declared.status.Status.{Status}
@@ -63,11 +67,11 @@ module _ (P : Outcome → Type 0) where
   due_by_lines task (Some bytes) (Some lines) picture is executed ended =
       subst (λ (read : Result Picture Refusal). IfSome (outcome_of_image (shell task) read (Some lines)) P) (sym is) executed
 
-  pub due_by_saving : (task : AssembleTask) (held input : Option (List ℕ)) (picture : Picture) → IfSome held (λ bytes. source_read bytes ≡ Ok picture)
-      → P outcome_of_saving → IfSome (outcome_of_content (assemble task) held input) P
+  pub due_by_saving : (task : SaveTask) (held input : Option (List ℕ)) (picture : Picture) → IfSome held (λ bytes. made_read task.making bytes ≡ Ok picture)
+      → P outcome_of_saving → IfSome (outcome_of_content (save task) held input) P
   due_by_saving task None input picture is saved = tt
   due_by_saving task (Some bytes) input picture is saved =
-      subst (λ (read : Result Picture Refusal). IfSome (outcome_of_image (assemble task) read input) P) (sym is) saved
+      subst (λ (read : Result Picture Refusal). IfSome (outcome_of_image (save task) read input) P) (sym is) saved
 
   pub due_by_listing : (task : DisassembleTask) (held input : Option (List ℕ)) (picture : Picture) → IfSome held (λ bytes. image_read bytes ≡ Ok picture)
       → P (outcome_of_listing picture) → IfSome (outcome_of_content (disassemble task) held input) P
@@ -140,10 +144,19 @@ unfolding source_read
 long_source bytes is =
     long_from bytes (as_refused (nat_le (length bytes) file_limit) bytes (λ file. source_or_refusal (image_of_source file)) refusals.TooLong is) (source_not_long (image_of_source bytes))
 
+-- what is mapped was refused as it was before
+refused_before : {A B : Type 0} (view : A → B) (read : Result A Refusal) (refusal : Refusal) → result_view view read ≡ Err refusal → read ≡ Err refusal
+refused_before view (Ok x) refusal is = absurd (let h : Ok (view x) ≡ Err refusal = is in cc)
+refused_before view (Err other) refusal is = let same : other ≡ refusal = (let h : Err other ≡ Err refusal = is in cc) in ap Err same
+
+long_made : (making : Making) (bytes : List ℕ) → made_read making bytes ≡ Err refusals.TooLong → IsLongFile bytes
+long_made Assemble bytes is = long_source bytes is
+long_made Migrate bytes is = long_image bytes (refused_before migrated (image_read bytes) refusals.TooLong is)
+
 pub too_long : (task : Task) (bytes : List ℕ) (left : Option (List ℕ)) → content_read task bytes ≡ Err refusals.TooLong → IsTooLong task bytes left
 too_long (run task) bytes left is = each left _ (λ input. inl (long_image bytes is))
 too_long (shell task) bytes left is = each left _ (λ input. inl (long_image bytes is))
-too_long (assemble task) bytes left is = long_source bytes is
+too_long (save task) bytes left is = long_made task.making bytes is
 too_long (disassemble task) bytes left is = long_image bytes is
 too_long (load task) bytes left is = long_source bytes is
 
@@ -172,10 +185,15 @@ source_no_image_in : (bytes : List ℕ) (error : ImageError) → source_read byt
 source_no_image_in bytes error is =
     source_no_image (image_of_source bytes) error (source_refusal bytes (refusals.BadImage error) is (λ e. let h : refusals.BadImage error ≡ refusals.TooLong = e in cc))
 
+no_image_made : (making : Making) (bytes : List ℕ) (error : ImageError) → made_read making bytes ≡ Err (refusals.BadImage error) → IsErr (image_of bytes)
+no_image_made Assemble bytes error is = absurd (source_no_image_in bytes error is)
+no_image_made Migrate bytes error is =
+    image_is_bad (image_of bytes) error (image_bad bytes error (refused_before migrated (image_read bytes) (refusals.BadImage error) is))
+
 pub no_image : (task : Task) (bytes : List ℕ) (error : ImageError) → content_read task bytes ≡ Err (refusals.BadImage error) → IsErr (image_of bytes)
 no_image (run task) bytes error is = image_is_bad (image_of bytes) error (image_bad bytes error is)
 no_image (shell task) bytes error is = image_is_bad (image_of bytes) error (image_bad bytes error is)
-no_image (assemble task) bytes error is = absurd (source_no_image_in bytes error is)
+no_image (save task) bytes error is = no_image_made task.making bytes error is
 no_image (disassemble task) bytes error is = image_is_bad (image_of bytes) error (image_bad bytes error is)
 no_image (load task) bytes error is = absurd (source_no_image_in bytes error is)
 
@@ -183,10 +201,14 @@ image_no_source_in : (bytes : List ℕ) (error : AsmError) → image_read bytes 
 image_no_source_in bytes error is =
     image_no_source (image_of bytes) error (image_refusal bytes (refusals.BadSource error) is (λ e. let h : refusals.BadSource error ≡ refusals.TooLong = e in cc))
 
+no_source_made : (making : Making) (bytes : List ℕ) (error : AsmError) → made_read making bytes ≡ Err (refusals.BadSource error) → IsErr (image_of_source bytes)
+no_source_made Assemble bytes error is = source_is_bad (image_of_source bytes) error (source_bad bytes error is)
+no_source_made Migrate bytes error is = absurd (image_no_source_in bytes error (refused_before migrated (image_read bytes) (refusals.BadSource error) is))
+
 pub no_source : (task : Task) (bytes : List ℕ) (error : AsmError) → content_read task bytes ≡ Err (refusals.BadSource error) → IsErr (image_of_source bytes)
 no_source (run task) bytes error is = absurd (image_no_source_in bytes error is)
 no_source (shell task) bytes error is = absurd (image_no_source_in bytes error is)
-no_source (assemble task) bytes error is = source_is_bad (image_of_source bytes) error (source_bad bytes error is)
+no_source (save task) bytes error is = no_source_made task.making bytes error is
 no_source (disassemble task) bytes error is = absurd (image_no_source_in bytes error is)
 no_source (load task) bytes error is = source_is_bad (image_of_source bytes) error (source_bad bytes error is)
 
@@ -240,7 +262,7 @@ pub no_session : {I : Type 0} (task : Task) (status : Status) (before after : En
 no_session (run task) status before after not_out not_done not_input input = tt
 no_session (shell task) status before after not_out not_done not_input input =
     each (before.held task.image) _ (λ bytes. unexecuted task (image_read bytes) status before after not_out not_done not_input input)
-no_session (assemble task) status before after not_out not_done not_input input = tt
+no_session (save task) status before after not_out not_done not_input input = tt
 no_session (disassemble task) status before after not_out not_done not_input input = tt
 no_session (load task) status before after not_out not_done not_input input = tt
 
@@ -311,10 +333,10 @@ of_saving status (inr memory) = record {
   long = λ e. let h : statuses.Memory ≡ statuses.TooLong = sym memory ∙ e in cc;
 }
 
--- a source was taken, and its image was to be saved
-pub facts_saving : {I : Type 0} (task : AssembleTask) (status : Status) (before after : Environment I) (picture : Picture)
-    → IfSome (before.held task.source) (λ bytes. source_read bytes ≡ Ok picture) → IsSaving status ⊎ (status ≡ statuses.Memory)
-    → after.input ≡ before.input → after.left ≡ before.left → FileFacts (assemble task) status before after
+-- a file was taken, and the image that is made of it was to be saved
+pub facts_saving : {I : Type 0} (task : SaveTask) (status : Status) (before after : Environment I) (picture : Picture)
+    → IfSome (before.held task.source) (λ bytes. made_read task.making bytes ≡ Ok picture) → IsSaving status ⊎ (status ≡ statuses.Memory)
+    → after.input ≡ before.input → after.left ≡ before.left → FileFacts (save task) status before after
 facts_saving task status before after picture taken ends input left =
     let side = of_saving status ends in
     record {
@@ -322,7 +344,7 @@ facts_saving task status before after picture taken ends input left =
       bad_source = λ e. absurd (side.source e);
       too_long = λ e. absurd (side.long e);
       unread = λ early. input;
-      unasked = if_some_each (before.held task.source) _ _ (λ bytes is refused. taken_is_fine (assemble task) bytes picture is refused) taken;
+      unasked = if_some_each (before.held task.source) _ _ (λ bytes is refused. taken_is_fine (save task) bytes picture is refused) taken;
       whole = λ all. absurd all;
       session = tt;
       moved = subst (λ (now : Option (List ℕ)). LosesPrefix before.left now (input_limit + 4096)) (sym left) (loses_nothing before.left (input_limit + 4096));
@@ -332,7 +354,7 @@ facts_saving task status before after picture taken ends input left =
 not_all_read : (task : Task) → ReadsAll task statuses.Memory → ⊥
 not_all_read (run task) all = all
 not_all_read (shell task) all = all
-not_all_read (assemble task) all = all
+not_all_read (save task) all = all
 not_all_read (disassemble task) all = all
 not_all_read (load task) all = all
 

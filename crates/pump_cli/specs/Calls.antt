@@ -6,7 +6,7 @@ use Rattle.shared_terms.specs.Counts.{next_count}
 use Rattle.host_io.specs.Environment.{Faults, InputFault, NoFault, Environment, PutFault, ReadFault, WriteFault}
 use Rattle.image_format.specs.Picture.{Picture}
 use Rattle.image_format.specs.Spelling.{spelling}
-use Rattle.pump_line.specs.Task.{Task, assemble, disassemble, load, run, shell}
+use Rattle.pump_line.specs.Task.{Task, disassemble, load, run, save, shell}
 use Rattle.pump_cli.specs.Codes.{status_of_refusal}
 use Rattle.pump_cli.specs.Reading.{content_of, content_read}
 use Rattle.pump_cli.specs.declared.refusal.Refusal.{Refusal}
@@ -21,12 +21,12 @@ pub data FileCall : Type 0 where
 
 -- ---- the calls of a task
 
--- by what the content is read as: `asm` saves the file of the image that its source is assembled to, and a refused one saves nothing
+-- by what the content is read as: `asm` and `migrate` save the file of the image that they make of it, and a refused one saves nothing
 abbrev pub calls_of_task : Task → Result Picture Refusal → List FileCall
 calls_of_task (run task) read = Load task.image ∷ []
 calls_of_task (shell task) read = Load task.image ∷ []
-calls_of_task (assemble task) (Ok picture) = Load task.source ∷ Save task.image (spelling picture) ∷ []
-calls_of_task (assemble task) (Err refusal) = Load task.source ∷ []
+calls_of_task (save task) (Ok picture) = Load task.source ∷ Save task.image (spelling picture) ∷ []
+calls_of_task (save task) (Err refusal) = Load task.source ∷ []
 calls_of_task (disassemble task) read = Load task.image ∷ []
 calls_of_task (load task) read = []
 
@@ -49,9 +49,9 @@ MakesAll WriteFailed = ⊥
 MakesAll Memory = ⊥
 MakesAll _ = Unit {0}
 
--- such a status, where the content was taken: an `asm` that saved is done
+-- such a status, where the content was taken: a task that saved is done
 abbrev pub EndsTaken : Option Task → Status → Type 0
-EndsTaken (Some (assemble task)) status = status ≡ Done
+EndsTaken (Some (save task)) status = status ≡ Done
 EndsTaken _ status = Unit {0}
 
 -- such a status, by what the content was read as: a refusal's own, unless it could not be told

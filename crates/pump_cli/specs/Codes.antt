@@ -1,6 +1,6 @@
 -- The number of each status, and kinds of statuses.
 use Rattle.std.specs.Prelude.{ℕ, Option, Some, None}
-use Rattle.pump_line.specs.Task.{Task, assemble, disassemble, load, run, shell}
+use Rattle.pump_line.specs.Task.{Task, disassemble, load, run, save, shell}
 use Rattle.pump_cli.specs.declared.cut.Cut.{Cut}
 use Rattle.pump_cli.specs.declared.cut.Cut.TheVariants as cut
 use Rattle.pump_cli.specs.declared.refusal.Refusal.{Refusal}
@@ -61,7 +61,7 @@ abbrev pub ReadsFirst : Option Task → Type 0
 ReadsFirst None = Unit {0}
 ReadsFirst (Some (run task)) = Unit {0}
 ReadsFirst (Some (shell task)) = ⊥
-ReadsFirst (Some (assemble task)) = Unit {0}
+ReadsFirst (Some (save task)) = Unit {0}
 ReadsFirst (Some (disassemble task)) = Unit {0}
 ReadsFirst (Some (load task)) = Unit {0}
 
@@ -93,14 +93,14 @@ IsSilent task _ = ⊥
 abbrev pub StartsFirst : Task → Type 0
 StartsFirst (run task) = ⊥
 StartsFirst (shell task) = Unit {0}
-StartsFirst (assemble task) = ⊥
+StartsFirst (save task) = ⊥
 StartsFirst (disassemble task) = ⊥
 StartsFirst (load task) = ⊥
 
--- the status of a call that ended before the input was asked for: any, where a source is assembled, an image listed or a workload
+-- the status of a call that ended before the input was asked for: any, where an image is made and saved, an image listed or a workload
 -- run
 abbrev pub IsBeforeInput : Task → Status → Type 0
-IsBeforeInput (assemble task) status = Unit {0}
+IsBeforeInput (save task) status = Unit {0}
 IsBeforeInput (disassemble task) status = Unit {0}
 IsBeforeInput (load task) status = Unit {0}
 IsBeforeInput task BadWords = Unit {0}
@@ -113,6 +113,6 @@ IsBeforeInput task _ = ⊥
 abbrev pub ReadsAll : Task → Status → Type 0
 ReadsAll (run task) status = IsOfRun status
 ReadsAll (shell task) status = ⊥
-ReadsAll (assemble task) status = ⊥
+ReadsAll (save task) status = ⊥
 ReadsAll (disassemble task) status = ⊥
 ReadsAll (load task) status = ⊥

@@ -12,7 +12,7 @@ use Rattle.asm_emit.specs.Assembled.{image_of_source}
 use Rattle.shell_script.specs.Shell.{lines_in}
 use Rattle.pump_shell.specs.Told.{told_of}
 use Rattle.pump_shell.specs.declared.ends.SessionEnd.TheVariants.{InputEnd}
-use Rattle.pump_line.specs.Task.{ShellTask, Task, assemble, disassemble, load, run, shell}
+use Rattle.pump_line.specs.Task.{ShellTask, Task, disassemble, load, run, save, shell}
 use Rattle.pump_cli.specs.Codes.{IsBeforeInput, ReadsAll, status_of_cut}
 use Rattle.pump_cli.specs.Endings.{Outcome}
 use Rattle.pump_cli.specs.Program.{is_over_at_start, setup_of}
@@ -63,7 +63,7 @@ IsLongInput bytes = input_limit < length bytes
 abbrev pub IsTooLong : Task → List ℕ → Option (List ℕ) → Type 0
 IsTooLong (run task) bytes left = IfSome left (λ input. IsLongFile bytes ⊎ IsLongInput input)
 IsTooLong (shell task) bytes left = IfSome left (λ input. IsLongFile bytes ⊎ IsLongInput input)
-IsTooLong (assemble task) bytes left = IsLongFile bytes
+IsTooLong (save task) bytes left = IsLongFile bytes
 IsTooLong (disassemble task) bytes left = IsLongFile bytes
 IsTooLong (load task) bytes left = IsLongFile bytes
 
@@ -95,7 +95,7 @@ ExecutedIn task (Err refusal) status before after = Unit {0}
 abbrev pub SessionFacts : {I : Type 0} → Task → Status → Environment I → Environment I → Type 0
 SessionFacts (run task) status before after = Unit {0}
 SessionFacts (shell task) status before after = IfSome (before.held task.image) (λ bytes. ExecutedIn task (image_read bytes) status before after)
-SessionFacts (assemble task) status before after = Unit {0}
+SessionFacts (save task) status before after = Unit {0}
 SessionFacts (disassemble task) status before after = Unit {0}
 SessionFacts (load task) status before after = Unit {0}
 
@@ -105,7 +105,7 @@ pub record FileFacts {I : Type 0} (task : Task) (status : Status) (before after 
   pub bad_image : status ≡ BadImage → IfSome (content_of task before.held) (λ bytes. IsErr (image_of bytes))
   pub bad_source : status ≡ BadSource → IfSome (content_of task before.held) (λ bytes. IsErr (image_of_source bytes))
   pub too_long : status ≡ TooLong → IfSome (content_of task before.held) (λ bytes. IsTooLong task bytes before.left)
-  -- the input is left alone where the file fails or is refused, where a session can't start, and by `asm`, `dis` and `load`; a run
+  -- the input is left alone where the file fails or is refused, where a session can't start, and by `asm`, `migrate`, `dis` and `load`; a run
   -- that came to its end has read it to its end, and at most 4,096 bytes past its limit are taken
   pub unread : IsBeforeInput task status → after.input ≡ before.input
   pub unasked : IfSome (content_of task before.held) (λ bytes. IsErr (content_read task bytes) → after.input ≡ before.input)

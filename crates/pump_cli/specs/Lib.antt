@@ -5,6 +5,7 @@ pub mod Early
 pub mod Endings
 pub mod Facts
 pub mod ListedBack
+pub mod Migrated
 pub mod Environments
 pub mod Program
 pub mod Reading

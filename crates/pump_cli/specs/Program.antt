@@ -20,7 +20,7 @@ use Rattle.pump_shell.specs.declared.ends.SessionEnd.{SessionEnd}
 use Rattle.pump_shell.specs.declared.ends.SessionEnd.TheVariants as session_end
 use Rattle.pump_shell.specs.declared.setup.Setup.{Setup}
 use Rattle.image_listing.specs.Listing.{listing}
-use Rattle.pump_line.specs.Task.{LoadTask, RunTask, ShellTask, Task, assemble, disassemble, load, run, shell, task_of}
+use Rattle.pump_line.specs.Task.{LoadTask, RunTask, ShellTask, Task, disassemble, load, run, save, shell, task_of}
 use Rattle.pump_cli.specs.Endings.{Outcome, out_at_start, outcome_of_course, status_of}
 use Rattle.pump_cli.specs.Codes.{code_of, status_of_refusal}
 use Rattle.pump_cli.specs.Reading.{content_of, content_read, input_limit, input_read}
@@ -111,7 +111,7 @@ abbrev pub outcome_of_session : ShellTask → Picture → Option (List ℕ) → 
 outcome_of_session task picture None = if is_over_at_start task picture then Some outcome_of_no_start else None
 outcome_of_session task picture (Some input) = Some (outcome_of_lines task picture input)
 
--- ---- `asm` and `dis`
+-- ---- `asm`, `migrate` and `dis`
 
 -- the file of the image is saved, and nothing is told
 abbrev pub outcome_of_saving : Outcome
@@ -156,7 +156,7 @@ outcome_of_load task picture = outcome_of_work task.count (course_of_run (run_of
 abbrev pub outcome_of_picture : Task → Picture → Option (List ℕ) → Option Outcome
 outcome_of_picture (run task) picture input = outcome_of_input task picture input
 outcome_of_picture (shell task) picture input = outcome_of_session task picture input
-outcome_of_picture (assemble task) picture input = Some outcome_of_saving
+outcome_of_picture (save task) picture input = Some outcome_of_saving
 outcome_of_picture (disassemble task) picture input = Some (outcome_of_listing picture)
 outcome_of_picture (load task) picture input = Some (outcome_of_load task picture)
 

@@ -1,12 +1,16 @@
 -- What is read: the file of an image or of a source, and the whole input, each within its limit.
 use Rattle.std.specs.Prelude.{ℕ, nat_le, List, length, Option, Some, Result, Ok, Err, if◌then◌else◌}
 use Rattle.image_format.specs.Picture.{Picture}
+use Rattle.image_format.specs.Migrated.{migrated}
 use Rattle.image_format.specs.Reading.{image_of}
 use Rattle.image_format.specs.declared.errors.ImageError.{ImageError}
 use Rattle.asm_read.specs.declared.errors.AsmError.{AsmError}
 use Rattle.asm_emit.specs.Assembled.{image_of_source}
 use Rattle.workload.specs.Source.{source_of_workload}
-use Rattle.pump_line.specs.Task.{Task, assemble, disassemble, load, run, shell}
+use Rattle.pump_line.specs.Task.{Task, disassemble, load, run, save, shell}
+use Rattle.shared_terms.specs.Steps.{result_view}
+use Rattle.pump_line.specs.declared.task.Making.{Making}
+use Rattle.pump_line.specs.declared.task.Making.TheVariants.{Assemble, Migrate}
 use Rattle.pump_cli.specs.declared.refusal.Refusal.{Refusal}
 use Rattle.pump_cli.specs.declared.refusal.Refusal.TheVariants as refusal
 
@@ -45,19 +49,28 @@ image_read bytes = file_as (λ file. image_or_refusal (image_of file)) (within_l
 unfoldable pub source_read : List ℕ → Result Picture Refusal
 source_read bytes = file_as (λ file. source_or_refusal (image_of_source file)) (within_limit file_limit bytes)
 
+-- the image of version 2 that the image of a file which holds these bytes becomes, or why there is none
+abbrev pub migrated_read : List ℕ → Result Picture Refusal
+migrated_read bytes = result_view migrated (image_read bytes)
+
+-- the image that is made of these bytes: a source is assembled, and an image becomes one of version 2
+abbrev pub made_read : Making → List ℕ → Result Picture Refusal
+made_read Assemble bytes = source_read bytes
+made_read Migrate bytes = migrated_read bytes
+
 -- the bytes that a task's image is made from, where they are told: those of its file, or the source of a workload
 abbrev pub content_of : Task → (List ℕ → Option (List ℕ)) → Option (List ℕ)
 content_of (run task) held = held task.image
 content_of (shell task) held = held task.image
-content_of (assemble task) held = held task.source
+content_of (save task) held = held task.source
 content_of (disassemble task) held = held task.image
 content_of (load task) held = Some (source_of_workload task.count)
 
--- the image that is made from them, which of `asm` and of `load` are a source
+-- the image that is made from them
 abbrev pub content_read : Task → List ℕ → Result Picture Refusal
 content_read (run task) bytes = image_read bytes
 content_read (shell task) bytes = image_read bytes
-content_read (assemble task) bytes = source_read bytes
+content_read (save task) bytes = made_read task.making bytes
 content_read (disassemble task) bytes = image_read bytes
 content_read (load task) bytes = source_read bytes
 

@@ -12,7 +12,7 @@ use Rattle.shell_run.specs.Session.{fresh}
 use Rattle.shell_script.specs.Scripts.{items_along}
 use Rattle.shell_script.specs.Shell.{lines_within}
 use Rattle.pump_shell.specs.Told.{start_of_setup}
-use Rattle.pump_line.specs.Task.{RunTask, ShellTask, Task, assemble, disassemble, load, run, shell, task_of}
+use Rattle.pump_line.specs.Task.{RunTask, ShellTask, Task, disassemble, load, run, save, shell, task_of}
 use Rattle.pump_cli.specs.Endings.{has_any, is_out}
 use Rattle.pump_cli.specs.Program.{basis_of, course_of_run, run_of_load, setup_of}
 use Rattle.pump_cli.specs.Reading.{content_of, content_read, input_limit, input_read}
@@ -71,7 +71,7 @@ module _ (Ran : RunTask → Picture → List ℕ → Type 0) (Executed : ShellTa
   abbrev pub AfterPicture : Task → Picture → Option (List ℕ) → Type 0
   AfterPicture (run task) picture input = AfterInput task picture input
   AfterPicture (shell task) picture input = AfterLines task picture input
-  AfterPicture (assemble task) picture input = Unit {0}
+  AfterPicture (save task) picture input = Unit {0}
   AfterPicture (disassemble task) picture input = Unit {0}
   AfterPicture (load task) picture input = Ran (run_of_load task) picture []
 

@@ -3,7 +3,6 @@
 //! counts.
 #![tactic(auto)]
 
-mod asm;
 mod basis;
 mod cut;
 mod dis;
@@ -13,6 +12,7 @@ mod program;
 mod reading;
 mod refusal;
 mod run;
+mod save;
 mod shell;
 mod status;
 mod texts;

@@ -4,11 +4,12 @@ ghost use Rattle.std.specs.Prelude.{◌≡◌, ℕ, List, Option, Some, Ok};
 ghost use Rattle.host_io.specs.Bytes.{AreBytes, TellBytes};
 ghost use Rattle.image_format.specs.Picture.{Picture};
 ghost use Rattle.workload_laws.specs.Images.{image_of_workload};
-ghost use Rattle.pump_line.specs.Request.{DisassembleTask};
-ghost use Rattle.pump_line.specs.Task.{AllowsRules, AllowsTags, LoadTask, disassemble, load, task_of};
+ghost use Rattle.pump_line.specs.Request.{DisassembleTask, SaveTask};
+ghost use Rattle.pump_line.specs.Task.{AllowsRules, AllowsTags, LoadTask, disassemble, load, save, task_of};
 ghost use Rattle.pump_line.specs.Told.{texts_of, task_value};
 ghost use Rattle.pump_cli.specs.Facts.{status_in};
 ghost use Rattle.pump_cli.specs.ListedBack.{ListsBack};
+ghost use Rattle.pump_cli.specs.Migrated.{SavesMigrated};
 ghost use Rattle.pump_cli.specs.Environments.{environment};
 ghost use Rattle.pump_cli.specs.Program.{outcome_of_load, program};
 ghost use Rattle.pump_cli.specs.Reading.{image_read};
@@ -16,19 +17,19 @@ ghost use Rattle.pump_cli.specs.Runs.{EachRun, IsOut, IsSafeRun, IsSpent, TheRun
 ghost use Rattle.pump_cli.specs.Sessions.{TellsRuns, TheSession};
 ghost use Rattle.pump_cli.specs.Theorem.{Headline, HeadlineOf};
 
-use crate::asm::assemble_task;
 use crate::cut::Cut;
 use crate::dis::disassemble_task;
 use crate::load::load_task;
 use crate::refusal::{Refusal, refuse};
 use crate::run::run_task;
+use crate::save::save_task;
 use crate::shell::shell_task;
 use crate::status::Status;
 use host_io::{Files, Sink, Source};
-use pump_line::{Task, WordsEnd, read_task};
+use pump_line::{Making, Task, WordsEnd, read_task};
 use std::alloc::Global;
 
-/// Carries out a task: a case for each subcommand.
+/// Carries out a task.
 fn do_task<F: Files, S: Source, K: Sink, L: Sink>(
     alloc: Global,
     task: Task<'_>,
@@ -48,7 +49,7 @@ fn do_task<F: Files, S: Source, K: Sink, L: Sink>(
     match task {
         Task::Run(task) => run_task(alloc, task, files, input, out, err),
         Task::Shell(task) => shell_task(alloc, task, files, input, out, err),
-        Task::Assemble(task) => assemble_task(alloc, task, files, input, out, err),
+        Task::Save(task) => save_task(alloc, task, files, input, out, err),
         Task::Disassemble(task) => disassemble_task(alloc, task, files, input, out, err),
         Task::Load(task) => load_task(alloc, task, files, input, out, err),
     }
@@ -80,8 +81,8 @@ fn run_words<F: Files, S: Source, K: Sink, L: Sink>(
 
 /// The program: what the words ask for, with the files, the input and the two sinks, and the status that the process ends
 /// with. The first word is the program's name. The input is read only once the image is taken: by `run` as a whole before its
-/// first turn, by `shell` line by line; `asm`, `dis` and `load` leave it alone. The one file that is changed is that which `asm`
-/// saves: it holds the one spelling of the image that the source is assembled to, and a source that is refused saves nothing.
+/// first turn, by `shell` line by line; `asm`, `migrate`, `dis` and `load` leave it alone. The one file that is changed is that which
+/// `asm` or `migrate` saves: it holds the one spelling of the image that is made, and a file that is refused saves nothing.
 ///
 /// Without a fault or running out of memory the bytes and the status are those of the machine that asks the chosen policies at
 /// every turn of every hart, however many rules are kept: on the whole input, or at the commands of its lines. Where some rules
@@ -98,6 +99,10 @@ fn run_words<F: Files, S: Source, K: Sink, L: Sink>(
 ///
 /// What `dis` lists assembles back (`lists`): where the file holds an image, whatever bytes it has, a line is due for each of the
 /// image's words, with its address, the word, and a text that the assembler reads as a statement which emits just that word there.
+///
+/// What `migrate` saves of an image is an image of version 2 (`migrates`) that starts as the first does under each choice of
+/// policies, but that 128 compartments may come to be, and that has the same events along every list of turns in which the first
+/// has no split that is spent.
 ///
 /// In such a run, and in each run that a session makes, the sentence of each chosen policy holds, whatever bytes the files hold and
 /// the input gives (`safe`), and so at those that these files and this input tell of (`safe_here`): every unsealing used its key,
@@ -140,6 +145,10 @@ pub fn pump<F: Files, S: Source, K: Sink, L: Sink>(
         → task_of (texts_of words.now.items) ≡ Some (disassemble task)
         → held task.image ≡ Some bytes → image_read bytes ≡ Ok picture
         → ListsBack picture (program (texts_of words.now.items) held left) }
+    ensures migrates { (task : SaveTask) (picture : Picture) (bytes : List ℕ)
+        → task_of (texts_of words.now.items) ≡ Some (save task) → task.making ≡ Making.Migrate
+        → F.held files.old task.source ≡ Some bytes → image_read bytes ≡ Ok picture
+        → SavesMigrated task bytes picture }
 {
     match run_words(alloc, words, files, input, out, err) {
         Ok(status) => status,

@@ -226,20 +226,3 @@ module _ {S T : Type 0} (eq : T → T → Bool) (m : PolicyModel T S) (p q f : P
   pub unruled_by : (answered : Result (Outs ℕ) AskEnd) → Settles eq m q h look f answered → IfErr answered (Unruled eq m p h look f)
   unruled_by (Ok outs) settles = tt
   unruled_by (Err end) settles = unsettled_unruled end settles
-
--- a question that needed no sweep
-module _ {S T : Type 0} (eq : T → T → Bool) (m : PolicyModel T S) (p q : PumpState S T) (h : ℕ) (look : Look) where
-  pub unanswered_unruled : (end : AskEnd) → (end ≡ ask_end.TagsOut → ⊥) → Unanswered eq m p h look q end → Unruled eq m p h look q end
-  unanswered_unruled end answered given = record {
-    account = left end answered given.account;
-    machine = given.machine;
-    within = given.within;
-    refused = given.refused;
-    over = given.over;
-    allowed = given.allowed;
-  }
-    where
-      left : (e : AskEnd) → (e ≡ ask_end.TagsOut → ⊥) → account_by_words m q ≡ looked_in eq m p h look → LeavesAccount eq m p h look e (account_by_words m q)
-      left (ask_end.Stopped refusal) other is = is
-      left ask_end.TagsOut other is = absurd (other refl)
-      left ask_end.Memory other is = inl is

@@ -1,8 +1,5 @@
 -- Steps of an engine that keeps rules, by where the turn ended.
 use Rattle.std.proofs.Common.{◌≡◌, ℕ, ◌+◌, ◌==◌, ◌<◌, ◌≤◌, Bool, true, false, nat_lt, List, [], ◌∷◌, ◌++◌, length, take, Option, Some, None, Result, Ok, Err, refl, ap, sym, ◌∙◌, if◌then◌else◌, arith}
-use Rattle.std.specs.List.{list_any}
-use Rattle.std.proofs.lemmas.Bool.{false≢true, lt-ltb, ltb-true}
-use Rattle.std.proofs.lemmas.List.{length-append}
 use Rattle.policy_trait.specs.Model.{PolicyModel}
 use Rattle.shared_terms.specs.Steps.{◌>>=◌}
 use Rattle.policy_trait.specs.declared.rules.Outs.{Outs}
@@ -21,52 +18,25 @@ use Rattle.engine_trait.specs.declared.ends.Halt.TheVariants as halt
 use Rattle.engine_trait.specs.declared.ends.TurnEnd.TheVariants as ends
 use Rattle.engine_trait.proofs.StepLemmas.{ready_parts, step_made, step_out}
 use Rattle.engine_trait.proofs.TurnLemmas.{job_ruled, rule_looked, turn_checked, turn_refused, turn_ruled}
+use Rattle.engine_trait.proofs.UnsweptLemmas.{false_before, over_longer, with_tags_longer}
 
--- ---- tags that are seen only grow in number
+-- ---- the tags of a step, and the first of them alone
 
 module _ {T : Type 0} (eq : T → T → Bool) where
-  with_tag_longer : (seen : List T) (tag : T) (found : Bool) → length seen ≤ length (if found then seen else seen ++ tag ∷ [])
-  with_tag_longer seen tag true = omega arith
-  with_tag_longer seen tag false = let n : length (seen ++ tag ∷ []) ≡ length seen + 1 = length-append seen (tag ∷ []) in omega (arith, n)
-
-  with_tags_longer : (tags seen : List T) → length seen ≤ length (with_tags eq seen tags)
-  with_tags_longer [] seen = omega arith
-  with_tags_longer (tag ∷ tags) seen =
-      let first : length seen ≤ length (with_tag eq seen tag) = with_tag_longer seen tag (list_any (eq tag) seen) in
-      let rest : length (with_tag eq seen tag) ≤ length (with_tags eq (with_tag eq seen tag) tags) = with_tags_longer tags (with_tag eq seen tag) in
-      omega (arith, first, rest)
-
-  over_longer : (limit n more : ℕ) → n ≤ more → nat_lt limit n ≡ true → nat_lt limit more ≡ true
-  over_longer limit n more longer over = lt-ltb limit more (let below : limit < n = ltb-true limit n over in omega (arith, below, longer))
-
-  seeing_over_by : (uncached : Bool) (tags : List T) (a : Account T) → is_over a ≡ true
-      → is_over (if uncached then a else record a { table = with_tags eq a.table tags }) ≡ true
-  seeing_over_by true tags a over = over
-  seeing_over_by false tags a over =
-      over_longer a.limit (length a.table) (length (with_tags eq a.table tags)) (with_tags_longer tags a.table) over
-
   first_over_by : (uncached : Bool) (tags : List T) (a : Account T)
       → is_over (if uncached then a else record a { table = with_tags eq a.table (take 1 tags) }) ≡ true
       → is_over (if uncached then a else record a { table = with_tags eq a.table tags }) ≡ true
   first_over_by true tags a over = over
   first_over_by false [] a over = over
   first_over_by false (tag ∷ tags) a over =
-      over_longer a.limit (length (with_tag eq a.table tag)) (length (with_tags eq (with_tag eq a.table tag) tags)) (with_tags_longer tags (with_tag eq a.table tag)) over
+      over_longer a.limit (length (with_tag eq a.table tag)) (length (with_tags eq (with_tag eq a.table tag) tags)) (with_tags_longer eq tags (with_tag eq a.table tag)) over
 
   -- where the first of some tags is too many, all are, and where all have words, the first has
   first_over : (tags : List T) (a : Account T) → is_over (seeing eq (take 1 tags) a) ≡ true → is_over (seeing eq tags a) ≡ true
   first_over tags a = first_over_by (a.ways == 0) tags a
 
   pub first_within : (tags : List T) (a : Account T) → is_over (seeing eq tags a) ≡ false → is_over (seeing eq (take 1 tags) a) ≡ false
-  first_within tags a within = by (is_over (seeing eq (take 1 tags) a)) refl
-    where
-      by : (over : Bool) → is_over (seeing eq (take 1 tags) a) ≡ over → is_over (seeing eq (take 1 tags) a) ≡ false
-      by true over = absurd (false≢true (sym within ∙ first_over tags a over))
-      by false is = is
-
-  -- what has too many has too many after more tags
-  seeing_over : (tags : List T) (a : Account T) → is_over a ≡ true → is_over (seeing eq tags a) ≡ true
-  seeing_over tags a = seeing_over_by (a.ways == 0) tags a
+  first_within tags a = false_before (is_over (seeing eq (take 1 tags) a)) (is_over (seeing eq tags a)) (first_over tags a)
 
 -- a step that gives no tag a word needs no sweep
 pub room_idle : {T : Type 0} (eq : T → T → Bool) (standing : List T) (a : Account T) → is_over a ≡ false → with_room eq standing (λ account. account) a ≡ a

@@ -8,8 +8,8 @@ use Rattle.clap.specs.Simple.{argument_words, built_leaf, entered, inherited, la
 use Rattle.clap.specs.Takes.{is_given}
 use Rattle.clap.specs.Walk.{Held, Names, answers_to, finished, nothing_held, rows_after, settled, walk, walk_from}
 use Rattle.clap.specs.Words.{App, Kinds, Shape, Text, built, fault_of, subcommand_of}
-use Rattle.pump_line.specs.Line.{HasMatch, asm_shape, dis_shape, faults_of, load_shape, match_of, pump_app, run_shape, shell_shape}
-use Rattle.pump_line.specs.Request.{assemble_in, disassemble_in, load_in, request_at, request_by, run_in, shell_in}
+use Rattle.pump_line.specs.Line.{HasMatch, asm_shape, dis_shape, faults_of, load_shape, match_of, migrate_shape, pump_app, run_shape, shell_shape}
+use Rattle.pump_line.specs.Request.{disassemble_in, load_in, request_at, request_by, run_in, save_in, shell_in}
 use Rattle.pump_line.proofs.GivenLemmas.{given_has_value}
 
 or_nil : (a b : Kinds) → or_else a b ≡ [] → (a ≡ []) × (b ≡ [])
@@ -91,6 +91,10 @@ unfoldable built_asm : Shape
 unfolding pump_app asm_shape
 built_asm = built_leaf (inherited (with_leaf_noted (marked_built pump_app.top)) asm_shape)
 
+unfoldable built_migrate : Shape
+unfolding pump_app migrate_shape
+built_migrate = built_leaf (inherited (with_leaf_noted (marked_built pump_app.top)) migrate_shape)
+
 unfoldable built_dis : Shape
 unfolding pump_app dis_shape
 built_dis = built_leaf (inherited (with_leaf_noted (marked_built pump_app.top)) dis_shape)
@@ -136,7 +140,7 @@ shell_asks words fine =
     some_mapped _ _ (some_mapped _ _ (given_has_value (codes "image") built_shell.rules [] words refl given))
 
 asm_asks : Asks built_asm
-unfolding built_asm pump_app asm_shape request_by assemble_in
+unfolding built_asm pump_app asm_shape request_by save_in
 asm_asks words fine =
     let source_given = is_given (codes "source") (rows_after built_asm.rules [] words) in
     let image_given = is_given (codes "image") (rows_after built_asm.rules [] words) in
@@ -145,6 +149,17 @@ asm_asks words fine =
     let has_image = given_if image_given false (rest_if source_given (not image_given || false) needs) in
     some_mapped _ _ (some_both _ _ _ (given_has_value (codes "source") built_asm.rules [] words refl has_source)
     (given_has_value (codes "image") built_asm.rules [] words refl has_image))
+
+migrate_asks : Asks built_migrate
+unfolding built_migrate pump_app migrate_shape request_by save_in
+migrate_asks words fine =
+    let image_given = is_given (codes "image") (rows_after built_migrate.rules [] words) in
+    let out_given = is_given (codes "out") (rows_after built_migrate.rules [] words) in
+    let needs = level_needs built_migrate words fine in
+    let has_image = given_if image_given (not out_given || false) needs in
+    let has_out = given_if out_given false (rest_if image_given (not out_given || false) needs) in
+    some_mapped _ _ (some_both _ _ _ (given_has_value (codes "image") built_migrate.rules [] words refl has_image)
+    (given_has_value (codes "out") built_migrate.rules [] words refl has_out))
 
 dis_asks : Asks built_dis
 unfolding built_dis pump_app dis_shape request_by disassemble_in
@@ -159,11 +174,11 @@ load_asks words fine =
     some_mapped _ _ (some_mapped _ _ (given_has_value (codes "count") built_load.rules [] words refl given))
 
 all_ask : AllAsk (built pump_app).subs
-unfolding built_run built_shell built_asm built_dis built_load pump_app run_shape shell_shape asm_shape dis_shape load_shape
-all_ask = (run_asks, (shell_asks, (asm_asks, (dis_asks, (load_asks, tt)))))
+unfolding built_run built_shell built_asm built_migrate built_dis built_load pump_app run_shape shell_shape asm_shape migrate_shape dis_shape load_shape
+all_ask = (run_asks, (shell_asks, (asm_asks, (migrate_asks, (dis_asks, (load_asks, tt))))))
 
 needs_subcommand : (built pump_app).top.subcommand_required ≡ true
-unfolding pump_app run_shape shell_shape asm_shape dis_shape load_shape
+unfolding pump_app run_shape shell_shape asm_shape migrate_shape dis_shape load_shape
 needs_subcommand = refl
 
 -- words with a match ask for something

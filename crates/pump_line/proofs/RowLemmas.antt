@@ -8,13 +8,14 @@ use Rattle.clap.specs.declared.error.kind.ErrorKind.TheVariants.{ArgumentConflic
 use Rattle.cache_size.specs.Sizes.{one_set}
 use Rattle.policy_choice.specs.Choice.{no_policy}
 use Rattle.policy_choice.specs.declared.choice.Choice.{Choice}
-use Rattle.pump_line.specs.Line.{asm_shape, dis_shape, faults_of, load_shape, match_of, pump_app, run_shape, shell_shape}
-use Rattle.pump_line.specs.Request.{assemble_in, disassemble_in, load_in, request_by, request_of, run_in, shell_in}
-use Rattle.pump_line.specs.Task.{Task, assemble, disassemble, load, load_task_in, run, run_task_in, shell, shell_task_in, task_of}
+use Rattle.pump_line.specs.Line.{asm_shape, dis_shape, faults_of, load_shape, match_of, migrate_shape, pump_app, run_shape, shell_shape}
+use Rattle.pump_line.specs.Request.{disassemble_in, load_in, request_by, request_of, run_in, save_in, shell_in}
+use Rattle.pump_line.specs.Task.{Task, disassemble, load, load_task_in, run, run_task_in, save, shell, shell_task_in, task_of}
+use Rattle.pump_line.specs.declared.task.Making.TheVariants.{Assemble, Migrate}
 
 -- what computes on words that are written out
 unfoldable on_rows : ⊤
-unfolding clap_on_literals faults_of match_of pump_app run_shape shell_shape asm_shape dis_shape load_shape request_by request_of run_in shell_in assemble_in disassemble_in load_in run_task_in shell_task_in load_task_in task_of
+unfolding clap_on_literals faults_of match_of pump_app run_shape shell_shape asm_shape migrate_shape dis_shape load_shape request_by request_of run_in shell_in save_in disassemble_in load_in run_task_in shell_task_in load_task_in task_of
 on_rows = tt
 
 -- the words of a line, with one space between each two; where two spaces stand together, or one at the end, a word is empty
@@ -52,7 +53,11 @@ shell_of image choice cache tags = shell (record { image = image; choice = choic
 
 -- an assembly of a source into an image
 abbrev asm_of : Text → Text → Task
-asm_of source image = assemble (record { source = source; image = image })
+asm_of source image = save (record { making = Assemble; source = source; image = image })
+
+-- an image that becomes one of version 2, saved under another name
+abbrev migrate_of : Text → Text → Task
+migrate_of image out = save (record { making = Migrate; source = image; image = out })
 
 -- a listing of an image
 abbrev dis_of : Text → Task
@@ -129,6 +134,17 @@ assemblies : Ask (
 unfolding on_rows
 assemblies = refl
 
+-- ---- lines that ask for a migration
+
+migrations : Ask (
+    (codes "pump migrate a.img b.img", migrate_of (codes "a.img") (codes "b.img")) ∷  -- the image and the name of the new one
+    (codes "pump migrate a a", migrate_of (codes "a") (codes "a")) ∷  -- one name for both
+    (codes "pump migrate -- --out -5", migrate_of (codes "--out") (codes "-5")) ∷  -- no option after two dashes
+    (codes "pump migrate  ", migrate_of [] []) ∷  -- empty names
+    [])
+unfolding on_rows
+migrations = refl
+
 -- ---- lines that ask for a listing
 
 listings : Ask (
@@ -173,6 +189,8 @@ without_operand : Name (MissingRequiredArgument ∷ []) (
     codes "pump asm" ∷  -- an assembly of nothing
     codes "pump asm a.s" ∷  -- an assembly without the image
     codes "pump asm a.s --" ∷  -- two dashes are no name
+    codes "pump migrate" ∷  -- a migration of nothing
+    codes "pump migrate a.img" ∷  -- a migration that isn't saved
     codes "pump dis" ∷  -- a listing of nothing
     codes "pump load" ∷  -- a workload of no count
     [])
@@ -216,6 +234,9 @@ unknown_arguments : Name (UnknownArgument ∷ []) (
     codes "pump asm a.s --turns=5 a.img" ∷  -- and for turns, between them
     codes "pump asm --source a.s --image a.img" ∷  -- the operands are no options
     codes "pump asm a.s a.img --help" ∷  -- a request for the help of `asm`
+    codes "pump migrate a.img b.img c.img" ∷  -- a migration of three names
+    codes "pump migrate a.img b.img --policy seal" ∷  -- a migration starts no image
+    codes "pump migrate a.img --out b.img" ∷  -- the operands are no options
     codes "pump dis a.img b.img" ∷  -- a listing of two images
     codes "pump dis a.img --policy seal" ∷  -- a listing starts no image: it has no policy
     codes "pump dis a.img --cache 5" ∷  -- the same for kept rules
@@ -237,6 +258,7 @@ unknown_subcommands : Name (UnknownArgument ∷ InvalidSubcommand ∷ []) (
     codes "pump a.img" ∷  -- an image without a subcommand
     codes "pump Run a.img" ∷  -- a subcommand in upper case
     codes "pump assemble a.s a.img" ∷  -- a longer name of the subcommand
+    codes "pump migrated a.img b.img" ∷  -- and of another
     codes "pump disassemble a.img" ∷  -- and of another
     [])
 unfolding on_rows

@@ -41,6 +41,10 @@ shell_shape = subcommand_shape (codes "shell") image_operand start_options
 unfoldable pub asm_shape : Shape
 asm_shape = subcommand_shape (codes "asm") (codes "source" ∷ codes "image" ∷ []) []
 
+-- `migrate IMAGE OUT`
+unfoldable pub migrate_shape : Shape
+migrate_shape = subcommand_shape (codes "migrate") (codes "image" ∷ codes "out" ∷ []) []
+
 -- `dis IMAGE`
 unfoldable pub dis_shape : Shape
 dis_shape = subcommand_shape (codes "dis") image_operand []
@@ -58,7 +62,7 @@ pump_app = record {
     disable_help_subcommand = true;
     subcommand_required = true;
   };
-  subs = run_shape ∷ shell_shape ∷ asm_shape ∷ dis_shape ∷ load_shape ∷ [];
+  subs = run_shape ∷ shell_shape ∷ asm_shape ∷ migrate_shape ∷ dis_shape ∷ load_shape ∷ [];
 }
 
 -- the faults that `clap` may name for the words

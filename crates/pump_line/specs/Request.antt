@@ -3,6 +3,8 @@ use Rattle.std.specs.Prelude.{List, [], ◌∷◌, codes, Option, None, if◌the
 use Rattle.std.specs.Str.{bytes_eq}
 use Rattle.clap.specs.Words.{Kinds, Row, Text, first_of}
 use Rattle.pump_line.specs.Line.{faults_of, match_of}
+use Rattle.pump_line.specs.declared.task.Making.{Making}
+use Rattle.pump_line.specs.declared.task.Making.TheVariants.{Assemble, Migrate}
 
 -- a `run`: its image, and the values of the options that stand on the line
 pub record RunRequest : Type 0 where
@@ -19,8 +21,10 @@ pub record ShellRequest : Type 0 where
   pub cache : Option Text
   pub tags : Option Text
 
--- an `asm`: the names of the source and of the image that is made of it; no value is left to read, so this is the task itself
-pub record AssembleTask : Type 0 where
+-- an `asm` or a `migrate`: how an image is made, the name of the file that it is made from, and the name that its own file gets; no
+-- value is left to read, so this is the task itself
+pub record SaveTask : Type 0 where
+  pub making : Making
   pub source : Text
   pub image : Text
 
@@ -38,7 +42,7 @@ pub record LoadRequest : Type 0 where
 pub data Request : Type 0 where
   run_asked : RunRequest → Request
   shell_asked : ShellRequest → Request
-  assemble_asked : AssembleTask → Request
+  save_asked : SaveTask → Request
   disassemble_asked : DisassembleTask → Request
   load_asked : LoadRequest → Request
 
@@ -60,11 +64,13 @@ shell_in rows = option_map (λ image. record {
   tags = first_of (codes "tags") rows;
 }) (first_of (codes "image") rows)
 
-unfoldable pub assemble_in : List Row → Option AssembleTask
-assemble_in rows = option_and_then (λ source. option_map (λ image. record {
-  source = source;
-  image = image;
-}) (first_of (codes "image") rows)) (first_of (codes "source") rows)
+-- an image that is made so, by the operands that name its source and its file
+unfoldable pub save_in : Making → Text → Text → List Row → Option SaveTask
+save_in making source image rows = option_and_then (λ from. option_map (λ to. record {
+  making = making;
+  source = from;
+  image = to;
+}) (first_of image rows)) (first_of source rows)
 
 unfoldable pub disassemble_in : List Row → Option DisassembleTask
 disassemble_in rows = option_map (λ image. record { image = image }) (first_of (codes "image") rows)
@@ -81,9 +87,10 @@ unfoldable pub request_by : Text → List Row → Option Request
 request_by name rows =
     if bytes_eq name (codes "run") then option_map run_asked (run_in rows)
     else (if bytes_eq name (codes "shell") then option_map shell_asked (shell_in rows)
-    else (if bytes_eq name (codes "asm") then option_map assemble_asked (assemble_in rows)
+    else (if bytes_eq name (codes "asm") then option_map save_asked (save_in Assemble (codes "source") (codes "image") rows)
+    else (if bytes_eq name (codes "migrate") then option_map save_asked (save_in Migrate (codes "image") (codes "out") rows)
     else (if bytes_eq name (codes "dis") then option_map disassemble_asked (disassemble_in rows)
-    else (if bytes_eq name (codes "load") then option_map load_asked (load_in rows) else None))))
+    else (if bytes_eq name (codes "load") then option_map load_asked (load_in rows) else None)))))
 
 -- the request of the subcommand that is named, if one is
 abbrev pub request_at : Option (Text × List Row) → Option Request

@@ -1,15 +1,15 @@
 -- The words as lists of bytes, and a task as the definitions see it.
 use Rattle.std.specs.Prelude.{ℕ, List, map, Option, option_map, String, string_bytes}
 use Rattle.std.specs.Borrow.{Bor}
-use Rattle.pump_line.specs.Request.{AssembleTask, DisassembleTask}
-use Rattle.pump_line.specs.Task.{LoadTask, RunTask, ShellTask, Task, assemble, disassemble, load, run, shell}
-use Rattle.pump_line.specs.declared.task.AssembleTask.{AssembleTask as AssembleWords}
+use Rattle.pump_line.specs.Request.{DisassembleTask, SaveTask}
+use Rattle.pump_line.specs.Task.{LoadTask, RunTask, ShellTask, Task, disassemble, load, run, save, shell}
 use Rattle.pump_line.specs.declared.task.DisassembleTask.{DisassembleTask as DisassembleWords}
 use Rattle.pump_line.specs.declared.task.LoadTask.{LoadTask as LoadWords}
 use Rattle.pump_line.specs.declared.task.RunTask.{RunTask as RunWords}
+use Rattle.pump_line.specs.declared.task.SaveTask.{SaveTask as SaveWords}
 use Rattle.pump_line.specs.declared.task.ShellTask.{ShellTask as ShellWords}
 use Rattle.pump_line.specs.declared.task.Task.{Task as TaskWords}
-use Rattle.pump_line.specs.declared.task.Task.TheVariants.{Assemble, Disassemble, Load, Run, Shell}
+use Rattle.pump_line.specs.declared.task.Task.TheVariants.{Disassemble, Load, Run, Save, Shell}
 
 -- each word by the bytes of its text
 abbrev pub texts_of : {A : Type 0} → List (String A) → List (List ℕ)
@@ -32,8 +32,8 @@ run_value task = record {
 abbrev pub shell_value : ShellWords → ShellTask
 shell_value task = record { image = task.image.now; choice = task.choice; cache = task.cache; tags = task.tags }
 
-abbrev pub assemble_value : AssembleWords → AssembleTask
-assemble_value task = record { source = task.source.now; image = task.image.now }
+abbrev pub save_value : SaveWords → SaveTask
+save_value task = record { making = task.making; source = task.source.now; image = task.image.now }
 
 abbrev pub disassemble_value : DisassembleWords → DisassembleTask
 disassemble_value task = record { image = task.image.now }
@@ -44,6 +44,6 @@ load_value task = record { count = task.count; cache = task.cache; tags = task.t
 abbrev pub task_value : TaskWords → Task
 task_value (Run task) = run (run_value task)
 task_value (Shell task) = shell (shell_value task)
-task_value (Assemble task) = assemble (assemble_value task)
+task_value (Save task) = save (save_value task)
 task_value (Disassemble task) = disassemble (disassemble_value task)
 task_value (Load task) = load (load_value task)

@@ -25,7 +25,7 @@ struct Leaf<'a> {
 }
 
 /// The subcommands of `pump`.
-const LEAVES: [Leaf<'static>; 5] = [
+const LEAVES: [Leaf<'static>; 6] = [
     Leaf {
         name: "run",
         arguments: &[
@@ -48,6 +48,10 @@ const LEAVES: [Leaf<'static>; 5] = [
     Leaf {
         name: "asm",
         arguments: &[Argument::Operand("source"), Argument::Operand("image")],
+    },
+    Leaf {
+        name: "migrate",
+        arguments: &[Argument::Operand("image"), Argument::Operand("out")],
     },
     Leaf {
         name: "dis",

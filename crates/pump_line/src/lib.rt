@@ -8,5 +8,5 @@ mod values;
 
 pub use law::match_law;
 pub use task::{
-    AssembleTask, DisassembleTask, LoadTask, RunTask, ShellTask, Task, WordsEnd, read_task,
+    DisassembleTask, LoadTask, Making, RunTask, SaveTask, ShellTask, Task, WordsEnd, read_task,
 };

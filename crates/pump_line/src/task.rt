@@ -2,8 +2,8 @@
 
 ghost use Rattle.std.specs.Prelude.{◌≡◌, ◌≢◌, Some, None, IfOk, IfErr, option_and_then, option_map};
 ghost use Rattle.clap.specs.Words.{first_of, found_of, kind_of, rows_of, subcommand_rows_of};
-ghost use Rattle.pump_line.specs.Request.{assemble_asked, assemble_in, disassemble_asked, disassemble_in, load_asked};
-ghost use Rattle.pump_line.specs.Request.{load_in, request_at, request_by, run_asked, run_in, shell_asked, shell_in};
+ghost use Rattle.pump_line.specs.Request.{disassemble_asked, disassemble_in, load_asked, load_in, request_at};
+ghost use Rattle.pump_line.specs.Request.{request_by, run_asked, run_in, save_asked, save_in, shell_asked, shell_in};
 ghost use Rattle.pump_line.specs.Task.{AllowsRules, AllowsTags, task_in, task_of};
 ghost use Rattle.pump_line.specs.Told.{task_value, text_value, texts_of};
 
@@ -15,15 +15,15 @@ use clap::{ArgMatches, Error};
 use policy_choice::Choice;
 use std::alloc::{AllocError, Global};
 
-/// What the words ask for, a case for each subcommand.
+/// What the words ask for, a case for each subcommand, but that the two which save an image have one.
 #[derive(Clone, Copy)]
 pub enum Task<'a> {
     /// `run`
     Run(RunTask<'a>),
     /// `shell`
     Shell(ShellTask<'a>),
-    /// `asm`
-    Assemble(AssembleTask<'a>),
+    /// `asm` or `migrate`
+    Save(SaveTask<'a>),
     /// `dis`
     Disassemble(DisassembleTask<'a>),
     /// `load`
@@ -58,12 +58,23 @@ pub struct ShellTask<'a> {
     pub tags: u32,
 }
 
-/// An image of a source that the words ask for.
+/// How an image is made that is saved.
+#[derive(Clone, Copy, PartialEq, Eq)]
+pub enum Making {
+    /// A source is assembled.
+    Assemble,
+    /// An image of either version becomes one of version 2.
+    Migrate,
+}
+
+/// An image that the words ask to be made and saved.
 #[derive(Clone, Copy)]
-pub struct AssembleTask<'a> {
-    /// The name of the source's file; it may be empty.
+pub struct SaveTask<'a> {
+    /// How it is made.
+    pub making: Making,
+    /// The name of the file that it is made from; it may be empty.
     pub source: &'a str,
-    /// The name of the file that the image goes to; it may be empty.
+    /// The name of the file that it goes to; it may be empty.
     pub image: &'a str,
 }
 
@@ -151,16 +162,25 @@ fn shell_task<'a>(matches: &ArgMatches<'a>) -> Option<Task<'a>>
     }))
 }
 
-/// The assembly that a match of `asm` asks for.
-#[tactic(auto, unfolding(crate::specs::Request::assemble_in))]
-fn assemble_task<'a>(matches: &ArgMatches<'a>) -> Option<Task<'a>>
+/// The image that a match asks to be made so and saved, by the operands that name its source and its file.
+#[tactic(auto, unfolding(crate::specs::Request::save_in))]
+fn save_task<'a>(
+    making: Making,
+    matches: &ArgMatches<'a>,
+    source: &str,
+    image: &str,
+) -> Option<Task<'a>>
     ensures { option_map task_value result
-        ≡ option_and_then task_in
-        (option_map assemble_asked (assemble_in (rows_of (found_of matches.now)))) }
+        ≡ option_and_then task_in (option_map save_asked
+        (save_in making source.now image.now (rows_of (found_of matches.now)))) }
 {
-    let source = text_of(matches, "source")?;
-    let image = text_of(matches, "image")?;
-    Some(Task::Assemble(AssembleTask { source, image }))
+    let source = text_of(matches, source)?;
+    let image = text_of(matches, image)?;
+    Some(Task::Save(SaveTask {
+        making,
+        source,
+        image,
+    }))
 }
 
 /// The listing that a match of `dis` asks for.
@@ -196,7 +216,8 @@ fn task_named<'a>(name: &str, matches: &ArgMatches<'a>) -> Option<Task<'a>>
     match name {
         "run" => run_task(matches),
         "shell" => shell_task(matches),
-        "asm" => assemble_task(matches),
+        "asm" => save_task(Making::Assemble, matches, "source", "image"),
+        "migrate" => save_task(Making::Migrate, matches, "image", "out"),
         "dis" => disassemble_task(matches),
         "load" => load_task(matches),
         _ => None,
@@ -225,12 +246,12 @@ fn end_of(error: &Error) -> WordsEnd
 
 /// What the words ask for, the first being the program's name:
 /// `run IMAGE [--policy LIST] [--cache SIZE] [--tags N] [--turns N]`, `shell IMAGE [--policy LIST] [--cache SIZE] [--tags N]`,
-/// `asm SOURCE IMAGE`, `dis IMAGE` or `load COUNT [--cache SIZE] [--tags N]`, the options in any order before or after the
-/// operand, each at most once; `asm` and `dis` have none. LIST is `none`, or names among `seal`, `comp`, `flow` and `heap` with commas between, none twice; it is `none`
+/// `asm SOURCE IMAGE`, `migrate IMAGE OUT`, `dis IMAGE` or `load COUNT [--cache SIZE] [--tags N]`, the options in any order before or after the
+/// operand, each at most once; `asm`, `migrate` and `dis` have none. LIST is `none`, or names among `seal`, `comp`, `flow` and `heap` with commas between, none twice; it is `none`
 /// where it isn't there. SIZE is N, the rules of one set, 0 to 65,536 (1,024 where it isn't there), or SxW, S sets of W ways each, 1 to 64
 /// and 1 to 65,536, which make 65,536 rules at most. N is 1 to 10 decimal digits, as S and W are, that write 1 to
 /// 1,048,576 for `--tags` (65,536) and 1 to 1,000,000,000 for `--turns` (1,000,000). COUNT is 1 to 10 decimal digits that write
-/// 1 to 1,000. So some tag may have a word in every task that starts an image. SOURCE and IMAGE are names of files, of any
+/// 1 to 1,000. So some tag may have a word in every task that starts an image. SOURCE, IMAGE and OUT are names of files, of any
 /// text: no file is looked at. This is the project's own
 /// command line; `clap` judges its form. Any other words are `Bad`. A line that runs out of memory may end as `Memory`.
 pub fn read_task<'a>(alloc: Global, words: &'a Vec<String>) -> Result<Task<'a>, WordsEnd>

@@ -1,7 +1,7 @@
 -- What is due of a call whose files and input are told: something, and the calls on files by what its content is read as.
 use Rattle.std.proofs.Common.{◌≡◌, ℕ, List, Option, Some, None, Ok, Err, IfSome, IsSome, refl, ap, subst}
 use Rattle.host_io.specs.Environment.{Environment}
-use Rattle.pump_line.specs.Task.{Task, assemble, disassemble, load, run, shell, task_of}
+use Rattle.pump_line.specs.Task.{Task, disassemble, load, run, save, shell, task_of}
 use Rattle.pump_cli.specs.Calls.{CallsMade, calls_of, calls_of_task}
 use Rattle.pump_cli.specs.Program.{outcome_of_image, outcome_of_words, program}
 use Rattle.pump_cli.specs.Reading.{content_of, content_read}
@@ -16,7 +16,7 @@ module _ (held : List ℕ → List ℕ) where
   content_known : (task : Task) → content_of task known ≡ Some (content_in task known)
   content_known (run task) = refl
   content_known (shell task) = refl
-  content_known (assemble task) = refl
+  content_known (save task) = refl
   content_known (disassemble task) = refl
   content_known (load task) = refl
 
@@ -31,8 +31,8 @@ module _ (held : List ℕ → List ℕ) where
         | Ok picture ↦ refl
         | Err refusal ↦ refl
       ]
-  task_due input (assemble task) =
-      elim (content_read (assemble task) (content_in (assemble task) known)) as (λ read. IsSome (outcome_of_image (assemble task) read (Some input))) [
+  task_due input (save task) =
+      elim (content_read (save task) (content_in (save task) known)) as (λ read. IsSome (outcome_of_image (save task) read (Some input))) [
         | Ok picture ↦ refl
         | Err refusal ↦ refl
       ]
@@ -51,7 +51,7 @@ module _ (held : List ℕ → List ℕ) where
   words_due input None = refl
   words_due input (Some (run task)) = task_due input (run task)
   words_due input (Some (shell task)) = task_due input (shell task)
-  words_due input (Some (assemble task)) = task_due input (assemble task)
+  words_due input (Some (save task)) = task_due input (save task)
   words_due input (Some (disassemble task)) = task_due input (disassemble task)
   words_due input (Some (load task)) = task_due input (load task)
 

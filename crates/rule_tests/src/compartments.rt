@@ -25,7 +25,7 @@ const NO_ARGS: PlanEnd = PlanEnd::Refused(Refused {
 
 /// The owner of the pc and whether it has jumped, the owner of the word and the set that it lets in, a group, and whether the
 /// new pc has jumped, where that is allowed.
-const ENTERINGS: &[(u32, bool, u32, u32, Group, Option<bool>)] = &[
+const ENTERINGS: &[(u32, bool, u32, u128, Group, Option<bool>)] = &[
     (2, false, 2, 0, Group::AddImm, Some(false)),
     (2, true, 2, 0, Group::Jal, Some(true)),
     (2, false, 2, 0, Group::Jalr, Some(true)),
@@ -34,11 +34,13 @@ const ENTERINGS: &[(u32, bool, u32, u32, Group, Option<bool>)] = &[
     (2, true, 5, 0b100, Group::Call, Some(false)),
     (2, true, 5, 0b100, Group::Jalr, Some(true)),
     (31, true, 5, 0x8000_0000, Group::Fence, Some(false)),
+    (127, true, 5, 1 << 127, Group::Fence, Some(false)),
     // let in without a jump, a jump without leave, the leave of others, and a number that no set has
     (2, false, 5, 0b100, Group::Call, None),
     (2, true, 5, 0, Group::Call, None),
     (2, true, 5, 0xFFFF_FFFB, Group::Call, None),
     (32, true, 5, 0xFFFF_FFFF, Group::Call, None),
+    (128, true, 5, u128::MAX, Group::Call, None),
 ];
 
 #[test]
@@ -83,22 +85,26 @@ fn rules_of_stores(rt: HostRuntime) {
     }
 }
 
-/// Compartments, a service, base and words, a2, and the refusal.
-const REFUSALS: &[(u32, u32, u32, u32, u32, PlanEnd)] = &[
-    (4, 32, 2, 1, 0, NO_RANGE),
-    (32, 32, 2, 1, 0, NO_RANGE),
-    (32, 32, 0, 1, 0, PlanEnd::Spent),
-    (4, 33, 2, 1, 4, NO_RANGE),
-    (4, 33, 0, 1, 4, NO_ARGS),
-    (4, 34, 2, 1, 4, NO_RANGE),
-    (4, 34, 0, 1, 4, NO_ARGS),
-    (32, 34, 0, 1, 32, NO_ARGS),
+/// How many compartments there are and may be, a service, base and words, a2, and the refusal.
+const REFUSALS: &[(u32, u32, u32, u32, u32, u32, PlanEnd)] = &[
+    (4, 32, 32, 2, 1, 0, NO_RANGE),
+    (32, 32, 32, 2, 1, 0, NO_RANGE),
+    (32, 32, 32, 0, 1, 0, PlanEnd::Spent),
+    (4, 32, 33, 2, 1, 4, NO_RANGE),
+    (4, 32, 33, 0, 1, 4, NO_ARGS),
+    (4, 32, 34, 2, 1, 4, NO_RANGE),
+    (4, 32, 34, 0, 1, 4, NO_ARGS),
+    (32, 32, 34, 0, 1, 32, NO_ARGS),
+    (128, 128, 32, 2, 1, 0, NO_RANGE),
+    (128, 128, 32, 0, 1, 0, PlanEnd::Spent),
+    (32, 128, 33, 0, 1, 32, NO_ARGS),
+    (128, 128, 33, 0, 1, 128, NO_ARGS),
 ];
 
 #[test]
 fn refusals_of_services_in_their_order(rt: HostRuntime) {
-    for &(count, service, base, words, a2, end) in REFUSALS {
-        let policy = Compartments::new(count);
+    for &(count, limit, service, base, words, a2, end) in REFUSALS {
+        let policy = Compartments::new(count, limit);
         assert!(rt; range_of(&policy, service, base, words, a2) == Some(Err(end)));
     }
 }
@@ -124,7 +130,7 @@ const RANGES: &[(u32, u32, bool)] = &[
 
 #[test]
 fn ranges_at_their_ends(rt: HostRuntime) {
-    let policy = Compartments::new(2);
+    let policy = Compartments::new(2, 32);
     for &(base, words, lies) in RANGES {
         let range = Some(Words { base, count: words });
         let expected = if lies { Ok(range) } else { Err(NO_RANGE) };
@@ -155,7 +161,7 @@ fn is_numbered(policy: &mut Compartments, number: u32) -> Result<bool, Fail> {
 
 #[test]
 fn compartments_are_numbered_until_they_are_spent(rt: HostRuntime) -> Result<(), Fail> {
-    let mut policy = Compartments::new(1);
+    let mut policy = Compartments::new(1, 32);
     for number in 1..32 {
         assert!(rt; is_numbered(&mut policy, number)?, "at {number}");
     }
@@ -164,14 +170,29 @@ fn compartments_are_numbered_until_they_are_spent(rt: HostRuntime) -> Result<(),
 }
 
 #[test]
+fn compartments_past_the_32nd(rt: HostRuntime) -> Result<(), Fail> {
+    // the number of the next compartment, where there may be 128
+    for number in [31, 32, 63, 64, 126, 127] {
+        let mut policy = Compartments::new(number, 128);
+        assert!(rt; is_numbered(&mut policy, number)?, "at {number}");
+    }
+    let mut last = Compartments::new(127, 128);
+    assert!(rt; is_numbered(&mut last, 127)?);
+    assert!(rt; range_of(&last, 32, 0, 1, 0) == Some(Err(PlanEnd::Spent)));
+    Ok(())
+}
+
+#[test]
 fn words_that_are_split_off_or_let(rt: HostRuntime) {
-    // service, a2, the word's tag, its new tag; there are two compartments where a word is split off, else all 32
+    // service, a2, the word's tag, its new tag; there are two compartments where a word is split off, else all 128
     let rows = [
         (33, 0, place(0, 0, 0), Some(place(0, 1, 0))),
         (33, 31, place(0, 1, 2), Some(place(0, 0x8000_0001, 2))),
         (33, 1, place(0, 2, 0), Some(place(0, 2, 0))),
         (34, 3, place(0, 1, 2), Some(place(0, 1, 10))),
         (34, 31, place(0, 1, 2), Some(place(0, 1, 0x8000_0002))),
+        (33, 32, place(0, 1, 2), Some(place(0, 0x1_0000_0001, 2))),
+        (34, 127, place(0, 1, 2), Some(place(0, 1, (1 << 127) + 2))),
         // the words of another, even where the caller may enter and write them
         (32, 0, place(1, 1, 1), None),
         (33, 1, place(1, 1, 1), None),
@@ -184,7 +205,7 @@ fn words_that_are_split_off_or_let(rt: HostRuntime) {
             Some(new) => Ok(new),
             None => Err(refused(Part::Comp, Why::NotOwner)),
         };
-        let policy = Compartments::new(if service == 32 { 2 } else { 32 });
+        let policy = Compartments::new(if service == 32 { 2 } else { 128 }, 128);
         let tag = new_tag(&policy, service, a2, old);
         assert!(rt; tag == Some(expected));
     }
@@ -192,14 +213,14 @@ fn words_that_are_split_off_or_let(rt: HostRuntime) {
 
 #[test]
 fn consent_to_zeroing(rt: HostRuntime) {
-    let policy = Compartments::new(3);
+    let policy = Compartments::new(3, 32);
     // the new pc's tag, the word's tag, whether the word may be zeroed
     let rows = [
         (pc(2, false), place(2, 0, 0), true),
         (pc(2, true), place(1, 0, 0b100), true),
         (pc(2, false), place(1, 0b100, 0b011), false),
         (pc(2, false), PLAIN, false),
-        (PLAIN, place(0, 0, 0xFFFF_FFFF), false),
+        (PLAIN, place(0, 0, u128::MAX), false),
     ];
     for (pc, old, consents) in rows {
         let expected = if consents {
@@ -216,7 +237,7 @@ fn pc(owner: u32, jumped: bool) -> CompartmentTag {
 }
 
 /// The tag of a word, the sets by their bits.
-fn place(owner: u32, into: u32, write: u32) -> CompartmentTag {
+fn place(owner: u32, into: u128, write: u128) -> CompartmentTag {
     CompartmentTag::Place {
         owner,
         into: CompartmentSet::of_bits(into),
@@ -262,7 +283,7 @@ fn is_answered(
         Some((pc, result)) => Ok(Outs { pc, result }),
         None => Err(refused(Part::Comp, Why::Rule(group))),
     };
-    Compartments::new(6).rule(group, inputs) == answer
+    Compartments::new(6, 32).rule(group, inputs) == answer
 }
 
 /// The range of a service that is called from a word of compartment 0; none of one that the policy doesn't know.

@@ -1,6 +1,7 @@
 -- A run of two harts under all four policies, in which each policy has something to do.
 use Rattle.std.specs.Prelude.{ℕ, true, false, List, [], ◌∷◌, ◌++◌, map}
 use Rattle.image_format.specs.Picture.{Picture}
+use Rattle.image_format.specs.declared.version.Version.TheVariants.{One}
 use Rattle.engine_trait.specs.Events.{Event}
 use Rattle.engine_trait.specs.Runs.{turn}
 use Rattle.policy_choice.specs.All.{AllTag}
@@ -59,6 +60,7 @@ second_words =
 -- 256 bytes of memory with a heap region of two words at 000000D0; all words of the program are code
 abbrev pub image : Picture
 image = record {
+  version = One;
   ram = 256;
   heap_base = 208;
   heap_bytes = 8;

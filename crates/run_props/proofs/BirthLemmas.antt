@@ -6,9 +6,10 @@ use Rattle.std.specs.Option.{is_some}
 use Rattle.std.proofs.lemmas.Bool.{eqb-true, leb-true}
 use Rattle.std.proofs.lemmas.List.Elements.{All-nil}
 use Rattle.std.proofs.Math.Nat.{le-max_left, le-max_right, max-le}
-use Rattle.image_format.specs.Conditions.{IsImage, are_rows, in_order, is_aligned, is_compartment, is_compartment_after, whole}
-use Rattle.image_format.specs.Picture.{Picture}
-use Rattle.image_format.specs.declared.rows.CompartmentRange.{CompartmentRange}
+use Rattle.image_format.specs.Conditions.{IsImage, are_rows, compartment_limit, in_order, is_aligned, is_compartment, is_compartment_after, whole}
+use Rattle.image_format.specs.Picture.{CompartmentRow, Picture}
+use Rattle.image_format.specs.declared.version.Version.{Version}
+use Rattle.image_format.specs.declared.version.Version.TheVariants.{One, Two}
 use Rattle.image_format.proofs.FieldLemmas.{both}
 use Rattle.compartment_policy.specs.Compartments.{IsCount}
 use Rattle.heap_policy.specs.Heap.{IsHeap}
@@ -18,42 +19,51 @@ use Rattle.tag_loader.specs.Births.{birth_by, birth_of, id_of, is_labelled_by, i
 
 -- ---- the count of compartments
 
-abbrev counted : ℕ → List CompartmentRange → ℕ
-counted count rows = fold (λ (most : ℕ) (row : CompartmentRange). max most (row.owner + 1)) count rows
+abbrev counted : ℕ → List CompartmentRow → ℕ
+counted count rows = fold (λ (most : ℕ) (row : CompartmentRow). max most (row.owner + 1)) count rows
 
 -- it is at least what was counted before
-count_least : (count : ℕ) (rows : List CompartmentRange) → count ≤ counted count rows
+count_least : (count : ℕ) (rows : List CompartmentRow) → count ≤ counted count rows
 count_least count [] = omega arith
 count_least count (row ∷ rows) =
     let here = le-max_left count (row.owner + 1) in
     let rest = count_least (max count (row.owner + 1)) rows in
     omega (arith, here, rest)
 
--- it is never more than 32
-count_most : (ram : ℕ) (before : Option CompartmentRange) (count : ℕ) (rows : List CompartmentRange) → count ≤ 32
-    → are_rows whole (is_compartment ram) is_compartment_after before rows ≡ true → counted count rows ≤ 32
-count_most ram before count [] few are = few
-count_most ram before count (row ∷ rows) few are =
-    let parts = both (is_compartment ram row && in_order is_compartment_after before row) _ are in
-    let owner : row.owner ≤ 31 = owner_fits ram row (both (is_compartment ram row) _ parts.0).0 in
-    let next : row.owner + 1 ≤ 32 = omega arith in
-    count_most ram (Some row) (max count (row.owner + 1)) rows (max-le few next) parts.1
+-- it is never more than the version has room for
+count_most : (version : Version) (ram : ℕ) (before : Option CompartmentRow) (count : ℕ) (rows : List CompartmentRow) → count ≤ compartment_limit version
+    → are_rows whole (is_compartment version ram) is_compartment_after before rows ≡ true → counted count rows ≤ compartment_limit version
+count_most version ram before count [] few are = few
+count_most version ram before count (row ∷ rows) few are =
+    let parts = both (is_compartment version ram row && in_order is_compartment_after before row) _ are in
+    let owner : row.owner < compartment_limit version = owner_fits version ram row (both (is_compartment version ram row) _ parts.0).0 in
+    let next : row.owner + 1 ≤ compartment_limit version = omega (arith, owner) in
+    count_most version ram (Some row) (max count (row.owner + 1)) rows (max-le few next) parts.1
+
+-- which has room for one at least, and for no more than a set has
+pub limit_fits : (version : Version) → compartment_limit version ≤ 128
+limit_fits One = omega arith
+limit_fits Two = omega arith
+
+one_fits : (version : Version) → 1 ≤ compartment_limit version
+one_fits One = omega arith
+one_fits Two = omega arith
 
 pub count_is : (g : Picture) → IsImage g → IsCount (compartments_of g)
 count_is g is = record {
   some = count_least 1 g.compartments;
-  within = count_most g.ram None 1 g.compartments (omega arith) is.compartments.rows;
-  few = omega arith;
+  within = count_most g.version g.ram None 1 g.compartments (one_fits g.version) is.compartments.rows;
+  few = limit_fits g.version;
 }
 
 -- ---- the owners of words
 
 -- a word outside all rows is owned by 0
-abbrev owner_in : Option CompartmentRange → ℕ
+abbrev owner_in : Option CompartmentRow → ℕ
 owner_in None = 0
 owner_in (Some row) = row.owner
 
-below_either : (test : Bool) (count : ℕ) (row : CompartmentRange) (rows : List CompartmentRange) (found : Option CompartmentRange)
+below_either : (test : Bool) (count : ℕ) (row : CompartmentRow) (rows : List CompartmentRow) (found : Option CompartmentRow)
     → owner_in found < counted (max count (row.owner + 1)) rows → owner_in (if test then Some row else found) < counted count (row ∷ rows)
 below_either true count row rows found rest =
     let here = le-max_right count (row.owner + 1) in
@@ -61,14 +71,14 @@ below_either true count row rows found rest =
     omega (arith, here, most)
 below_either false count row rows found rest = rest
 
-found_below : (test : CompartmentRange → Bool) (count : ℕ) (rows : List CompartmentRange) → 1 ≤ count
+found_below : (test : CompartmentRow → Bool) (count : ℕ) (rows : List CompartmentRow) → 1 ≤ count
     → owner_in (find test rows) < counted count rows
 found_below test count [] some = some
 found_below test count (row ∷ rows) some =
     let more : 1 ≤ max count (row.owner + 1) = omega (arith, le-max_left count (row.owner + 1)) in
     below_either (test row) count row rows (find test rows) (found_below test (max count (row.owner + 1)) rows more)
 
-owner_by : (row : Option CompartmentRange) (code : Bool) (label : Option ℕ) (heap : Bool) → (birth_by row code label heap).owner ≡ owner_in row
+owner_by : (row : Option CompartmentRow) (code : Bool) (label : Option ℕ) (heap : Bool) → (birth_by row code label heap).owner ≡ owner_in row
 owner_by None code label heap = refl
 owner_by (Some row) code label heap = refl
 
@@ -111,7 +121,7 @@ heap_is g is =
       few = omega arith;
     }
 
-heap_by : (row : Option CompartmentRange) (code : Bool) (label : Option ℕ) (heap : Bool) → (birth_by row code label heap).heap ≡ heap
+heap_by : (row : Option CompartmentRow) (code : Bool) (label : Option ℕ) (heap : Bool) → (birth_by row code label heap).heap ≡ heap
 heap_by None code label heap = refl
 heap_by (Some row) code label heap = refl
 

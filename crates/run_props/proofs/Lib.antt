@@ -1,8 +1,10 @@
+mod AlikeLemmas
 mod AttackLemmas
 mod BirthLemmas
 mod ChosenLemmas
 mod EndLemmas
 pub mod EngineRunLemmas
+pub mod MigrationLemmas
 mod PartLemmas
 mod PartRunLemmas
 pub mod RunLemmas

@@ -3,4 +3,5 @@ pub mod Ends
 pub mod EngineRuns
 pub mod Invariant
 pub mod Lenses
+pub mod Migration
 pub mod Safe

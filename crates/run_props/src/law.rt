@@ -1,12 +1,13 @@
 //! Laws on runs.
 
-ghost use Rattle.std.specs.Prelude.{◌≡◌, ℕ, ◌+◌, List, [], map, None, Some, false, true};
+ghost use Rattle.std.specs.Prelude.{◌≡◌, ℕ, ◌+◌, List, [], All, map, None, Some, false, true};
 ghost use Rattle.image_format.specs.Conditions.{IsImage};
+ghost use Rattle.image_format.specs.Migrated.{migrated};
 ghost use Rattle.image_format.specs.Picture.{Picture};
 ghost use Rattle.turn_steps.specs.Feeds.{Tape};
 ghost use Rattle.engine_trait.specs.Runs.{Item, run_along};
 ghost use Rattle.sealing_policy.specs.Sealing.{sealing};
-ghost use Rattle.compartment_policy.specs.Compartments.{compartments};
+ghost use Rattle.compartment_policy.specs.Compartments.{compartments, split_service};
 ghost use Rattle.flow_policy.specs.Flow.{flow};
 ghost use Rattle.heap_policy.specs.Heap.{free_service, heap, malloc_service, pointed_to, words_of};
 ghost use Rattle.live_blocks.specs.Space.{first_fit};
@@ -35,6 +36,7 @@ ghost use Rattle.heap_runs.specs.HeapInvariant.{HeapInvariant};
 ghost use Rattle.run_props.specs.Attacks.{GoesAstray, MissesBlock, Trespasses, UnsealsWithoutKey, WouldZero};
 ghost use Rattle.run_props.specs.Ends.{IsStopped};
 ghost use Rattle.run_props.specs.Invariant.{MeetsInvariant};
+ghost use Rattle.run_props.specs.Migration.{IsUnspent, widened_start};
 ghost use Rattle.run_props.specs.Safe.{MeetsInvariants, IsSafe, heap_top, run_of};
 ghost use Rattle.run_props.specs.Lenses.{comp_lens, events_by, flow_lens, heap_lens, seal_lens};
 ghost use Rattle.run_props.specs.EngineRuns.{IsNeverOver, engine_along, unswept_along};
@@ -183,4 +185,18 @@ pub fn sweep_law<P: Policy>()
     ensures enough { (e : Standing P P.Tag) (feed : Tape) (items : List Item)
         → is_over (unswept_along P.Tag.eq P.model e.machine feed items e.account) ≡ false
         → IsNeverOver P.Tag.eq P.model e feed items }
+{}
+
+/// An image that is migrated starts as it did, but that there may be 128 compartments; and along any list of turns and fed bytes in
+/// which no split is spent, its run has the events that it had.
+pub fn migration_law()
+    ensures start { (basis : Basis) (g : Picture)
+        → start_machine all (choice_state basis (migrated g)) (migrated g)
+        ≡ widened_start basis g }
+    ensures events { (basis : Basis) (g : Picture) (feed : Tape) (items : List Item)
+        → All (IsUnspent split_service)
+        (run_along all (start_machine all (choice_state basis g) g) feed items).events
+        → (run_along all (start_machine all (choice_state basis (migrated g)) (migrated g))
+        feed items).events
+        ≡ (run_along all (start_machine all (choice_state basis g) g) feed items).events }
 {}

@@ -2,12 +2,13 @@
 
 use asm_emit::assemble;
 use asm_read::{AsmEnd, read_source};
-use image_format::Image;
+use image_format::{CompartmentRows, Image, OwnedRange, Version};
 use std::alloc::{AllocError, Global};
 use std::process::Abort;
 use std::test::Fail;
 
-/// A source, and the sizes of the RAM and of the heap region, the entries, and the lists of its image, or its first error.
+/// A source, and the version of its image where it is 2, the sizes of the RAM and of the heap region, the entries, and the lists,
+/// or its first error.
 type Row = (&'static [u8], &'static str);
 
 /// Instructions and data, with their words as LLVM's assembler has them.
@@ -113,11 +114,21 @@ const EDGES_AND_COMPARTMENTS: &[Row] = &[
         b".data\n.comp 2, 0, 0\n.zero 1\n.comp 2, 1, 0\n.zero 2",
         "65536 0 0 0 seg 0 00000000 00000000 00000000 comp 0 1 2 0 0 comp 4 2 2 1 0",
     ),
+    (
+        b".version 2\n.data\n.comp 127, 0x100000000, 340282366920938463463374607431768211455\n.zero 1",
+        "version 2 65536 0 0 0 seg 0 00000000 comp 0 1 127 4294967296 340282366920938463463374607431768211455",
+    ),
+    (
+        b".data\n.comp 32, 0, 0\n.zero 2\n.comp 32, 0, 0x10000000000000000\n.zero 1\n.comp 0, 0, 0\n.zero 1\n.version 2",
+        "version 2 65536 0 0 0 seg 0 00000000 00000000 00000000 00000000 comp 0 2 32 0 0 comp 8 1 32 0 18446744073709551616",
+    ),
 ];
 
-/// The sizes of the RAM and of the heap region, and the entries.
+/// The version, the sizes of the RAM and of the heap region, and the entries.
 const SIZES: &[Row] = &[
     (b"", "65536 0 0 0"),
+    (b".version 1", "65536 0 0 0"),
+    (b".ram 4\n.version 0x2", "version 2 4 0 0 0"),
     (
         b".harts 3\n.entry 2, 8\n.ram 64\n.heap 32, 32",
         "64 32 32 0 0 8",
@@ -148,6 +159,17 @@ const ERRORS: &[Row] = &[
     (b".comp 32, 0, 0", "line 1 range"),
     (b".comp 0, -1, 0", "line 1 range"),
     (b".comp 0, 0, -1", "line 1 range"),
+    (b".comp 127, 0, 0", "line 1 range"),
+    (b".comp 0, 0x100000000, 0", "line 1 range"),
+    (
+        b".comp 0, 0, 340282366920938463463374607431768211455",
+        "line 1 range",
+    ),
+    (b".comp 32, 0, 0\n.version 1", "line 1 range"),
+    (b".version 2\n.comp 128, 0, 0", "line 2 range"),
+    (b".version 2\n.comp -1, 0, 0", "line 2 range"),
+    (b".version 2\n.comp 0, -1, 0", "line 2 range"),
+    (b".version 2\n.comp 0, 0, -1", "line 2 range"),
     (b"j nowhere\n.label -1", "line 1 noname"),
     (b".label -1\nj nowhere", "line 1 range"),
     (b".label -1\n.org 4\n.org 0", "line 3 order"),
@@ -197,6 +219,18 @@ fn words_told(alloc: Global, image: &Image) -> Result<String, AllocError> {
     Ok(text)
 }
 
+/// The compartment ranges, of either version.
+fn compartments_told<R: OwnedRange>(alloc: Global, rows: &[R]) -> Result<String, AllocError> {
+    let mut text = String::new(alloc);
+    for row in rows {
+        let range = row.range();
+        text.push_str(format!(in alloc; " comp {} {}", range.address, range.words)?.as_str())?;
+        text.push_str(format!(in alloc; " {}", row.owner())?.as_str())?;
+        text.push_str(format!(in alloc; " {} {}", row.into_mask(), row.write_mask())?.as_str())?;
+    }
+    Ok(text)
+}
+
 /// The five lists.
 fn lists_told(alloc: Global, image: &Image) -> Result<String, AllocError> {
     let mut text = words_told(alloc, image)?;
@@ -206,18 +240,27 @@ fn lists_told(alloc: Global, image: &Image) -> Result<String, AllocError> {
     for edge in image.edges() {
         text.push_str(format!(in alloc; " edge {} {}", edge.source, edge.target)?.as_str())?;
     }
-    for row in image.compartments() {
-        let range = row.range;
-        text.push_str(format!(in alloc; " comp {} {}", range.address, range.words)?.as_str())?;
-        text.push_str(format!(in alloc; " {} {} {}", row.owner, row.into, row.write)?.as_str())?;
-    }
+    let rows = match image.compartments() {
+        CompartmentRows::Narrow(rows) => compartments_told(alloc, rows)?,
+        CompartmentRows::Wide(rows) => compartments_told(alloc, rows)?,
+    };
+    text.push_str(rows.as_str())?;
     Ok(text)
 }
 
-/// The sizes of the RAM and of the heap region, the entries, and the five lists.
+/// How a row begins, by the version of the image.
+fn version_told(version: Version) -> &'static str {
+    match version {
+        Version::One => "",
+        Version::Two => "version 2 ",
+    }
+}
+
+/// The version, the sizes of the RAM and of the heap region, the entries, and the five lists.
 fn image_told(alloc: Global, image: &Image) -> Result<String, AllocError> {
     let mut text = format!(in alloc;
-        "{} {} {}",
+        "{}{} {} {}",
+        version_told(image.version()),
         image.ram(),
         image.heap_base(),
         image.heap_bytes()

@@ -73,8 +73,13 @@ const LOADS: &[Row] = &[
     (b"la x1, 0", "1 65536: 0 8"),
 ];
 
-/// Sizes outside their range, which are told before all else, the harts' before the RAM's.
+/// A version and sizes outside their range, which are told before all else: the version's, then the harts', then the RAM's.
 const BAD_SIZES: &[Row] = &[
+    (b".version 0", "line 1 range"),
+    (b".version 3", "line 1 range"),
+    (b".version -1", "line 1 range"),
+    (b".ram 2\n.harts 9\n.version 3", "line 3 range"),
+    (b".version 2\n.version 3\n.harts 0", "line 3 range"),
     (b".harts 0", "line 1 range"),
     (b"\n.harts 9", "line 2 range"),
     (b".harts -1", "line 1 range"),
@@ -93,6 +98,8 @@ const TWICE: &[Row] = &[
     (b"a:\nb:\na:", "line 3 duplicate"),
     (b"a:\n.harts 1\na: .harts 1", "line 3 duplicate"),
     (b"a:\na: .zero -1", "line 2 duplicate"),
+    (b".version 1\n.version 1", "line 2 order"),
+    (b".version 2\n.version 9", "line 2 order"),
     (b".harts 1\n.harts 9", "line 2 order"),
     (b".ram 4\n.ram 4", "line 2 order"),
     (b".heap 0, 0\n.heap 0, 0", "line 2 order"),

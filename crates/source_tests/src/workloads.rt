@@ -1,6 +1,7 @@
 //! Sources of small workloads, and workloads that are assembled.
 
 use asm_emit::assemble_source;
+use image_format::{CompartmentRows, Image};
 use std::alloc::{AllocError, Global};
 use std::test::Fail;
 use workload::write_workload;
@@ -80,6 +81,14 @@ fn is_written_block_by_block(rt: HostRuntime) -> Result<(), Fail> {
     Ok(())
 }
 
+/// How many compartment ranges the image has.
+fn range_count(image: &Image) -> usize {
+    match image.compartments() {
+        CompartmentRows::Narrow(rows) => rows.len(),
+        CompartmentRows::Wide(rows) => rows.len(),
+    }
+}
+
 /// The words, labels and compartment ranges of the image of so many blocks, whose words are one segment and one code range
 /// at 0; `None` where it is another.
 fn counted(alloc: Global, count: u32) -> Result<Option<(u32, usize, usize)>, AllocError> {
@@ -91,7 +100,7 @@ fn counted(alloc: Global, count: u32) -> Result<Option<(u32, usize, usize)>, All
         [range] if range.address == 0 && image.segment_count() == 1 => Ok(Some((
             range.words,
             image.labels().len(),
-            image.compartments().len(),
+            range_count(&image),
         ))),
         _ => Ok(None),
     }

@@ -174,10 +174,6 @@ live_first core more live is =
     All-weaker (Contains (core_tags core)) (Contains live) (λ word there. subst (λ (words : List ℕ). Contains words word) (sym is) (Contains-append_left (core_tags core) more word there))
     (core_tags core) (All-contains_itself (core_tags core))
 
--- and where they are just these
-pub live_itself : (core : CoreState ℕ) (live : List ℕ) → live ≡ core_tags core → All (Contains live) (core_tags core)
-live_itself core live is = subst (λ (words : List ℕ). All (Contains words) (core_tags core)) (sym is) (All-contains_itself (core_tags core))
-
 -- ---- the table of the words of a core
 
 module _ {T : Type 0} (eq : T → T → Bool) (table : TableState T) (plain : T) (core : CoreState ℕ) where
@@ -185,11 +181,7 @@ module _ {T : Type 0} (eq : T → T → Bool) (table : TableState T) (plain : T)
   abbrev read_core : CoreState T
   read_core = core_by (tag_at plain table.tags) core
 
-  -- it has the tags of that core
-  pub swept_tags : remade_table eq table plain (core_tags core) ≡ record table { tags = with_tags eq [] (plain ∷ core_tags read_core) }
-  swept_tags = ap (λ tags. record table { tags = with_tags eq [] (plain ∷ tags) }) (sym (core_tags_by (tag_at plain table.tags) core))
-
-  -- and with more words, their tags after these
+  -- made again for the words of the core and more, it has the tags of that core and then theirs
   pub swept_more : (more : List ℕ)
       → remade_table eq table plain (core_tags core ++ more) ≡ record table { tags = with_tags eq [] (plain ∷ core_tags read_core ++ map (tag_at plain table.tags) more) }
   swept_more more =

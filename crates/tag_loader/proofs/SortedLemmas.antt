@@ -7,7 +7,8 @@ use Rattle.std.proofs.Math.Bool.{and-false}
 use Rattle.std.proofs.lemmas.Bool.Decides.{nat_tests}
 use Rattle.image_format.specs.Conditions.{IsList, are_rows, in_order, is_clear_of, is_compartment, is_compartment_after, is_label, is_label_after, is_range, whole}
 use Rattle.image_format.proofs.FieldLemmas.{both}
-use Rattle.image_format.specs.declared.rows.CompartmentRange.{CompartmentRange}
+use Rattle.image_format.specs.Picture.{CompartmentRow}
+use Rattle.image_format.specs.declared.version.Version.{Version}
 use Rattle.image_format.specs.declared.rows.Label.{Label}
 use Rattle.image_format.specs.declared.rows.WordRange.{WordRange}
 use Rattle.tag_loader.specs.Births.{is_labelled_by}
@@ -178,12 +179,14 @@ clear_behind before range is = leb-true _ _ is
 pub code_ascends : (ram : ℕ) (rows : List WordRange) → IsList whole (is_range ram) is_clear_of rows → Ascends (λ range. range.address) (λ range. range.address + 4 * range.words) rows
 code_ascends ram rows is = list_ascends _ _ (is_range ram) is_clear_of (range_some ram) clear_behind rows is
 
-compartment_some : (ram : ℕ) (row : CompartmentRange) → is_compartment ram row ≡ true → row.range.address < row.range.address + 4 * row.range.words
-compartment_some ram row fits = range_some ram row.range (both _ _ (both _ _ (both _ _ fits).0).0).0
+compartment_some : (version : Version) (ram : ℕ) (row : CompartmentRow) → is_compartment version ram row ≡ true
+    → row.range.address < row.range.address + 4 * row.range.words
+compartment_some version ram row fits = range_some ram row.range (both _ _ (both _ _ (both _ _ fits).0).0).0
 
-pub compartments_ascend : (ram : ℕ) (rows : List CompartmentRange) → IsList whole (is_compartment ram) is_compartment_after rows
+pub compartments_ascend : (version : Version) (ram : ℕ) (rows : List CompartmentRow) → IsList whole (is_compartment version ram) is_compartment_after rows
     → Ascends (λ row. row.range.address) (λ row. row.range.address + 4 * row.range.words) rows
-compartments_ascend ram rows is = list_ascends _ _ (is_compartment ram) is_compartment_after (compartment_some ram) (λ before row is. clear_behind before.range row.range is) rows is
+compartments_ascend version ram rows is =
+    list_ascends _ _ (is_compartment version ram) is_compartment_after (compartment_some version ram) (λ before row is. clear_behind before.range row.range is) rows is
 
 label_behind : (before label : Label) → is_label_after before label ≡ true → before.address + 1 ≤ label.address
 label_behind before label is = let below : before.address < label.address = ltb-true _ _ is in omega (arith, below)

@@ -2,8 +2,7 @@
 use Rattle.std.specs.Prelude.{ℕ, ◌+◌, ◌*◌, ◌==◌, nat_le, nat_lt, Bool, ◌&&◌, Option, Some, None}
 use Rattle.std.specs.List.{find}
 use Rattle.std.specs.Option.{is_some}
-use Rattle.image_format.specs.Picture.{Picture}
-use Rattle.image_format.specs.declared.rows.CompartmentRange.{CompartmentRange}
+use Rattle.image_format.specs.Picture.{CompartmentRow, Picture}
 use Rattle.image_format.specs.declared.rows.Label.{Label}
 use Rattle.image_format.specs.declared.rows.WordRange.{WordRange}
 use Rattle.policy_trait.specs.Sets.{set_of}
@@ -12,7 +11,7 @@ use Rattle.policy_trait.specs.declared.birth.Birth.{Birth}
 abbrev pub lies_in : ℕ → WordRange → Bool
 lies_in address range = nat_le range.address address && nat_lt address (range.address + 4 * range.words)
 
-abbrev pub is_owned_by : ℕ → CompartmentRange → Bool
+abbrev pub is_owned_by : ℕ → CompartmentRow → Bool
 is_owned_by address row = lies_in address row.range
 
 abbrev pub is_labelled_by : ℕ → Label → Bool
@@ -26,7 +25,7 @@ id_of None = None
 id_of (Some label) = Some label.id
 
 -- the compartment's row decides owner and masks; outside the rows these are 0
-abbrev pub birth_by : Option CompartmentRange → Bool → Option ℕ → Bool → Birth
+abbrev pub birth_by : Option CompartmentRow → Bool → Option ℕ → Bool → Birth
 birth_by None code label heap = record { owner = 0; into = set_of 0; write = set_of 0; code = code; label = label; heap = heap }
 birth_by (Some row) code label heap = record { owner = row.owner; into = set_of row.into; write = set_of row.write; code = code; label = label; heap = heap }
 

@@ -1,6 +1,6 @@
 -- Rows in order, and the row that an address belongs to.
 use Rattle.std.specs.Prelude.{ℕ, ◌+◌, ◌*◌, ◌^◌, ◌<◌, ◌≤◌, Bool, ◌&&◌, if◌then◌else◌, nat_le, nat_lt, List, [], ◌∷◌, length, slice_index_or}
-use Rattle.image_format.specs.declared.rows.CompartmentRange.{CompartmentRange}
+use Rattle.image_format.specs.Picture.{CompartmentRow}
 use Rattle.image_format.specs.declared.rows.Label.{Label}
 use Rattle.image_format.specs.declared.rows.WordRange.{WordRange}
 
@@ -11,10 +11,10 @@ range_first range = range.address
 abbrev pub range_past : WordRange → ℕ
 range_past range = range.address + 4 * range.words
 
-abbrev pub owned_first : CompartmentRange → ℕ
+abbrev pub owned_first : CompartmentRow → ℕ
 owned_first row = range_first row.range
 
-abbrev pub owned_past : CompartmentRange → ℕ
+abbrev pub owned_past : CompartmentRow → ℕ
 owned_past row = range_past row.range
 
 -- a label has one address

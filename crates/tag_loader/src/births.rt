@@ -6,9 +6,10 @@ ghost use Rattle.std.specs.Option.{is_some};
 ghost use Rattle.tag_loader.specs.Births.{birth_by, birth_of, id_of, is_labelled_by, is_owned_by, lies_in, lies_in_heap};
 ghost use Rattle.tag_loader.specs.Walks.{birth_end, from_on, heap_end, words_end};
 
+use crate::owners::{OwnerWalk, owner_at};
 use crate::sorted::{NO_END, Run, row_at};
 use crate::walks::Walk;
-use image_format::{CompartmentRange, Image, Label, WordRange};
+use image_format::{Image, Label, OwnedRange, WideCompartmentRange, WordRange};
 use policy_trait::{Birth, CompartmentSet};
 use std::marker::Model;
 
@@ -26,7 +27,7 @@ pub fn birth(image: &Image, address: u32) -> Birth
 
 /// The birth of a word of which the lists say this. Outside the compartments' rows, owner and masks are 0.
 fn birth_from(
-    owner: Option<CompartmentRange>,
+    owner: Option<WideCompartmentRange>,
     code: bool,
     label: Option<Label>,
     heap: bool,
@@ -47,9 +48,9 @@ fn birth_from(
             heap,
         },
         Some(row) => Birth {
-            owner: row.owner,
-            into: CompartmentSet::of_bits(row.into),
-            write: CompartmentSet::of_bits(row.write),
+            owner: row.owner(),
+            into: CompartmentSet::of_bits(row.into_mask()),
+            write: CompartmentSet::of_bits(row.write_mask()),
             code,
             label,
             heap,
@@ -93,10 +94,10 @@ fn is_code(image: &Image, address: u32) -> bool
 }
 
 /// The compartment's row that holds the address.
-fn owner_of(image: &Image, address: u32) -> Option<CompartmentRange>
+fn owner_of(image: &Image, address: u32) -> Option<WideCompartmentRange>
     ensures { result ≡ find (is_owned_by address) image.now.compartments }
 {
-    row_at(image.compartments(), address)
+    owner_at(image.compartments(), address)
 }
 
 /// The label of the address.
@@ -120,20 +121,21 @@ pub struct WordRun {
 #[derive(Drop)]
 pub struct BirthWalk<'a> {
     image: &'a Image,
-    compartments: Walk<'a, CompartmentRange>,
+    compartments: OwnerWalk<'a>,
     code: Walk<'a, WordRange>,
     labels: Walk<'a, Label>,
 }
 
 impl<'a> Model for BirthWalk<'a> {
     ghost use Rattle.image_format.specs.Picture.{Picture};
+    ghost use Rattle.tag_loader.specs.Owners.{rows_left};
 
     ghost Value = { Picture };
 
     ghost view = { λ walk. record walk.image.now {
       code = walk.code;
       labels = walk.labels;
-      compartments = walk.compartments;
+      compartments = rows_left walk.compartments;
     } };
 }
 
@@ -144,7 +146,7 @@ impl<'a> BirthWalk<'a> {
     {
         BirthWalk {
             image,
-            compartments: Walk::new(image.compartments()),
+            compartments: OwnerWalk::new(image.compartments()),
             code: Walk::new(image.code()),
             labels: Walk::new(image.labels()),
         }

@@ -4,6 +4,7 @@
 
 mod births;
 mod law;
+mod owners;
 mod parts;
 mod sorted;
 mod start;

@@ -5,7 +5,7 @@ ghost use Rattle.std.specs.List.{find};
 ghost use Rattle.std.specs.List.Sorted.{IsPartitionPoint};
 ghost use Rattle.tag_loader.specs.Sorted.{Ascends, BeginsUnended, first_end, holds, label_first, label_past, owned_first, owned_past, range_first, range_past};
 
-use image_format::{CompartmentRange, Label, WordRange};
+use image_format::{CompartmentRange, Label, OwnedRange, WideCompartmentRange, WordRange};
 
 /// A row that belongs to the addresses from one on up to another.
 pub(crate) trait Placed: Copy {
@@ -42,11 +42,25 @@ impl Placed for CompartmentRange {
     ghost past = { owned_past };
 
     fn start(&self) -> u32 {
-        self.range.start()
+        self.range().start()
     }
 
     fn end(&self) -> u64 {
-        self.range.end()
+        self.range().end()
+    }
+}
+
+impl Placed for WideCompartmentRange {
+    ghost first = { owned_first };
+
+    ghost past = { owned_past };
+
+    fn start(&self) -> u32 {
+        self.range().start()
+    }
+
+    fn end(&self) -> u64 {
+        self.range().end()
     }
 }
 

@@ -5,9 +5,10 @@ use Rattle.std.proofs.lemmas.List.{append-nil}
 use Rattle.std.proofs.lemmas.Bool.Decides.{nat_tests}
 use Rattle.rv_decode.specs.declared.instructions.Instr.{Instr}
 use Rattle.rv_decode.specs.declared.instructions.Instr.TheVariants.{Jal, Jalr, Addi, Ecall}
+use Rattle.image_format.specs.declared.version.Version.TheVariants.{One}
 use Rattle.image_format.specs.declared.rows.Edge.{Edge}
 use Rattle.image_format.specs.declared.rows.Label.{Label}
-use Rattle.image_format.specs.declared.rows.CompartmentRange.{CompartmentRange}
+use Rattle.image_format.specs.Picture.{CompartmentRow}
 use Rattle.asm_lists.proofs.EdgeLemmas.{edge_from_pair, pair_from_edge}
 use Rattle.asm_words.specs.Encoding.{word_of_instr}
 use Rattle.asm_words.specs.Ranges.{distance}
@@ -29,8 +30,9 @@ use Rattle.workload_laws.proofs.WorkloadLemmas.{block_rows, end_rows, head_rows,
 -- ---- drafts
 
 -- a draft of one run of code from 0 on
-abbrev drafted : List ℕ → ℕ → List Label → List CompartmentRange → Marks → Draft
+abbrev drafted : List ℕ → ℕ → List Label → List CompartmentRow → Marks → Draft
 drafted words count labels compartments marks = record {
+  version = One;
   heap_base = 61440;
   heap_bytes = 4096;
   entries = 0 ∷ [];
@@ -45,7 +47,7 @@ drafted words count labels compartments marks = record {
 abbrev draft_of : Program → Draft
 draft_of program = drafted program.words (length program.words) program.labels program.compartments first_marks
 
-drafted_same : (words words' : List ℕ) (n n' : ℕ) (labels labels' : List Label) (ranges ranges' : List CompartmentRange) → words ≡ words' → n ≡ n' → labels ≡ labels' → ranges ≡ ranges'
+drafted_same : (words words' : List ℕ) (n n' : ℕ) (labels labels' : List Label) (ranges ranges' : List CompartmentRow) → words ≡ words' → n ≡ n' → labels ≡ labels' → ranges ≡ ranges'
     → drafted words n labels ranges first_marks ≡ drafted words' n' labels' ranges' first_marks
 drafted_same words words' n n' labels labels' ranges ranges' a b c d = rw (a, b, c, d) refl
 
@@ -53,7 +55,7 @@ abbrev marked : Option ℕ → Protection → Marks
 marked label protection = record { is_code = true; label = label; protection = protection }
 
 -- one word more
-word_drafted : (words : List ℕ) (count : ℕ) (labels : List Label) (ranges : List CompartmentRange) (label : Option ℕ) (protection : Protection) (place word : ℕ)
+word_drafted : (words : List ℕ) (count : ℕ) (labels : List Label) (ranges : List CompartmentRow) (label : Option ℕ) (protection : Protection) (place word : ℕ)
     → 4 * length words ≡ place → 4 * count ≡ place
     → with_marked (drafted words count labels ranges (marked label protection)) place word
     ≡ drafted (words ++ word ∷ []) (count + 1) (with_label label labels place) (with_protected protection ranges place) (marked None protection)
@@ -68,7 +70,7 @@ abbrev words_added : ℕ → List Instr → List (ℕ × Addition)
 words_added place [] = []
 words_added place (instr ∷ instrs) = (place, word_added instr place) ∷ words_added (place + 4) instrs
 
-plain_drafted : (instrs : List Instr) (words : List ℕ) (count : ℕ) (labels : List Label) (ranges : List CompartmentRange) (place : ℕ) → 4 * length words ≡ place → 4 * count ≡ place
+plain_drafted : (instrs : List Instr) (words : List ℕ) (count : ℕ) (labels : List Label) (ranges : List CompartmentRow) (place : ℕ) → 4 * length words ≡ place → 4 * count ≡ place
     → with_additions (drafted words count labels ranges first_marks) (words_added place instrs)
     ≡ drafted (words ++ map word_of_instr instrs) (count + length instrs) labels ranges first_marks
 unfolding with_addition with_words
@@ -83,20 +85,20 @@ plain_drafted (instr ∷ instrs) words count labels ranges place words_end code_
 -- ---- compartment ranges
 
 -- the ranges end at a place or below it
-abbrev EndBy : ℕ → List CompartmentRange → Type 0
+abbrev EndBy : ℕ → List CompartmentRow → Type 0
 EndBy place [] = Unit {0}
 EndBy place (row ∷ rows) = (range_end row.range ≤ place) × EndBy place rows
 
-ends_later : (place later : ℕ) (rows : List CompartmentRange) → place ≤ later → EndBy place rows → EndBy later rows
+ends_later : (place later : ℕ) (rows : List CompartmentRow) → place ≤ later → EndBy place rows → EndBy later rows
 ends_later place later [] up ends = tt
 ends_later place later (row ∷ rows) up ends = let here : range_end row.range ≤ place = ends.0 in (omega arith, ends_later place later rows up ends.1)
 
-ends_append : (place : ℕ) (prefix rows : List CompartmentRange) → EndBy place prefix → EndBy place rows → EndBy place (prefix ++ rows)
+ends_append : (place : ℕ) (prefix rows : List CompartmentRow) → EndBy place prefix → EndBy place rows → EndBy place (prefix ++ rows)
 ends_append place [] rows ends more = more
 ends_append place (row ∷ prefix) rows ends more = (ends.0, ends_append place prefix rows ends.1 more)
 
 -- ranges that end below an address aren't joined with a word there
-run_apart : (place address : ℕ) (protection : Protection) (rows : List CompartmentRange) → EndBy place rows → suc place ≤ address
+run_apart : (place address : ℕ) (protection : Protection) (rows : List CompartmentRow) → EndBy place rows → suc place ≤ address
     → with_run joined_compartment rows (protected_range protection (one_word_range address)) ≡ rows ++ protected_range protection (one_word_range address) ∷ []
 run_apart place address protection [] ends below = refl
 run_apart place address protection (last ∷ []) ends below =
@@ -108,7 +110,7 @@ run_apart place address protection (last ∷ []) ends below =
         → with_run joined_compartment (last ∷ []) (protected_range protection (one_word_range address)) ≡ (last ∷ []) ++ protected_range protection (one_word_range address) ∷ []
     go apart true e = rw (e, apart) refl
     go apart false e = rw e refl
-run_apart place address protection (first ∷ second ∷ rows) ends below = ap (λ (rs : List CompartmentRange). first ∷ rs) (run_apart place address protection (second ∷ rows) ends.1 below)
+run_apart place address protection (first ∷ second ∷ rows) ends below = ap (λ (rs : List CompartmentRow). first ∷ rs) (run_apart place address protection (second ∷ rows) ends.1 below)
 
 -- ---- blocks
 
@@ -151,7 +153,7 @@ end_drafted program =
     refl (sym (length-append words (map word_of_instr instrs))) refl refl
 
 -- three words, the second and the third with a label
-labelled_words : (words : List ℕ) (labels : List Label) (ranges : List CompartmentRange) (a b c : ℕ)
+labelled_words : (words : List ℕ) (labels : List Label) (ranges : List CompartmentRow) (a b c : ℕ)
     → with_marked (with_mark 4 (with_marked (with_mark 1 (with_marked (drafted words (length words) labels ranges first_marks) (4 * length words) a)) (4 * length words + 4) b)) (4 * length words + 4 + 4) c
     ≡ drafted (words ++ a ∷ b ∷ c ∷ []) (length (words ++ a ∷ b ∷ c ∷ []))
     (labels ++ (record { address = 4 * length words + 4; id = 1 }) ∷ (record { address = 4 * length words + 8; id = 4 }) ∷ []) (ranges ++ []) first_marks
@@ -186,7 +188,7 @@ flow_drafted index program =
 abbrev guard : Protection
 guard = record { owner = 0; into = 2; write = 0 }
 
-guarded_words : (words : List ℕ) (labels : List Label) (ranges : List CompartmentRange) (a b : ℕ) → EndBy (4 * length words) ranges
+guarded_words : (words : List ℕ) (labels : List Label) (ranges : List CompartmentRow) (a b : ℕ) → EndBy (4 * length words) ranges
     → with_guard no_protection (with_marked (with_guard guard (with_mark 4 (with_marked (drafted words (length words) labels ranges first_marks) (4 * length words) a))) (4 * length words + 4) b)
     ≡ drafted (words ++ a ∷ b ∷ []) (length (words ++ a ∷ b ∷ [])) (labels ++ (record { address = 4 * length words + 4; id = 4 }) ∷ [])
     (ranges ++ protected_range guard (one_word_range (4 * length words + 4)) ∷ []) first_marks
@@ -280,7 +282,7 @@ blocks_drafted (suc left) index number program ends =
     ∙ block_and_more kind index program (rest ++ end_rows) ends
     ∙ blocks_drafted left (index + 1) (number_after number) (with_block kind index program) (block_ends kind index program ends)
 
-head_drafted : (rows : List Row) → with_additions (empty_draft 1) (sized_added (added 0 (head_rows ++ rows))) ≡ with_additions (draft_of head_program) (added 20 rows)
+head_drafted : (rows : List Row) → with_additions (empty_draft One 1) (sized_added (added 0 (head_rows ++ rows))) ≡ with_additions (draft_of head_program) (added 20 rows)
 unfolding with_addition with_words
 head_drafted rows = refl
 
@@ -296,7 +298,7 @@ program_pictured program =
     edges_are image_pairs image_edges refl (λ edge. (pair_from_edge image_pairs edge, edge_from_pair image_pairs edge)) in
     ap (λ (edges : List Edge). record (image_of_program program) { edges = edges }) (sym ordered)
 
-pub workload_pictured : (count : ℕ) → picture_of 65536 (with_additions (empty_draft 1) (sized_added (added 0 (rows_of_workload count)))) ≡ image_of_workload count
+pub workload_pictured : (count : ℕ) → picture_of 65536 (with_additions (empty_draft One 1) (sized_added (added 0 (rows_of_workload count)))) ≡ image_of_workload count
 unfolding rows_of_workload image_of_workload
 workload_pictured count =
     ap (λ (d : Draft). picture_of 65536 d)

@@ -1,15 +1,17 @@
--- The three passes of the assembler over good rows: they are read, placed, and added.
+-- The passes of the assembler over good rows: they are read, asked for a version, placed, and added.
 use Rattle.std.proofs.Common.{◌≡◌, ℕ, zero, suc, ◌+◌, ◌*◌, ◌%◌, ◌≤◌, true, List, [], ◌∷◌, ◌++◌, refl, sym, ap, arith}
 use Rattle.std.specs.Prelude.{nat_le, Ok}
 use Rattle.std.specs.List.{list_all}
 use Rattle.std.proofs.lemmas.Bool.Decides.{nat_tests}
 use Rattle.std.proofs.lemmas.Bool.{and_from}
+use Rattle.image_format.specs.declared.version.Version.TheVariants.{One}
 use Rattle.asm_read.specs.declared.statements.Line.{Line}
 use Rattle.asm_read.specs.declared.statements.Statement.{Statement}
 use Rattle.asm_read.specs.Source.{lines_of}
 use Rattle.asm_read.specs.Operands.{Text}
 use Rattle.asm_words.specs.Emission.{Places}
 use Rattle.asm_places.specs.Places.{next_place, places_from}
+use Rattle.asm_places.specs.Sizes.{version_of}
 use Rattle.asm_emit.specs.declared.values.Addition.{Addition}
 use Rattle.asm_emit.specs.Assembled.{additions_of}
 use Rattle.workload_laws.proofs.StatementLemmas.{AreGood, Comment, IsGood, IsSaid, Row, Said, added, end, is_line, numbered, past, places, text_in, texts_of, unnamed}
@@ -35,6 +37,14 @@ unfolding lines_of
 rows_read number [] good = refl
 rows_read number (Comment text ∷ rows) good = rw (good.0.read number, rows_read (number + 1) rows good.1) refl
 rows_read number (Said text statement size addition ∷ rows) good = rw (good.0.read number, rows_read (number + 1) rows good.1) refl
+
+-- ---- the version
+
+-- no row asks for one
+pub rows_version : (number : ℕ) (rows : List Row) → AreGood rows → version_of (numbered number rows) ≡ Ok One
+rows_version number [] good = refl
+rows_version number (Comment text ∷ rows) good = rows_version (number + 1) rows good.1
+rows_version number (Said text statement size addition ∷ rows) good = rw (good.0.unversioned, rows_version (number + 1) rows good.1) refl
 
 -- ---- places
 
@@ -68,7 +78,7 @@ rows_placed before number place (Said text statement size addition ∷ rows) goo
 -- ---- additions
 
 pub rows_added : (names : Places) (number place : ℕ) (rows : List Row) → AreGood rows → place % 4 ≡ 0 → end place rows ≤ 65536
-    → additions_of 1 65536 names (numbered number rows) (places place rows) ≡ Ok (added place rows)
+    → additions_of One 1 65536 names (numbered number rows) (places place rows) ≡ Ok (added place rows)
 unfolding additions_of
 rows_added names number place [] good aligned inside = refl
 rows_added names number place (Comment text ∷ rows) good aligned inside = rows_added names (number + 1) place rows good.1 aligned inside

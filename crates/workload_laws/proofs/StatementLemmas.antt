@@ -2,6 +2,7 @@
 use Rattle.std.proofs.Common.{◌≡◌, ℕ, zero, suc, ◌+◌, ◌*◌, ◌%◌, ◌≤◌, Bool, true, false, List, [], ◌∷◌}
 use Rattle.std.specs.Prelude.{◌==◌, ◌&&◌, not, Some, None, Ok}
 use Rattle.std.specs.List.{list_all}
+use Rattle.image_format.specs.declared.version.Version.TheVariants.{One}
 use Rattle.asm_read.specs.declared.statements.Line.{Line}
 use Rattle.asm_read.specs.declared.statements.Statement.{Statement}
 use Rattle.asm_read.specs.Lines.{line_of}
@@ -9,6 +10,7 @@ use Rattle.asm_read.specs.Operands.{Text}
 use Rattle.asm_words.specs.Emission.{Places, count_of}
 use Rattle.asm_places.specs.Places.{origin_in}
 use Rattle.asm_places.specs.Seen.{is_again}
+use Rattle.asm_places.specs.Sizes.{version_in}
 use Rattle.asm_emit.specs.declared.values.Addition.{Addition}
 use Rattle.asm_emit.specs.Values.{addition_of}
 
@@ -79,8 +81,9 @@ pub record IsSaid (text : Text) (statement : Statement) (size : ℕ) (addition :
   pub read : (number : ℕ) → line_of number text ≡ Ok (unnamed number statement)
   pub once : (before : List Line) → is_again (Some statement) before ≡ false
   pub onward : origin_in (Some statement) ≡ None
+  pub unversioned : version_in (Some statement) ≡ None
   pub count : count_of statement ≡ Some size
-  pub adds : (names : Places) (place : ℕ) → place % 4 ≡ 0 → place ≤ 65536 → addition_of 1 65536 names place statement ≡ Ok (addition place)
+  pub adds : (names : Places) (place : ℕ) → place % 4 ≡ 0 → place ≤ 65536 → addition_of One 1 65536 names place statement ≡ Ok (addition place)
 
 abbrev pub IsGood : Row → Type 0
 IsGood (Comment text) = IsComment text

@@ -1,6 +1,7 @@
 -- The rows of workloads, and that they are assembled.
 use Rattle.std.proofs.Common.{◌≡◌, ℕ, zero, suc, ◌+◌, ◌*◌, ◌%◌, ◌≤◌, List, [], ◌∷◌, ◌++◌, refl, sym, ap, ◌∙◌, arith}
 use Rattle.std.specs.Prelude.{codes, pos, Ok}
+use Rattle.image_format.specs.declared.version.Version.TheVariants.{One}
 use Rattle.asm_table.specs.Words.{arithmetic_named, branch_named, directive_named, form_named, immediate_named, instruction_named, load_named, other_named, pseudo_named, registers_named, shift_named, store_named, upper_named}
 use Rattle.asm_text.specs.Numbers.{number_of, numeral, unsigned_of}
 use Rattle.asm_read.specs.declared.statements.Line.{Line}
@@ -14,6 +15,7 @@ use Rattle.asm_read.specs.Values.{target_at}
 use Rattle.asm_words.specs.declared.emissions.Emission.TheVariants as emissions
 use Rattle.asm_words.specs.Emission.{Places, address_of, count_of, emission_of}
 use Rattle.asm_places.specs.Layouts.{layout_of}
+use Rattle.asm_places.specs.Sizes.{version_of}
 use Rattle.asm_places.specs.Places.{next_place, places_from}
 use Rattle.asm_places.specs.Names.{place_of_name}
 use Rattle.asm_emit.specs.declared.values.Addition.{Addition}
@@ -27,7 +29,7 @@ use Rattle.workload.specs.Kinds.{kind_of, number_after}
 use Rattle.workload.specs.Source.{block_lines, end_lines, head_lines, lines_of_blocks, lines_of_workload, source_of_workload, text_of}
 use Rattle.workload_laws.proofs.RowLemmas as known
 use Rattle.workload_laws.proofs.LineLemmas.{lines-text_of}
-use Rattle.workload_laws.proofs.PassLemmas.{good_append, rows_added, rows_lines, rows_placed, rows_read}
+use Rattle.workload_laws.proofs.PassLemmas.{good_append, rows_added, rows_lines, rows_placed, rows_read, rows_version}
 use Rattle.workload_laws.proofs.StatementLemmas.{AreGood, Comment, Row, Said, added, end, numbered, past, places, text_in, texts_of, unnamed}
 
 -- ---- the rows
@@ -262,19 +264,19 @@ sized_read : (rows : List Row) → AreGood rows → lines_of 1 (sized (texts_of 
 unfolding lines_of
 sized_read rows good = rw (known.good_head_comment.read 1, harts_read, ram_read, heap_read, entry_read, rows_read 6 rows good) refl
 
-sized_laid : (lines : List Line) (at : List ℕ) (last : ℕ) → places_from 65536 (sized_lines []) 0 lines ≡ Ok (at, last)
-    → layout_of (sized_lines lines) ≡ Ok (record { harts = 1; ram = 65536; places = 0 ∷ 0 ∷ 0 ∷ 0 ∷ at; end = last })
+sized_laid : (lines : List Line) (at : List ℕ) (last : ℕ) → version_of lines ≡ Ok One → places_from 65536 (sized_lines []) 0 lines ≡ Ok (at, last)
+    → layout_of (sized_lines lines) ≡ Ok (record { version = One; harts = 1; ram = 65536; places = 0 ∷ 0 ∷ 0 ∷ 0 ∷ at; end = last })
 unfolding layout_of places_from next_place count_of
-sized_laid lines at last placed = rw placed refl
+sized_laid lines at last first placed = rw (first, placed) refl
 
-sized_adds : (names : Places) (lines : List Line) (at : List ℕ) (more : List (ℕ × Addition)) → additions_of 1 65536 names lines at ≡ Ok more
-    → additions_of 1 65536 names (sized_lines lines) (0 ∷ 0 ∷ 0 ∷ 0 ∷ at) ≡ Ok (sized_added more)
+sized_adds : (names : Places) (lines : List Line) (at : List ℕ) (more : List (ℕ × Addition)) → additions_of One 1 65536 names lines at ≡ Ok more
+    → additions_of One 1 65536 names (sized_lines lines) (0 ∷ 0 ∷ 0 ∷ 0 ∷ at) ≡ Ok (sized_added more)
 unfolding additions_of addition_of words_at emission_of heap_at entry_at address_of
 sized_adds names lines at more adds = rw adds refl
 
-sized_pictured : (lines : List Line) (at : List ℕ) (last : ℕ) (more : List (ℕ × Addition)) → ((names : Places) → additions_of 1 65536 names lines at ≡ Ok more)
-    → picture_at (sized_lines lines) (record { harts = 1; ram = 65536; places = 0 ∷ 0 ∷ 0 ∷ 0 ∷ at; end = last })
-    ≡ Ok (picture_of 65536 (with_additions (empty_draft 1) (sized_added more)))
+sized_pictured : (lines : List Line) (at : List ℕ) (last : ℕ) (more : List (ℕ × Addition)) → ((names : Places) → additions_of One 1 65536 names lines at ≡ Ok more)
+    → picture_at (sized_lines lines) (record { version = One; harts = 1; ram = 65536; places = 0 ∷ 0 ∷ 0 ∷ 0 ∷ at; end = last })
+    ≡ Ok (picture_of 65536 (with_additions (empty_draft One 1) (sized_added more)))
 unfolding picture_at
 sized_pictured lines at last more adds =
     let names : Places = place_of_name (sized_lines lines) (0 ∷ 0 ∷ 0 ∷ 0 ∷ at) last in
@@ -283,10 +285,10 @@ sized_pictured lines at last more adds =
 -- ---- the image
 
 sized_assembled : (rows : List Row) → AreGood rows → end 0 rows ≤ 65536
-    → picture_of_lines (sized_lines (numbered 6 rows)) ≡ Ok (picture_of 65536 (with_additions (empty_draft 1) (sized_added (added 0 rows))))
+    → picture_of_lines (sized_lines (numbered 6 rows)) ≡ Ok (picture_of 65536 (with_additions (empty_draft One 1) (sized_added (added 0 rows))))
 unfolding picture_of_lines
 sized_assembled rows good inside =
-    rw (sized_laid (numbered 6 rows) (places 0 rows) (end 0 rows) (rows_placed (sized_lines []) 6 0 rows good inside))
+    rw (sized_laid (numbered 6 rows) (places 0 rows) (end 0 rows) (rows_version 6 rows good) (rows_placed (sized_lines []) 6 0 rows good inside))
     (sized_pictured (numbered 6 rows) (places 0 rows) (end 0 rows) (added 0 rows) (λ names. rows_added names 6 0 rows good refl inside))
 
 sized_source : (rows : List Row) → AreGood rows → source_of (text_of (sized (texts_of rows))) ≡ Ok (sized_lines (numbered 6 rows))
@@ -294,7 +296,7 @@ unfolding source_of
 sized_source rows good = rw (lines-text_of (sized (texts_of rows)) (rows_lines rows good)) (sized_read rows good)
 
 pub workload_assembled : (count : ℕ) → count ≤ 1000
-    → image_of_source (source_of_workload count) ≡ Ok (picture_of 65536 (with_additions (empty_draft 1) (sized_added (added 0 (rows_of_workload count)))))
+    → image_of_source (source_of_workload count) ≡ Ok (picture_of 65536 (with_additions (empty_draft One 1) (sized_added (added 0 (rows_of_workload count)))))
 unfolding image_of_source source_of_workload
 workload_assembled count few =
     let good : AreGood (rows_of_workload count) = good_workload count in

@@ -2,9 +2,9 @@
 use Rattle.std.specs.Prelude.{ℕ, zero, suc, ◌+◌, ◌*◌, ◌%◌, List, [], ◌∷◌, ◌++◌, length, map}
 use Rattle.rv_decode.specs.declared.instructions.Instr.{Instr}
 use Rattle.rv_decode.specs.declared.instructions.Instr.TheVariants.{Jal, Jalr, Lw, Sw, Addi, Ecall}
+use Rattle.image_format.specs.declared.version.Version.TheVariants.{One}
 use Rattle.image_format.specs.declared.rows.Label.{Label}
-use Rattle.image_format.specs.declared.rows.CompartmentRange.{CompartmentRange}
-use Rattle.image_format.specs.Picture.{Picture}
+use Rattle.image_format.specs.Picture.{CompartmentRow, Picture}
 use Rattle.asm_words.specs.Encoding.{word_of_instr}
 use Rattle.asm_words.specs.Ranges.{distance}
 use Rattle.workload.specs.declared.kinds.BlockKind.{BlockKind}
@@ -15,7 +15,7 @@ use Rattle.workload.specs.Kinds.{kind_of, number_after}
 pub record Program : Type 0 where
   pub words : List ℕ
   pub labels : List Label
-  pub compartments : List CompartmentRange
+  pub compartments : List CompartmentRow
 
 -- a jump to 20, and the words that the blocks come to; each pair is a `nop` and a `ret`
 abbrev pub head_program : Program
@@ -42,7 +42,7 @@ block_labels Flow address = (record { address = address + 4; id = 1 }) ∷ (reco
 block_labels Compartments address = (record { address = address + 4; id = 4 }) ∷ []
 
 -- compartment 1 may jump back to the word behind its call
-abbrev pub block_compartments : BlockKind → ℕ → List CompartmentRange
+abbrev pub block_compartments : BlockKind → ℕ → List CompartmentRow
 block_compartments Sealing address = []
 block_compartments Heap address = []
 block_compartments Flow address = []
@@ -66,10 +66,11 @@ with_blocks (suc left) index number program =
 abbrev pub with_end : Program → Program
 with_end program = record program { words = program.words ++ map word_of_instr (Addi 10 0 0 ∷ Addi 17 0 0 ∷ Ecall ∷ []) }
 
--- the image of a program: one hart that starts at 0, 65536 bytes of RAM, the last 4096 the heap, all words code, and the ways
--- from label 1 to 2, from 3 to 4 and from 5 to 4
+-- the image of a program, of version 1: one hart that starts at 0, 65536 bytes of RAM, the last 4096 the heap, all words code,
+-- and the ways from label 1 to 2, from 3 to 4 and from 5 to 4
 abbrev pub image_of_program : Program → Picture
 image_of_program program = record {
+  version = One;
   ram = 65536;
   heap_base = 61440;
   heap_bytes = 4096;

@@ -8,4 +8,4 @@ pub returns : goal.returns
 returns c =
     let other : (length c.args.text.now < 2) ⊎ (get_or c.args.text.now 0 0 ≢ 48) ⊎ (get_or c.args.text.now 1 0 ≢ 120) =
     elim c.if-text-lt2.branch [ then-text-lt2 w ↦ inl (grind (arith, nat_tests)) | else-text-lt2+in-48+in_default-1 w ↦ inr (inr (grind (arith, nat_tests))) | else-text-lt2+in_default-1 w ↦ inr (inl (grind (arith, nat_tests))) ] in
-    rw (unsigned-decimal c.args.text.now other) (search rules)
+    rw (unsigned-decimal c.args.most c.args.text.now other) (search rules)

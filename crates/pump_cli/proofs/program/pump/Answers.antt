@@ -5,6 +5,7 @@ use Rattle.pump_cli.proofs.AnswerLemmas.{due_status}
 use Rattle.pump_cli.proofs.CauseLemmas.{out_run, spent_run}
 use Rattle.pump_cli.proofs.ListLemmas.{listed_back}
 use Rattle.pump_cli.proofs.LoadLemmas.{load_due}
+use Rattle.pump_cli.proofs.MigratedLemmas.{saves_migrated}
 use Rattle.pump_cli.proofs.SafeRunLemmas.{safe_runs}
 use Rattle.pump_cli.proofs.SessionRunLemmas.{session_told}
 use Rattle.pump_cli.proofs.program.pump.Goals as goal
@@ -38,6 +39,14 @@ returns-in-Ok-clause-lists g c = listed_back (texts_of c.args.words.now.items)
 
 pub returns-in-Err-clause-lists : goal.returns-in-Err-clause-lists
 returns-in-Err-clause-lists g c = listed_back (texts_of c.args.words.now.items)
+
+pub returns-in-Ok-clause-migrates : goal.returns-in-Ok-clause-migrates
+returns-in-Ok-clause-migrates g c task picture bytes asked migrates held read =
+    saves_migrated task bytes picture (g.met.F.Files.tells_bytes c.args.files.now task.source bytes held) migrates read
+
+pub returns-in-Err-clause-migrates : goal.returns-in-Err-clause-migrates
+returns-in-Err-clause-migrates g c task picture bytes asked migrates held read =
+    saves_migrated task bytes picture (g.met.F.Files.tells_bytes c.args.files.now task.source bytes held) migrates read
 
 pub returns-in-Ok-clause-spent : goal.returns-in-Ok-clause-spent
 returns-in-Ok-clause-spent g c is =

@@ -9,6 +9,7 @@ use Rattle.asm_places.proofs.seen.Seen.new.Goals as goal
 
 pub returns : goal.returns
 returns c = record {
+  version = refl;
   harts = refl;
   ram = refl;
   heap = refl;

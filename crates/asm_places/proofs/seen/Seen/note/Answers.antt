@@ -13,5 +13,5 @@ returns c =
     on_ok_weaker
     c.note_statement.result
     (λ (entries : (hart : ℤ) → contains int_cmp c.note_statement.new.self.entries hart ≡ (contains int_cmp c.args.self.now.entries hart || enters hart c.args.line.now.statement)) before seen.
-    noted c.args.self.now c.note_statement.new.self before c.args.line.now (now.names ∙ c.in_ok-give_label.ensures) now.harts now.ram now.heap entries seen)
+    noted c.args.self.now c.note_statement.new.self before c.args.line.now (now.names ∙ c.in_ok-give_label.ensures) now.version now.harts now.ram now.heap entries seen)
     now.entries
