@@ -1,0 +1,9 @@
+pub mod FoldLemmas
+pub mod CodeLemmas
+pub mod LoadLemmas
+pub mod RowLemmas
+pub mod TagLemmas
+pub mod WordLemmas
+pub mod RangeLemmas
+pub mod HeaderLemmas
+pub mod ImageLemmas
