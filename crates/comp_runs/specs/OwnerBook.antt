@@ -1,11 +1,10 @@
 -- The owner book of a run: who owns each word, who may jump to it and who may write it.
 use Rattle.std.specs.Prelude.{ℕ, ◌+◌, ◌*◌, ◌==◌, nat_le, nat_lt, Bool, false, ◌&&◌, List, Option, Some, None, if◌then◌else◌}
 use Rattle.std.specs.List.{fold}
-use Rattle.policy_trait.specs.Sets.{set_of, set_with}
+use Rattle.policy_trait.specs.Sets.{CompartmentSet, set_of, set_with}
 use Rattle.policy_trait.specs.declared.birth.Birth.{Birth}
 use Rattle.policy_trait.specs.declared.services.Answer.{Answer}
 use Rattle.policy_trait.specs.declared.services.Words.{Words}
-use Rattle.policy_trait.specs.declared.sets.CompartmentSet.{CompartmentSet}
 use Rattle.compartment_policy.specs.Compartments.{let_in_service, let_write_service, split_service}
 use Rattle.engine_trait.specs.Events.{Event}
 use Rattle.part_turns.specs.Moments.{Service, service_of}

@@ -11,8 +11,7 @@ use Rattle.std.proofs.lemmas.List.Sums.{AllPass-from_list_all}
 use Rattle.pump_words.specs.TextLaws.{hex8_text_injective}
 use Rattle.pump_words.specs.Texts.{hex_digit, hex8_text}
 use Rattle.policy_trait.proofs.TextLemmas.{cut_number}
-use Rattle.policy_trait.specs.Sets.{hex32_text, mask_text, set_of}
-use Rattle.policy_trait.specs.declared.sets.CompartmentSet.{CompartmentSet}
+use Rattle.policy_trait.specs.Sets.{CompartmentSet, hex32_text, mask_text, set_of}
 use Rattle.compartment_policy.specs.Compartments.{HasFittingNumbers, compartment_text}
 use Rattle.compartment_policy.specs.declared.tag.CompartmentTag.{CompartmentTag}
 use Rattle.compartment_policy.specs.declared.tag.CompartmentTag.TheVariants.{Plain, Pc, Place}

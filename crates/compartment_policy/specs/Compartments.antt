@@ -5,8 +5,7 @@ use Rattle.std.specs.Fmt.{decimal}
 use Rattle.rv_decode.specs.declared.groups.Group.{Group}
 use Rattle.rv_decode.specs.declared.groups.Group.TheVariants as group
 use Rattle.policy_trait.specs.Model.{PolicyModel}
-use Rattle.policy_trait.specs.Sets.{has, mask_text, set_of, set_with}
-use Rattle.policy_trait.specs.declared.sets.CompartmentSet.{CompartmentSet}
+use Rattle.policy_trait.specs.Sets.{CompartmentSet, has, mask_text, set_of, set_with}
 use Rattle.policy_trait.specs.declared.rules.Ins.{Ins}
 use Rattle.policy_trait.specs.declared.rules.Mask.{Mask}
 use Rattle.policy_trait.specs.declared.rules.Outs.{Outs}

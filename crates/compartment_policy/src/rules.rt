@@ -9,6 +9,7 @@ use rv_decode::Group;
 
 /// The owner of the instruction's word, where the pc may go there: from a word of the same owner, or by a jump from a
 /// compartment that the word lets in.
+#[inline(always)]
 pub(crate) fn entered(pc: CompartmentTag, instruction: CompartmentTag) -> Option<u32>
     ensures { result ≡ entry_owner pc instruction }
 {

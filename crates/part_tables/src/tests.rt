@@ -6,69 +6,91 @@ use crate::AllTable;
 use compartment_policy::CompartmentTag;
 use flow_policy::FlowTag;
 use heap_policy::HeapTag;
-use policy_choice::{AllTag, PartTags};
+use policy_choice::AllTag;
 use sealing_policy::SealTag;
 use std::alloc::{AllocError, Global};
 use std::test::Fail;
 use tag_intern::{InternEnd, TagTable};
 
-/// The plain tag of sealing.
-const DATA: Option<SealTag> = Some(SealTag::Data);
+/// A tag of all policies.
+#[derive(Clone, Copy)]
+enum Named {
+    /// It is plain to all policies.
+    Plain,
+    /// Its part of sealing alone is not plain.
+    WithKey,
+    /// Its part of compartments alone is not plain.
+    WithOwner,
+    /// Its part of control flow alone is not plain.
+    WithLabel,
+    /// Its part of heap safety alone is not plain.
+    WithPointer,
+    /// Each of its parts is in another tag here, too.
+    KeyPointer,
+    /// None of its parts is in another tag here: every policy is off.
+    Nothing,
+}
 
-/// The tag of a key.
-const KEY: Option<SealTag> = Some(SealTag::Key(7));
+/// The part of sealing: that of a key, or the plain one.
+fn seal_part(has_key: bool) -> Option<SealTag> {
+    Some(if has_key {
+        SealTag::Key(7)
+    } else {
+        SealTag::Data
+    })
+}
 
-/// The plain tag of compartments.
-const UNOWNED: Option<CompartmentTag> = Some(CompartmentTag::Plain);
+/// The part of compartments: that of a pc in a compartment, or the plain one.
+fn comp_part(has_owner: bool) -> Option<CompartmentTag> {
+    Some(if has_owner {
+        CompartmentTag::Pc {
+            owner: 7,
+            jumped: false,
+        }
+    } else {
+        CompartmentTag::Plain
+    })
+}
 
-/// The tag of a pc in a compartment.
-const OWNED: Option<CompartmentTag> = Some(CompartmentTag::Pc {
-    owner: 7,
-    jumped: false,
-});
+/// The part of control flow: that of a word of code with a label, or the plain one.
+fn flow_part(has_label: bool) -> Option<FlowTag> {
+    Some(if has_label {
+        FlowTag::Code(Some(7))
+    } else {
+        FlowTag::Plain
+    })
+}
 
-/// The plain tag of control flow.
-const UNLABELLED: Option<FlowTag> = Some(FlowTag::Plain);
+/// The part of heap safety: that of a pointer, or the plain one.
+fn heap_part(has_pointer: bool) -> Option<HeapTag> {
+    Some(if has_pointer {
+        HeapTag::Ptr(7)
+    } else {
+        HeapTag::Val
+    })
+}
 
-/// The tag of a word of code with a label.
-const LABELLED: Option<FlowTag> = Some(FlowTag::Code(Some(7)));
-
-/// The plain tag of heap safety.
-const VALUE: Option<HeapTag> = Some(HeapTag::Val);
-
-/// The tag of a pointer.
-const POINTER: Option<HeapTag> = Some(HeapTag::Ptr(7));
-
-/// The parts of a tag that is plain to all policies.
-const PLAIN: PartTags = (DATA, (UNOWNED, (UNLABELLED, VALUE)));
-
-/// Parts of which that of sealing alone is not plain.
-const WITH_KEY: PartTags = (KEY, (UNOWNED, (UNLABELLED, VALUE)));
-
-/// Parts of which that of compartments alone is not plain.
-const WITH_OWNER: PartTags = (DATA, (OWNED, (UNLABELLED, VALUE)));
-
-/// Parts of which that of control flow alone is not plain.
-const WITH_LABEL: PartTags = (DATA, (UNOWNED, (LABELLED, VALUE)));
-
-/// Parts of which that of heap safety alone is not plain.
-const WITH_POINTER: PartTags = (DATA, (UNOWNED, (UNLABELLED, POINTER)));
-
-/// Parts of which each is in another tag here, too.
-const KEY_POINTER: PartTags = (KEY, (UNOWNED, (UNLABELLED, POINTER)));
-
-/// Parts of which none is in another tag here: every policy is off.
-const NOTHING: PartTags = (None, (None, (None, None)));
+/// The tag with this name.
+fn tag_of(named: Named) -> AllTag {
+    if matches!(named, Named::Nothing) {
+        return AllTag::of((None, (None, (None, None))));
+    }
+    let seal = seal_part(matches!(named, Named::WithKey | Named::KeyPointer));
+    let comp = comp_part(matches!(named, Named::WithOwner));
+    let flow = flow_part(matches!(named, Named::WithLabel));
+    let heap = heap_part(matches!(named, Named::WithPointer | Named::KeyPointer));
+    AllTag::of((seal, (comp, (flow, heap))))
+}
 
 /// A call of a table, and what it answers.
 #[derive(Clone, Copy)]
 enum Step {
-    /// The tag of these parts comes.
-    Comes(PartTags, Result<u32, InternEnd>),
-    /// The tag of these parts is asked for its word.
-    Has(PartTags, Option<u32>),
-    /// The word is that of the tag of these parts, or it is no tag's word and they are `NOTHING`.
-    Reads(u32, PartTags),
+    /// The tag comes.
+    Comes(Named, Result<u32, InternEnd>),
+    /// The tag is asked for its word.
+    Has(Named, Option<u32>),
+    /// The word is that of the tag, or it is no tag's word and the tag is `Nothing`.
+    Reads(u32, Named),
     /// So many tags have words.
     Counts(u32),
     /// The first so many tags are left their words.
@@ -87,9 +109,9 @@ fn is_cut<T: TagTable<Tag = AllTag>>(table: &mut T, len: u32) -> bool {
 /// Whether the step goes as it says.
 fn goes<T: TagTable<Tag = AllTag>>(table: &mut T, step: Step) -> bool {
     match step {
-        Step::Comes(parts, answer) => table.intern(AllTag::of(parts)) == answer,
-        Step::Has(parts, word) => table.word_of(&AllTag::of(parts)) == word,
-        Step::Reads(word, parts) => { table.tag_or(word, AllTag::of(NOTHING)) == AllTag::of(parts) }
+        Step::Comes(named, answer) => table.intern(tag_of(named)) == answer,
+        Step::Has(named, word) => table.word_of(&tag_of(named)) == word,
+        Step::Reads(word, named) => { table.tag_or(word, tag_of(Named::Nothing)) == tag_of(named) }
         Step::Counts(len) => table.len() == len,
         Step::Cut(len) => is_cut(table, len),
     }
@@ -114,23 +136,23 @@ fn first_wrong<T: TagTable<Tag = AllTag>>(
 
 /// Tags that differ from the first in one part, and one that differs in two.
 const SHARING: &[Step] = &[
-    Step::Comes(PLAIN, Ok(0)),
-    Step::Comes(WITH_KEY, Ok(1)),
-    Step::Comes(WITH_OWNER, Ok(2)),
-    Step::Comes(WITH_LABEL, Ok(3)),
-    Step::Comes(WITH_POINTER, Ok(4)),
-    Step::Comes(KEY_POINTER, Ok(5)),
+    Step::Comes(Named::Plain, Ok(0)),
+    Step::Comes(Named::WithKey, Ok(1)),
+    Step::Comes(Named::WithOwner, Ok(2)),
+    Step::Comes(Named::WithLabel, Ok(3)),
+    Step::Comes(Named::WithPointer, Ok(4)),
+    Step::Comes(Named::KeyPointer, Ok(5)),
     // each has its word still
-    Step::Comes(WITH_POINTER, Ok(4)),
-    Step::Comes(WITH_LABEL, Ok(3)),
-    Step::Comes(WITH_OWNER, Ok(2)),
-    Step::Comes(WITH_KEY, Ok(1)),
-    Step::Comes(PLAIN, Ok(0)),
+    Step::Comes(Named::WithPointer, Ok(4)),
+    Step::Comes(Named::WithLabel, Ok(3)),
+    Step::Comes(Named::WithOwner, Ok(2)),
+    Step::Comes(Named::WithKey, Ok(1)),
+    Step::Comes(Named::Plain, Ok(0)),
     Step::Counts(6),
-    Step::Has(KEY_POINTER, Some(5)),
-    Step::Has(NOTHING, None),
-    Step::Reads(3, WITH_LABEL),
-    Step::Reads(6, NOTHING),
+    Step::Has(Named::KeyPointer, Some(5)),
+    Step::Has(Named::Nothing, None),
+    Step::Reads(3, Named::WithLabel),
+    Step::Reads(6, Named::Nothing),
 ];
 
 #[test]
@@ -141,19 +163,19 @@ fn tags_that_share_parts_have_words_of_their_own(rt: HostRuntime) -> Result<(), 
 
 /// Tags of which the first two are left, and what comes then.
 const CUTTING: &[Step] = &[
-    Step::Comes(PLAIN, Ok(0)),
-    Step::Comes(WITH_KEY, Ok(1)),
-    Step::Comes(WITH_OWNER, Ok(2)),
-    Step::Comes(WITH_POINTER, Ok(3)),
+    Step::Comes(Named::Plain, Ok(0)),
+    Step::Comes(Named::WithKey, Ok(1)),
+    Step::Comes(Named::WithOwner, Ok(2)),
+    Step::Comes(Named::WithPointer, Ok(3)),
     Step::Cut(2),
     Step::Counts(2),
-    Step::Has(WITH_KEY, Some(1)),
-    Step::Has(WITH_POINTER, None),
-    Step::Reads(2, NOTHING),
-    Step::Comes(WITH_POINTER, Ok(2)),
-    Step::Comes(WITH_OWNER, Ok(3)),
-    Step::Comes(WITH_KEY, Ok(1)),
-    Step::Comes(PLAIN, Ok(0)),
+    Step::Has(Named::WithKey, Some(1)),
+    Step::Has(Named::WithPointer, None),
+    Step::Reads(2, Named::Nothing),
+    Step::Comes(Named::WithPointer, Ok(2)),
+    Step::Comes(Named::WithOwner, Ok(3)),
+    Step::Comes(Named::WithKey, Ok(1)),
+    Step::Comes(Named::Plain, Ok(0)),
 ];
 
 #[test]
@@ -164,18 +186,18 @@ fn tags_that_a_cut_leaves_keep_their_words(rt: HostRuntime) -> Result<(), Fail> 
 
 /// Tags that fill a table for three, and what comes then.
 const FILLING: &[Step] = &[
-    Step::Comes(PLAIN, Ok(0)),
-    Step::Comes(WITH_KEY, Ok(1)),
-    Step::Comes(WITH_POINTER, Ok(2)),
+    Step::Comes(Named::Plain, Ok(0)),
+    Step::Comes(Named::WithKey, Ok(1)),
+    Step::Comes(Named::WithPointer, Ok(2)),
     // each part has a word, and the whole has no room
-    Step::Comes(KEY_POINTER, Err(InternEnd::Full)),
-    Step::Comes(NOTHING, Err(InternEnd::Full)),
+    Step::Comes(Named::KeyPointer, Err(InternEnd::Full)),
+    Step::Comes(Named::Nothing, Err(InternEnd::Full)),
     // full, and yet a tag that is there is answered
-    Step::Comes(WITH_KEY, Ok(1)),
+    Step::Comes(Named::WithKey, Ok(1)),
     Step::Cut(1),
-    Step::Comes(NOTHING, Ok(1)),
-    Step::Comes(KEY_POINTER, Ok(2)),
-    Step::Comes(WITH_POINTER, Err(InternEnd::Full)),
+    Step::Comes(Named::Nothing, Ok(1)),
+    Step::Comes(Named::KeyPointer, Ok(2)),
+    Step::Comes(Named::WithPointer, Err(InternEnd::Full)),
 ];
 
 #[test]

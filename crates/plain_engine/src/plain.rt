@@ -11,13 +11,13 @@ ghost use Rattle.tag_memory.specs.Ram.{IsPlace, ram_bytes, ram_tag, ram_word};
 ghost use Rattle.engine_trait.specs.Accounts.{IsUncached};
 ghost use Rattle.engine_trait.specs.Machine.{IsMachine, hart_at, stop_at};
 ghost use Rattle.engine_trait.specs.Standing.{GivesUp, IsFailure, StopsOnly, Unchanged, is_ready, step};
-ghost use Rattle.engine_trait.specs.Turn.{rule_answer, turn_effect, is_offered, is_served, preparation, service_on, stopped_at};
+ghost use Rattle.engine_trait.specs.Turn.{is_offered, is_served, preparation, rule_answer, service_on, stopped_at, turn_effect, violation};
 ghost use Rattle.turn_steps.specs.Looks.{is_call, is_system, look_result, unless_system};
 ghost use Rattle.plain_engine.specs.Plain.{EndsService, after_asked, after_look_up, after_turn, given_up, machine_of, standing_of};
 
 use engine_trait::{Core, Counts, Engine, Feed, Halt, Stop, TurnEnd};
 use monitor_calls::{Job, ServeEnd, serve};
-use policy_trait::{Outs, Policy};
+use policy_trait::{Outs, Policy, Refused};
 use rv_decode::Instr;
 use rv_step::Fault;
 use std::alloc::Global;
@@ -137,8 +137,18 @@ impl<P: Policy> Plain<P> {
             .rule_at(look.group, &self.core.inputs_at(h, look))
         {
             Ok(outs) => Ok(outs),
-            Err(refused) => Err(self.core.violation(h, refused)),
+            Err(refused) => Err(self.violation(h, refused)),
         }
+    }
+
+    /// How hart `h` stops where a rule refused.
+    #[cold]
+    #[inline(never)]
+    fn violation(&self, h: u32, refused: Refused) -> Stop
+        requires { h < length self.now.machine.core.harts }
+        ensures { result ≡ violation (hart_at self.now.machine.core h).pc refused }
+    {
+        self.core.violation(h, refused)
     }
 
     /// Counts a turn that a check stopped, and stops hart `h`.
@@ -161,6 +171,8 @@ impl<P: Policy> Plain<P> {
     }
 
     /// Counts a turn that was stopped once its rule was looked up, and stops hart `h`.
+    #[cold]
+    #[inline(never)]
     fn stop_asked(&mut self, h: u32, why: Stop) -> TurnEnd
         requires { h < length self.old.machine.core.harts }
         ensures standing { self.new ≡ after_asked self.old (stopped_at self.old.machine h why) }
@@ -309,7 +321,8 @@ impl<P: Policy> Plain<P> {
     }
 
     /// A turn of hart `h`, whichever it is. It stays a call: few turns fail a check, or make an ECALL or an EBREAK, and every turn's code
-    /// would be larger by what those take.
+    /// would be larger by what those take. That it is rare is told to the compiler, which else spares registers for it at every turn.
+    #[cold]
     #[inline(never)]
     #[tactic(auto)]
     fn rare_turn(&mut self, h: u32, feed: &mut Feed) -> TurnEnd

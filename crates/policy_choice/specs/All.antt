@@ -40,8 +40,8 @@ all = both (maybe sealing) (both (maybe compartments) (both (maybe flow) (maybe 
 -- whether two tags are the same
 abbrev pub all_eq : AllTag → AllTag → Bool
 all_eq x y =
-    option_eq seal_tag.eq-value.it x.0 y.0 && (option_eq compartment_tag.eq-value.it x.1.0 y.1.0
-    && (option_eq flow_tag.eq-value.it x.1.1.0 y.1.1.0 && option_eq heap_tag.eq-value.it x.1.1.1 y.1.1.1))
+    option_eq seal_tag.eq-value.it x.0 y.0 && (option_eq flow_tag.eq-value.it x.1.1.0 y.1.1.0
+    && (option_eq heap_tag.eq-value.it x.1.1.1 y.1.1.1 && option_eq compartment_tag.eq-value.it x.1.0 y.1.0))
 
 -- ---- the start
 

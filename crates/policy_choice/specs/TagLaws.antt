@@ -1,5 +1,5 @@
 -- Tags of all policies together are told apart, since those of each are.
-use Rattle.std.proofs.Common.{◌≡◌, Bool, ◌&&◌, Some, None, IsTrue, refl, ap, ◌∙◌}
+use Rattle.std.proofs.Common.{◌≡◌, Bool, Some, None, refl, ap}
 use Rattle.std.proofs.lemmas.Bool.{and_parts}
 use Rattle.std.specs.Option.{option_eq}
 use Rattle.pump_words.specs.Same.{TellsApart}
@@ -15,13 +15,13 @@ option_tells eq tells (Some x) (Some y) same = ap (λ z. Some z) (tells x y same
 option_tells eq tells None (Some y) same = absurd (cc same)
 option_tells eq tells (Some x) None same = absurd (cc same)
 
-pair_tells : {T U : Type 0} (eq : T → T → Bool) (also : U → U → Bool) → TellsApart eq → TellsApart also
-    → (a b : T × U) → IsTrue (eq a.0 b.0 && also a.1 b.1) → a ≡ b
-pair_tells eq also tells also_tells a b same =
-    let each = and_parts (eq a.0 b.0) (also a.1 b.1) same in
-    ap (λ first. (first, a.1)) (tells a.0 b.0 each.0) ∙ ap (λ second. (b.0, second)) (also_tells a.1 b.1 each.1)
-
 pub all_tell : TellsApart all_eq
-all_tell =
-    pair_tells _ _ (option_tells _ seal_tag.same-law) (pair_tells _ _ (option_tells _ compartment_tag.same-law)
-    (pair_tells _ _ (option_tells _ flow_tag.same-law) (option_tells _ heap_tag.same-law)))
+all_tell a b same =
+    let first = and_parts _ _ same in
+    let second = and_parts _ _ first.1 in
+    let third = and_parts _ _ second.1 in
+    let seal = option_tells _ seal_tag.same-law a.0 b.0 first.0 in
+    let comp = option_tells _ compartment_tag.same-law a.1.0 b.1.0 third.1 in
+    let flow = option_tells _ flow_tag.same-law a.1.1.0 b.1.1.0 second.0 in
+    let heap = option_tells _ heap_tag.same-law a.1.1.1 b.1.1.1 third.0 in
+    λ i. (seal i, (comp i, (flow i, heap i)))

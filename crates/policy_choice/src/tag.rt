@@ -20,12 +20,13 @@ pub type PartTags = (
 );
 
 /// A tag of all policies together: a component for each, missing where the policy is off. Contracts see it as nested pairs.
+// The component of compartments is last: it stands at a multiple of 8, and before the others it would leave 8 bytes unused.
 #[derive(Clone, Copy, PartialEq, Eq, PartialOrd, Ord, Hash)]
 pub struct AllTag {
     pub(crate) seal: Option<SealTag>,
-    pub(crate) comp: Option<CompartmentTag>,
     pub(crate) flow: Option<FlowTag>,
     pub(crate) heap: Option<HeapTag>,
+    pub(crate) comp: Option<CompartmentTag>,
 }
 
 impl Model for AllTag {

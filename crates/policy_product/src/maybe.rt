@@ -30,6 +30,7 @@ impl<T: Copy> TagMap for Reading<T> {
 
     ghost image = { λ reading. tag_or reading.plain };
 
+    #[inline(always)]
     fn image(&self, tag: Option<T>) -> T {
         match tag {
             None => self.plain,
@@ -39,6 +40,7 @@ impl<T: Copy> TagMap for Reading<T> {
 }
 
 /// How the policy reads tags that may be missing.
+#[inline(always)]
 fn reading_of<P: Policy>(part: &P) -> Reading<P::Tag>
     ensures { result ≡ record { plain = P.model.plain part.now } }
 {
@@ -60,6 +62,7 @@ impl<T: Copy> TagMap for Present<T> {
 
     ghost image = { λ present. some_tag };
 
+    #[inline(always)]
     fn image(&self, tag: T) -> Option<T> {
         Some(tag)
     }

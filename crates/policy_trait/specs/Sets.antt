@@ -1,7 +1,10 @@
 -- Sets of compartments, each a bit for each compartment.
 use Rattle.std.specs.Prelude.{ℕ, ◌/◌, ◌%◌, ◌^◌, ◌==◌, nat_lt, Bool, bit_or, List, ◌++◌, if◌then◌else◌}
 use Rattle.pump_words.specs.Texts.{hex8_text}
-use Rattle.policy_trait.specs.declared.sets.CompartmentSet.{CompartmentSet}
+
+-- a set of compartments, by its bits
+pub record CompartmentSet : Type 0 where
+  pub bits : ℕ
 
 -- the set of the compartments whose bits are 1
 abbrev pub set_of : ℕ → CompartmentSet

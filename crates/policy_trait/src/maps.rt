@@ -21,6 +21,7 @@ pub trait TagMap {
 
 impl<T: Copy> Ins<T> {
     /// The inputs with each tag changed.
+    #[inline(always)]
     pub fn map<M: TagMap<From = T>>(&self, map: &M) -> Ins<M::To>
         ensures { result ≡ ins_by (M.image map.now) self.now }
     {
@@ -36,6 +37,7 @@ impl<T: Copy> Ins<T> {
 
 impl<T: Copy> Outs<T> {
     /// The outputs with each tag changed.
+    #[inline(always)]
     pub fn map<M: TagMap<From = T>>(&self, map: &M) -> Outs<M::To>
         ensures { result ≡ outs_by (M.image map.now) self.now }
     {

@@ -557,7 +557,8 @@ impl<P: Policy, T: TagTable<Tag = P::Tag>, C: RuleStore> Pump<P, T, C> {
     }
 
     /// A turn of hart `h`, whichever it is. It stays a call: few turns fail a check, or make an ECALL or an EBREAK, and every turn's code
-    /// would be larger by what those take.
+    /// would be larger by what those take. That it is rare is told to the compiler, which else spares registers for it at every turn.
+    #[cold]
     #[inline(never)]
     #[tactic(auto)]
     fn rare_turn(&mut self, h: u32, feed: &mut Feed) -> TurnEnd

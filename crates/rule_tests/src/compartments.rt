@@ -73,14 +73,15 @@ fn rules_of_stores(rt: HostRuntime) {
         (PLAIN, false),
         (pc(5, false), false),
     ];
-    for (word, allowed) in rows {
+    for (word, allowed) in &rows {
         // compartment 2 has jumped to a word of compartment 5, which is the one that stores
-        let stored = inputs(pc(2, true), place(5, 0b100, 0), word);
-        let outs = allowed.then_some((pc(5, false), word));
-        assert!(rt; is_answered(Group::StoreWord, stored, outs));
-        assert!(rt; is_answered(Group::StorePart, stored, outs));
+        for group in [Group::StoreWord, Group::StorePart] {
+            let stored = inputs(pc(2, true), place(5, 0b100, 0), *word);
+            let outs = allowed.then_some((pc(5, false), *word));
+            assert!(rt; is_answered(group, stored, outs));
+        }
         // a load asks nothing of its word
-        let loaded = inputs(pc(5, false), place(5, 0, 0), word);
+        let loaded = inputs(pc(5, false), place(5, 0, 0), *word);
         assert!(rt; is_answered(Group::LoadWord, loaded, Some((pc(5, false), PLAIN))));
     }
 }
@@ -222,13 +223,11 @@ fn consent_to_zeroing(rt: HostRuntime) {
         (pc(2, false), PLAIN, false),
         (PLAIN, place(0, 0, u128::MAX), false),
     ];
-    for (pc, old, consents) in rows {
-        let expected = if consents {
-            Ok(old)
-        } else {
-            Err(refused(Part::Comp, Why::Consent))
-        };
-        assert!(rt; policy.wipe(pc, old) == expected);
+    for (pc, old, consents) in &rows {
+        let expected = consents
+            .then_some(*old)
+            .ok_or(refused(Part::Comp, Why::Consent));
+        assert!(rt; policy.wipe(*pc, *old) == expected);
     }
 }
 

@@ -265,7 +265,8 @@ pub fn decode(word: u32) -> Option<Instr>
     decode_fields(word)
 }
 
-// By the opcode, and then by f3 and f7 where the opcode leaves a choice.
+// By the opcode, and then by f3 and f7 where the opcode leaves a choice. A FENCE is matched, and not handed through `map`, which
+// would copy it as one number of 64 bits: the compiler would know no case apart from the others then, on each turn.
 #[tactic(auto, unfolding(crate::specs::Decoding::instr_of_word))]
 #[inline(always)]
 fn decode_fields(word: u32) -> Option<Instr>
@@ -290,7 +291,10 @@ fn decode_fields(word: u32) -> Option<Instr>
         0x23 => decode_store(word),
         0x13 => decode_with_immediate(word),
         0x33 => decode_with_registers(word),
-        0x0F => FenceWord::new(word).map(|word| Instr::Fence { word }),
+        0x0F => match FenceWord::new(word) {
+            Some(word) => Some(Instr::Fence { word }),
+            None => None,
+        },
         0x73 => decode_system(word),
         _ => None,
     }

@@ -101,6 +101,7 @@ fn system_look<T: Copy>(hart: &Hart<T>, word: u32, instr: &Instr) -> Look
 
 /// What the hart is about to do, where every check passes and it makes neither an ECALL nor an EBREAK, the SYSTEM instructions (RISC-V
 /// unprivileged ISA); `None` else. Whether it makes one is asked of the instruction: the compiler knows that from its decoding.
+// It looks at the instruction where its decoding left it: a copy would be one number of 64 bits, whose case the compiler doesn't know.
 #[inline(always)]
 #[tactic(auto, using(crate::proofs::StepLemmas::step_checked), unfolding(crate::specs::Looks::look_result))]
 pub fn step_look<T: Copy>(hart: &Hart<T>, ram: &Ram<T>) -> Option<Look>
@@ -113,13 +114,14 @@ pub fn step_look<T: Copy>(hart: &Hart<T>, ram: &Ram<T>) -> Option<Look>
     let Ok(word) = fetch(hart, ram) else {
         return None;
     };
-    let Ok(instr) = decoded(word) else {
+    let found = decode(word);
+    let Some(instr) = &found else {
         return None;
     };
-    if is_system(&instr) {
+    if is_system(instr) {
         return None;
     }
-    match checked(hart, ram, word, &instr) {
+    match checked(hart, ram, word, instr) {
         Ok(look) => Some(look),
         Err(_) => None,
     }
