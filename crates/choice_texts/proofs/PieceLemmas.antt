@@ -85,7 +85,7 @@ seal_piece seals.Data small = record { some = omega arith; bare = refl }
 seal_piece (seals.Key k) small = record { some = omega arith; bare = bare_within (codes "key(") (decimal k) (codes ")") refl (bare_number k small) refl }
 seal_piece (seals.Sealed k) small = record { some = omega arith; bare = bare_within (codes "sealed(") (decimal k) (codes ")") refl (bare_number k small) refl }
 
-bare_pc : (owner : ℕ) (jumped : Bool) → owner < 2 ^ 32 → is_bare (compartment_text (places.Pc owner jumped)) ≡ true
+bare_pc : (owner : ℕ) (jumped : Bool) → owner < 2 ^ 32 → is_bare (compartment_text (places.Pc jumped owner)) ≡ true
 bare_pc owner true small = bare_within (codes "pc(") (decimal owner) (codes ",j)") refl (bare_number owner small) refl
 bare_pc owner false small = bare_within (codes "pc(") (decimal owner) (codes ",-)") refl (bare_number owner small) refl
 
@@ -98,7 +98,7 @@ bare_place owner into write small =
 
 pub comp_piece : (x : CompartmentTag) → HasFittingNumbers x → IsPiece (compartment_text x)
 comp_piece places.Plain small = record { some = omega arith; bare = refl }
-comp_piece (places.Pc owner jumped) small = record { some = omega arith; bare = bare_pc owner jumped small }
+comp_piece (places.Pc jumped owner) small = record { some = omega arith; bare = bare_pc owner jumped small }
 comp_piece (places.Place owner into write) small = record { some = omega arith; bare = bare_place owner into.bits write.bits small.0 }
 
 bare_label : (label : Option ℕ) → ForSome label (λ number. number < 2 ^ 32) → is_bare (label_text label) ≡ true

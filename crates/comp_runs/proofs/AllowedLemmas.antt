@@ -61,17 +61,17 @@ module _ (old : Standing) (s : Machine CompartmentState CompartmentTag) (invaria
     core_after = with_hart s.core h hart ram
 
     abbrev HasPc : ℕ → Type 0
-    HasPc n = (hart_at core_after n).pc_tag ≡ Pc ((stands_after old e).last n).owner ((stands_after old e).last n).jumped
+    HasPc n = (hart_at core_after n).pc_tag ≡ Pc ((stands_after old e).last n).jumped ((stands_after old e).last n).owner
 
     pc_here : HasPc h
     pc_here =
         ap (λ (x : HartState CompartmentTag). x.pc_tag) (hart_same s.core h hart ram (there s.core h allows.ready)) ∙ pc ∙ obeys_rule.pc
-        ∙ ap (λ (last : Last). Pc last.owner last.jumped) (sym last_here)
+        ∙ ap (λ (last : Last). Pc last.jumped last.owner) (sym last_here)
 
     pc_elsewhere : (n : ℕ) → n ≢ h → is_ready_in s.core n ≡ true → HasPc n
     pc_elsewhere n differs ready =
         ap (λ (x : HartState CompartmentTag). x.pc_tag) (hart_other s.core h n hart ram differs plain) ∙ invariant.pcs n ready
-        ∙ ap (λ (last : Last). Pc last.owner last.jumped) (sym (last_elsewhere n differs))
+        ∙ ap (λ (last : Last). Pc last.jumped last.owner) (sym (last_elsewhere n differs))
 
     pub pcs_after : (n : ℕ) → is_ready_in core_after n ≡ true → HasPc n
     pcs_after n ready = by_hart (cases_eq n h)

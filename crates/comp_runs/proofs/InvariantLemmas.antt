@@ -19,7 +19,7 @@ use Rattle.comp_runs.proofs.StandingLemmas.{owners_are, stands_next}
 
 pub record Stands (standing : Standing) (s : Machine CompartmentState CompartmentTag) : Type 0 where
   pub words : (n : ℕ) → n < length s.core.ram.words → IsKnown s.policy.count (nth_tag s.core.ram n) (standing.owners n)
-  pub pcs : (h : ℕ) → is_ready_in s.core h ≡ true → (hart_at s.core h).pc_tag ≡ Pc (standing.last h).owner (standing.last h).jumped
+  pub pcs : (h : ℕ) → is_ready_in s.core h ≡ true → (hart_at s.core h).pc_tag ≡ Pc (standing.last h).jumped (standing.last h).owner
 
 pub record Guarantees (standing : Standing) (e : Event CompartmentTag) : Type 0 where
   pub writes : is_retirement e ≡ true → WritesByRight standing.owners e

@@ -20,7 +20,7 @@ use Rattle.comp_runs.specs.OwnerBook.{Owned}
 -- an instruction of a word so owned is allowed after one of compartment `from`
 pub record Obeys (from : ℕ) (jumped : Bool) (owned : Owned) (g : Group) (tm : CompartmentTag) (outs : Outs CompartmentTag) : Type 0 where
   pub follows : MayFollow from jumped owned
-  pub pc : outs.pc ≡ Pc owned.owner (is_jumping g)
+  pub pc : outs.pc ≡ Pc (is_jumping g) owned.owner
   pub stores : is_store g ≡ true → may_write owned.owner tm ≡ true
   pub result : is_store g ≡ true → outs.result ≡ tm
 
@@ -46,7 +46,7 @@ left_by false tm is = absurd cc
 
 -- the answer where nothing refuses
 abbrev outs_of : ℕ → Group → CompartmentTag → Outs CompartmentTag
-outs_of owner g tm = record { pc = Pc owner (is_jumping g); result = if is_store g then tm else Plain }
+outs_of owner g tm = record { pc = Pc (is_jumping g) owner; result = if is_store g then tm else Plain }
 
 abbrev allowed : Outs CompartmentTag → Result (Outs CompartmentTag) Refused
 allowed outs = Ok outs
@@ -75,7 +75,7 @@ module _ (from : ℕ) (jumped : Bool) (owned : Owned) (g : Group) (x : Ins Compa
       by_store (not (is_store g) || may_write owned.owner x.tm) refl
       (entered_by (from == owned.owner) (has owned.into from) jumped from owned refl refl is) e
 
-  pub obeys : x.pc ≡ Pc from jumped → x.ci ≡ place_of owned → compartment_rule g x ≡ Ok outs → Obeys from jumped owned g x.tm outs
+  pub obeys : x.pc ≡ Pc jumped from → x.ci ≡ place_of owned → compartment_rule g x ≡ Ok outs → Obeys from jumped owned g x.tm outs
   obeys pc ci e =
       by_entry ((from == owned.owner) || (jumped && has owned.into from)) refl
       (ap (λ tag. run_by (entry_owner tag (place_of owned)) g x) (sym pc) ∙ ap (λ tag. run_by (entry_owner x.pc tag) g x) (sym ci) ∙ e)

@@ -66,7 +66,7 @@ allowed_tag false reason tag new e = absurd cc
 
 given_tag : (number other : ℕ) (pc : CompartmentTag) (owned : Owned) (new : CompartmentTag) → new_place number other pc (place_of owned) ≡ Ok new
     → new ≡ given_by number other owned.owner owned.into owned.write
-given_tag number other (Pc caller jumped) owned new e =
+given_tag number other (Pc jumped caller) owned new e =
     (allowed_tag (caller == owned.owner) why.NotOwner (given_by number other owned.owner owned.into owned.write) new e).same
 given_tag number other Plain owned new e = absurd cc
 given_tag number other (Place owner into write) owned new e = absurd cc

@@ -38,12 +38,12 @@ module _ (old : Standing) (s : Machine CompartmentState CompartmentTag) (invaria
     (outs : Outs CompartmentTag) (e : Event CompartmentTag)
     (allows : Allows compartments s h look outs e) where
   pcs_stopped : IsMachine compartments s → (why : Stop) (n : ℕ) → is_ready_in (stopping s.core h why) n ≡ true
-      → (hart_at s.core n).pc_tag ≡ Pc ((stands_after old e).last n).owner ((stands_after old e).last n).jumped
+      → (hart_at s.core n).pc_tag ≡ Pc ((stands_after old e).last n).jumped ((stands_after old e).last n).owner
   pcs_stopped is why n ready =
       let within : h < length s.core.stops = let below = there s.core h allows.ready in omega (arith, below, is.core.few, is.core.stops) in
       let differs : n ≢ h = λ same. stopped_not_ready s.core h why within (subst (λ m. is_ready_in (stopping s.core h why) m ≡ true) same ready) in
       invariant.pcs n (ready_after s.core h n why ready)
-      ∙ ap (λ (last : Last). Pc last.owner last.jumped) (sym (last_elsewhere old s invariant h look outs e allows n differs))
+      ∙ ap (λ (last : Last). Pc last.jumped last.owner) (sym (last_elsewhere old s invariant h look outs e allows n differs))
 
   pub exited : IsMachine compartments s → (code : ℕ) → service_of e ≡ None → look.effect.access ≡ access.None
       → IsKept old e (stopped_at s h (stop.Exit code))

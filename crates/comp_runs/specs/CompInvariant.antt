@@ -46,4 +46,4 @@ module _ (birth : ℕ → Birth) (entries : List ℕ) where
     pub tags : (n : ℕ) → n < length s.core.ram.words → slice_index_or s.core.ram.tags n s.core.ram.plain ≡ place_of ((standing_of events).owners n)
     pub few : (n : ℕ) → n < length s.core.ram.words → ((standing_of events).owners n).owner < s.policy.count
     pub pcs : (h : ℕ) → is_ready_in s.core h ≡ true
-        → (hart_at s.core h).pc_tag ≡ Pc ((standing_of events).last h).owner ((standing_of events).last h).jumped
+        → (hart_at s.core h).pc_tag ≡ Pc ((standing_of events).last h).jumped ((standing_of events).last h).owner

@@ -53,9 +53,9 @@ cut_mask c m n ys vs below m_fits n_fits e = cut_by (nat_lt m (2 ^ 32)) (nat_lt 
 -- ---- the tags
 
 pc_apart : (m n : ℕ) (i j : Bool) → m < 2 ^ 32 → n < 2 ^ 32
-    → decimal m ++ (if i then codes ",j)" else codes ",-)") ≡ decimal n ++ (if j then codes ",j)" else codes ",-)") → Pc m i ≡ Pc n j
-pc_apart m n true true m_fits n_fits e = ap (λ o. Pc o true) (cut_number m n (codes "j)") (codes "j)") m_fits n_fits e).0
-pc_apart m n false false m_fits n_fits e = ap (λ o. Pc o false) (cut_number m n (codes "-)") (codes "-)") m_fits n_fits e).0
+    → decimal m ++ (if i then codes ",j)" else codes ",-)") ≡ decimal n ++ (if j then codes ",j)" else codes ",-)") → Pc i m ≡ Pc j n
+pc_apart m n true true m_fits n_fits e = ap (λ o. Pc true o) (cut_number m n (codes "j)") (codes "j)") m_fits n_fits e).0
+pc_apart m n false false m_fits n_fits e = ap (λ o. Pc false o) (cut_number m n (codes "-)") (codes "-)") m_fits n_fits e).0
 pc_apart m n true false m_fits n_fits e =
     let h = ap (λ (l : List ℕ). get_or l 0 0) (cut_number m n (codes "j)") (codes "-)") m_fits n_fits e).1 in absurd (omega (arith, h))
 pc_apart m n false true m_fits n_fits e =
@@ -85,7 +85,7 @@ place_apart m n i j v w left right e =
 
 pub text_apart : (x y : CompartmentTag) → HasFittingNumbers x → HasFittingNumbers y → compartment_text x ≡ compartment_text y → x ≡ y
 text_apart Plain Plain left right e = refl
-text_apart (Pc m i) (Pc n j) left right e = pc_apart m n i j left right (append_cancel_left (codes "pc(") _ _ e)
+text_apart (Pc i m) (Pc j n) left right e = pc_apart m n i j left right (append_cancel_left (codes "pc(") _ _ e)
 text_apart (Place m i v) (Place n j w) left right e = place_apart m n i j v w left right e
 text_apart _ _ left right e =
     let second = ap (λ (l : List ℕ). get_or l 1 0) e in

@@ -18,12 +18,12 @@ abbrev closed : CompartmentTag
 closed = tag.Place 0 (set_of 0) (set_of 0)
 
 abbrev all_at_home : Ins CompartmentTag
-all_at_home = record { pc = tag.Pc 0 false; ci = closed; t1 = tag.Plain; t2 = tag.Plain; tm = closed }
+all_at_home = record { pc = tag.Pc false 0; ci = closed; t1 = tag.Plain; t2 = tag.Plain; tm = closed }
 
 abbrev Differs : Input → Type 0
 Differs i = (g : Group) → is_ignored (compartment_ignores g) i ≡ false → ¬ (compartment_rule g (with_input i tag.Plain all_at_home) ≡ compartment_rule g all_at_home)
 
-allowed : (g : Group) → compartment_rule g all_at_home ≡ Ok (record { pc = tag.Pc 0 (is_jump g); result = if is_store g then closed else tag.Plain })
+allowed : (g : Group) → compartment_rule g all_at_home ≡ Ok (record { pc = tag.Pc (is_jump g) 0; result = if is_store g then closed else tag.Plain })
 allowed g = rw (or-true (not (is_store g))) refl
 
 differs : (i : Input) → Differs i

@@ -49,9 +49,9 @@ refused_for reason = record { part = Comp; why = reason }
 -- the owner of the instruction's word, where the pc may go there: from a word of the same owner, or by a jump from a
 -- compartment that the word lets in
 abbrev pub entry_owner : CompartmentTag → CompartmentTag → Option ℕ
-entry_owner (Pc from jumped) (Place owner into write) = if (from == owner) || (jumped && has into from) then Some owner else None
-entry_owner (Pc from jumped) Plain = None
-entry_owner (Pc from jumped) (Pc owner also) = None
+entry_owner (Pc jumped from) (Place owner into write) = if (from == owner) || (jumped && has into from) then Some owner else None
+entry_owner (Pc jumped from) Plain = None
+entry_owner (Pc jumped from) (Pc also owner) = None
 entry_owner Plain instruction = None
 entry_owner (Place owner into write) instruction = None
 
@@ -59,7 +59,7 @@ entry_owner (Place owner into write) instruction = None
 abbrev pub may_write : ℕ → CompartmentTag → Bool
 may_write compartment (Place owner into write) = (owner == compartment) || has write compartment
 may_write compartment Plain = false
-may_write compartment (Pc owner jumped) = false
+may_write compartment (Pc jumped owner) = false
 
 abbrev pub is_jump : Group → Bool
 is_jump group.Jal = true
@@ -76,7 +76,7 @@ abbrev pub run_by : Option ℕ → Group → Ins CompartmentTag → Result (Outs
 run_by None g x = Err (refused_for (why.Rule g))
 run_by (Some owner) g x =
     if not (is_store g) || may_write owner x.tm
-    then Ok (record { pc = Pc owner (is_jump g); result = if is_store g then x.tm else Plain })
+    then Ok (record { pc = Pc (is_jump g) owner; result = if is_store g then x.tm else Plain })
     else Err (refused_for (why.Rule g))
 
 abbrev pub compartment_rule : Group → Ins CompartmentTag → Result (Outs CompartmentTag) Refused
@@ -88,7 +88,7 @@ compartment_ignores g = record { pc = false; ci = false; t1 = true; t2 = true; t
 
 -- the pc's tag is that of a compartment that may write a word with the other tag
 abbrev pub is_writer : CompartmentTag → CompartmentTag → Bool
-is_writer (Pc owner jumped) word = may_write owner word
+is_writer (Pc jumped owner) word = may_write owner word
 is_writer Plain word = false
 is_writer (Place owner into write) word = false
 
@@ -168,10 +168,10 @@ given_by number other owner into write =
 
 -- the caller owns the ECALL's word, and has to own each word of the range
 abbrev pub new_place : ℕ → ℕ → CompartmentTag → CompartmentTag → Result CompartmentTag Refused
-new_place number other (Pc caller jumped) (Place owner into write) =
+new_place number other (Pc jumped caller) (Place owner into write) =
     if caller == owner then Ok (given_by number other owner into write) else Err (refused_for why.NotOwner)
-new_place number other (Pc caller jumped) Plain = Err (refused_for why.NotOwner)
-new_place number other (Pc caller jumped) (Pc owner also) = Err (refused_for why.NotOwner)
+new_place number other (Pc jumped caller) Plain = Err (refused_for why.NotOwner)
+new_place number other (Pc jumped caller) (Pc also owner) = Err (refused_for why.NotOwner)
 new_place number other Plain old = Err (refused_for why.NotOwner)
 new_place number other (Place owner into write) old = Err (refused_for why.NotOwner)
 
@@ -183,14 +183,14 @@ compartment_commit state plan = record state { count = if plan.service == split_
 
 abbrev pub compartment_text : CompartmentTag → List ℕ
 compartment_text Plain = codes "plain"
-compartment_text (Pc owner jumped) = codes "pc(" ++ decimal owner ++ (if jumped then codes ",j)" else codes ",-)")
+compartment_text (Pc jumped owner) = codes "pc(" ++ decimal owner ++ (if jumped then codes ",j)" else codes ",-)")
 compartment_text (Place owner into write) =
     codes "place(" ++ decimal owner ++ codes "," ++ mask_text into.bits ++ codes "," ++ mask_text write.bits ++ codes ")"
 
 -- a tag whose owner is a word and whose sets have 128 bits, as a program's are
 abbrev pub HasFittingNumbers : CompartmentTag → Type 0
 HasFittingNumbers Plain = Unit {0}
-HasFittingNumbers (Pc owner jumped) = owner < 2 ^ 32
+HasFittingNumbers (Pc jumped owner) = owner < 2 ^ 32
 HasFittingNumbers (Place owner into write) = (owner < 2 ^ 32) × (into.bits < 2 ^ 128) × (write.bits < 2 ^ 128)
 
 abbrev pub compartments : PolicyModel CompartmentTag CompartmentState
@@ -206,7 +206,7 @@ compartments = record {
   retag = λ state plan old. new_place plan.service plan.note plan.pc old;
   wipe = λ state pc old. compartment_wipe pc old;
   commit = compartment_commit;
-  start_pc = λ state birth. Pc birth.owner false;
+  start_pc = λ state birth. Pc false birth.owner;
   start_word = λ state birth. Place birth.owner birth.into birth.write;
   text = λ state tag. compartment_text tag;
   listed = λ state place. None;

@@ -10,7 +10,7 @@ use crate::rules::{entered, is_jump, is_store, is_writer, may_write, refused};
 use crate::services::{LET_IN, LET_WRITE, SPLIT, let_other, retagged, split};
 use crate::tag::CompartmentTag;
 use policy_trait::{
-    Args, Birth, CompartmentSet, Ins, Mask, Outs, Part, Plan, PlanEnd, Policy, Refused, Why,
+    Args, Birth, CompartmentSet, Ins, InsAt, Mask, Outs, Part, Plan, PlanEnd, Policy, Refused, Why,
 };
 use pump_words::{Line, dec, write_text};
 use rv_decode::Group;
@@ -73,6 +73,20 @@ impl Policy for Compartments {
     ) -> Result<Outs<CompartmentTag>, Refused>
         ensures { result ≡ compartments.rule self.now group inputs }
     {
+        self.rule_at(
+            group,
+            &InsAt::new(&inputs.pc, &inputs.ci, &inputs.t1, &inputs.t2, &inputs.tm),
+        )
+    }
+
+    #[inline(always)]
+    fn rule_at(
+        &self,
+        group: Group,
+        inputs: &InsAt<'_, CompartmentTag>,
+    ) -> Result<Outs<CompartmentTag>, Refused>
+        ensures { result ≡ compartments.rule self.now group inputs.now }
+    {
         match entered(inputs.pc, inputs.ci) {
             Some(owner) if !is_store(group) || may_write(owner, inputs.tm) => Ok(Outs {
                 pc: CompartmentTag::Pc {
@@ -80,7 +94,7 @@ impl Policy for Compartments {
                     jumped: is_jump(group),
                 },
                 result: if is_store(group) {
-                    inputs.tm
+                    inputs.tm.copied()
                 } else {
                     CompartmentTag::Plain
                 },
@@ -137,7 +151,7 @@ impl Policy for Compartments {
     fn wipe(&self, pc: CompartmentTag, old: CompartmentTag) -> Result<CompartmentTag, Refused> {
         // serves the proof alone: what is asked of has been handed on
         let kept = old;
-        if is_writer(pc, old) {
+        if is_writer(&pc, &old) {
             Ok(kept)
         } else {
             Err(refused(Why::Consent))

@@ -9,9 +9,9 @@ use rv_decode::Group;
 
 /// The owner of the instruction's word, where the pc may go there: from a word of the same owner, or by a jump from a
 /// compartment that the word lets in.
-#[inline(always)]
-pub(crate) fn entered(pc: CompartmentTag, instruction: CompartmentTag) -> Option<u32>
-    ensures { result ≡ entry_owner pc instruction }
+#[inline]
+pub(crate) fn entered(pc: &CompartmentTag, instruction: &CompartmentTag) -> Option<u32>
+    ensures { result ≡ entry_owner pc.now instruction.now }
 {
     let CompartmentTag::Pc {
         owner: from,
@@ -23,27 +23,27 @@ pub(crate) fn entered(pc: CompartmentTag, instruction: CompartmentTag) -> Option
     let CompartmentTag::Place { owner, into, .. } = instruction else {
         return None;
     };
-    (from == owner || (jumped && into.has(from))).then_some(owner)
+    (*from == *owner || (*jumped && into.has(*from))).then_some(*owner)
 }
 
 /// Whether the compartment may write a word with this tag: one of its own, or one that lets it write.
-pub(crate) fn may_write(compartment: u32, word: CompartmentTag) -> bool
-    ensures { result ≡ may_write compartment word }
+pub(crate) fn may_write(compartment: u32, word: &CompartmentTag) -> bool
+    ensures { result ≡ may_write compartment word.now }
 {
     match word {
         CompartmentTag::Place { owner, write, .. } => {
-            owner == compartment || write.has(compartment)
+            *owner == compartment || write.has(compartment)
         }
         _ => false,
     }
 }
 
 /// Whether the pc's tag is that of a compartment that may write a word with the other tag.
-pub(crate) fn is_writer(pc: CompartmentTag, word: CompartmentTag) -> bool
-    ensures { result ≡ is_writer pc word }
+pub(crate) fn is_writer(pc: &CompartmentTag, word: &CompartmentTag) -> bool
+    ensures { result ≡ is_writer pc.now word.now }
 {
     match pc {
-        CompartmentTag::Pc { owner, .. } => may_write(owner, word),
+        CompartmentTag::Pc { owner, .. } => may_write(*owner, word),
         _ => false,
     }
 }

@@ -1,5 +1,7 @@
 //! The tags of the policy of compartments.
 
+ghost use Rattle.std.specs.Prelude.{◌≡◌};
+
 use policy_trait::CompartmentSet;
 use pump_words::Same;
 
@@ -10,10 +12,10 @@ pub enum CompartmentTag {
     Plain,
     /// The tag of the pc.
     Pc {
-        /// The compartment that owns the last instruction's word.
-        owner: u32,
         /// Whether the last instruction was a JAL or a JALR.
         jumped: bool,
+        /// The compartment that owns the last instruction's word.
+        owner: u32,
     },
     /// The tag of a memory word.
     Place {
@@ -24,6 +26,27 @@ pub enum CompartmentTag {
         /// The compartments that may write the word.
         write: CompartmentSet,
     },
+}
+
+impl CompartmentTag {
+    /// The same tag, its sets copied by their halves (`CompartmentSet::copied`).
+    #[inline]
+    pub fn copied(&self) -> CompartmentTag
+        ensures { result ≡ self.now }
+    {
+        match self {
+            CompartmentTag::Plain => CompartmentTag::Plain,
+            CompartmentTag::Pc { jumped, owner } => CompartmentTag::Pc {
+                jumped: *jumped,
+                owner: *owner,
+            },
+            CompartmentTag::Place { owner, into, write } => CompartmentTag::Place {
+                owner: *owner,
+                into: into.copied(),
+                write: write.copied(),
+            },
+        }
+    }
 }
 
 impl Same for CompartmentTag {

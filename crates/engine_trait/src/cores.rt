@@ -133,7 +133,7 @@ impl<T: Copy> Core<T> {
     }
 
     /// Where the five tags of `inputs` stand.
-    #[inline(always)]
+    #[inline]
     pub fn inputs_at(&self, h: u32, look: &Look) -> InsAt<'_, T>
         requires hart { h < length self.now.harts }
         requires within { (hart_at self.now h).pc + 4 ≤ ram_bytes self.now.ram }

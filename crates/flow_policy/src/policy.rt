@@ -7,7 +7,9 @@ ghost use Rattle.flow_policy.specs.Flow.{entry_label, flow, is_edge, label_text,
 
 use crate::table::{effect_of, is_data, label_of, refused};
 use crate::tag::FlowTag;
-use policy_trait::{Args, Birth, Ins, Mask, Outs, Part, Plan, PlanEnd, Policy, Refused, Why};
+use policy_trait::{
+    Args, Birth, Ins, InsAt, Mask, Outs, Part, Plan, PlanEnd, Policy, Refused, Why,
+};
 use pump_words::{Line, dec, write_text};
 use rv_decode::Group;
 use std::alloc::{AllocError, Global};
@@ -93,9 +95,19 @@ impl Policy for Flow {
     fn rule(&self, group: Group, inputs: Ins<FlowTag>) -> Result<Outs<FlowTag>, Refused>
         ensures { result ≡ flow.rule self.now group inputs }
     {
-        match self.entered(inputs.pc, inputs.ci) {
+        self.rule_at(
+            group,
+            &InsAt::new(&inputs.pc, &inputs.ci, &inputs.t1, &inputs.t2, &inputs.tm),
+        )
+    }
+
+    #[inline(always)]
+    fn rule_at(&self, group: Group, inputs: &InsAt<'_, FlowTag>) -> Result<Outs<FlowTag>, Refused>
+        ensures { result ≡ flow.rule self.now group inputs.now }
+    {
+        match self.entered(*inputs.pc, *inputs.ci) {
             Some(label) => effect_of(group)
-                .outs(label, inputs.tm)
+                .outs(label, *inputs.tm)
                 .ok_or(refused(Why::Rule(group))),
             None => Err(refused(Why::Rule(group))),
         }

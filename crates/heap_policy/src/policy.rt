@@ -11,7 +11,7 @@ use crate::table::{effect_of, is_static, is_val, refused, wiped};
 use crate::tag::{Content, HeapTag};
 use live_blocks::{Block, LiveBlocks};
 use policy_trait::{
-    Args, Birth, Ins, Mask, Outs, Part, Plan, PlanEnd, Policy, Refused, Why, Words,
+    Args, Birth, Ins, InsAt, Mask, Outs, Part, Plan, PlanEnd, Policy, Refused, Why, Words,
 };
 use pump_words::{Line, dec, write_text};
 use rv_decode::Group;
@@ -126,8 +126,18 @@ impl Policy for Heap {
     fn rule(&self, group: Group, inputs: Ins<HeapTag>) -> Result<Outs<HeapTag>, Refused>
         ensures { result ≡ heap.rule self.now group inputs }
     {
-        let result = if is_static(inputs.ci) {
-            effect_of(group).result(inputs.t1, inputs.t2, inputs.tm)
+        self.rule_at(
+            group,
+            &InsAt::new(&inputs.pc, &inputs.ci, &inputs.t1, &inputs.t2, &inputs.tm),
+        )
+    }
+
+    #[inline(always)]
+    fn rule_at(&self, group: Group, inputs: &InsAt<'_, HeapTag>) -> Result<Outs<HeapTag>, Refused>
+        ensures { result ≡ heap.rule self.now group inputs.now }
+    {
+        let result = if is_static(*inputs.ci) {
+            effect_of(group).result(*inputs.t1, *inputs.t2, *inputs.tm)
         } else {
             None
         };

@@ -32,6 +32,7 @@ pub enum ServeEnd {
 }
 
 /// Plans the service and asks for the new tag of each word of the plan's range, in ascending order. Nothing changes.
+#[inline(always)]
 #[tactic(auto, unfolding(crate::specs::Service::service_job))]
 pub fn serve<P: Policy, W: View<Tag = P::Tag>>(
     alloc: Global,

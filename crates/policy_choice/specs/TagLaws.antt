@@ -1,5 +1,5 @@
 -- Tags of all policies together are told apart, since those of each are.
-use Rattle.std.proofs.Common.{◌≡◌, Bool, Some, None, refl, ap}
+use Rattle.std.proofs.Common.{Bool, Some, None, refl, ap}
 use Rattle.std.proofs.lemmas.Bool.{and_parts}
 use Rattle.std.specs.Option.{option_eq}
 use Rattle.pump_words.specs.Same.{TellsApart}

@@ -15,7 +15,7 @@ use crate::tag::{
     AllTag, Comps, Flows, Heaps, Seals, comp_among, comp_inputs, comp_plan, flow_among,
     flow_inputs, flow_plan, heap_among, heap_inputs, heap_plan, seal_among, seal_inputs, seal_plan,
 };
-use compartment_policy::Compartments;
+use compartment_policy::{CompartmentTag, Compartments};
 use flow_policy::Flow;
 use heap_policy::Heap;
 use image_format::{CompartmentRows, Edge, Image, OwnedRange};
@@ -137,6 +137,17 @@ pub fn choose(alloc: Global, basis: Basis, image: &Image) -> Result<All, AllocEr
     })
 }
 
+/// The same component.
+#[inline]
+fn copied(comp: &Option<CompartmentTag>) -> Option<CompartmentTag>
+    ensures { result ≡ comp.now }
+{
+    match comp {
+        None => None,
+        Some(tag) => Some(tag.copied()),
+    }
+}
+
 impl Together<AllTag> {
     /// Whether each policy but the owner lends the arguments that the service uses; the policies are asked in order.
     fn lent(&self, number: u32, arguments: &Args<AllTag>) -> Result<(), PlanEnd>
@@ -216,14 +227,14 @@ impl Policy for Together<AllTag> {
     fn rule_at(&self, group: Group, inputs: &InsAt<'_, AllTag>) -> Result<Outs<AllTag>, Refused>
         ensures { result ≡ all.rule self.now group inputs.now }
     {
-        let seal = self.seal.rule(group, seal_inputs(inputs))?;
-        let comp = self.comp.rule(group, comp_inputs(inputs))?;
-        let flow = self.flow.rule(group, flow_inputs(inputs))?;
-        let heap = self.heap.rule(group, heap_inputs(inputs))?;
+        let seal = self.seal.rule_at(group, &seal_inputs(inputs))?;
+        let comp = self.comp.rule_at(group, &comp_inputs(inputs))?;
+        let flow = self.flow.rule_at(group, &flow_inputs(inputs))?;
+        let heap = self.heap.rule_at(group, &heap_inputs(inputs))?;
         Ok(Outs {
             pc: AllTag {
                 seal: seal.pc,
-                comp: comp.pc,
+                comp: copied(&comp.pc),
                 flow: flow.pc,
                 heap: heap.pc,
             },

@@ -8,7 +8,7 @@ use compartment_policy::CompartmentTag;
 use flow_policy::FlowTag;
 use heap_policy::HeapTag;
 use policy_product::rest_of;
-use policy_trait::{Answer, Ins, InsAt, Plan, TagMap};
+use policy_trait::{Answer, InsAt, Plan, TagMap};
 use pump_words::Same;
 use sealing_policy::SealTag;
 use std::marker::Model;
@@ -83,17 +83,11 @@ impl TagMap for Seals {
 
 /// The component of sealing in each of the tags that stand there.
 #[inline]
-pub(crate) fn seal_inputs(inputs: &InsAt<'_, AllTag>) -> Ins<Option<SealTag>>
+pub(crate) fn seal_inputs<'a>(inputs: &'a InsAt<'_, AllTag>) -> InsAt<'a, Option<SealTag>>
     ensures { result ≡ ins_by (λ tag. tag.0) inputs.now }
 {
-    let InsAt { pc, ci, t1, t2, tm } = inputs;
-    Ins {
-        pc: pc.seal,
-        ci: ci.seal,
-        t1: t1.seal,
-        t2: t2.seal,
-        tm: tm.seal,
-    }
+    let InsAt { pc, ci, t1, t2, tm } = *inputs;
+    InsAt::new(&pc.seal, &ci.seal, &t1.seal, &t2.seal, &tm.seal)
 }
 
 /// The plan with the components of sealing.
@@ -153,17 +147,11 @@ impl TagMap for Comps {
 
 /// The component of compartments in each of the tags that stand there.
 #[inline]
-pub(crate) fn comp_inputs(inputs: &InsAt<'_, AllTag>) -> Ins<Option<CompartmentTag>>
+pub(crate) fn comp_inputs<'a>(inputs: &'a InsAt<'_, AllTag>) -> InsAt<'a, Option<CompartmentTag>>
     ensures { result ≡ ins_by (λ tag. tag.1.0) inputs.now }
 {
-    let InsAt { pc, ci, t1, t2, tm } = inputs;
-    Ins {
-        pc: pc.comp,
-        ci: ci.comp,
-        t1: t1.comp,
-        t2: t2.comp,
-        tm: tm.comp,
-    }
+    let InsAt { pc, ci, t1, t2, tm } = *inputs;
+    InsAt::new(&pc.comp, &ci.comp, &t1.comp, &t2.comp, &tm.comp)
 }
 
 /// The plan with the components of compartments.
@@ -223,17 +211,11 @@ impl TagMap for Flows {
 
 /// The component of control flow in each of the tags that stand there.
 #[inline]
-pub(crate) fn flow_inputs(inputs: &InsAt<'_, AllTag>) -> Ins<Option<FlowTag>>
+pub(crate) fn flow_inputs<'a>(inputs: &'a InsAt<'_, AllTag>) -> InsAt<'a, Option<FlowTag>>
     ensures { result ≡ ins_by (λ tag. tag.1.1.0) inputs.now }
 {
-    let InsAt { pc, ci, t1, t2, tm } = inputs;
-    Ins {
-        pc: pc.flow,
-        ci: ci.flow,
-        t1: t1.flow,
-        t2: t2.flow,
-        tm: tm.flow,
-    }
+    let InsAt { pc, ci, t1, t2, tm } = *inputs;
+    InsAt::new(&pc.flow, &ci.flow, &t1.flow, &t2.flow, &tm.flow)
 }
 
 /// The plan with the components of control flow.
@@ -293,17 +275,11 @@ impl TagMap for Heaps {
 
 /// The component of heap safety in each of the tags that stand there.
 #[inline]
-pub(crate) fn heap_inputs(inputs: &InsAt<'_, AllTag>) -> Ins<Option<HeapTag>>
+pub(crate) fn heap_inputs<'a>(inputs: &'a InsAt<'_, AllTag>) -> InsAt<'a, Option<HeapTag>>
     ensures { result ≡ ins_by (λ tag. tag.1.1.1) inputs.now }
 {
-    let InsAt { pc, ci, t1, t2, tm } = inputs;
-    Ins {
-        pc: pc.heap,
-        ci: ci.heap,
-        t1: t1.heap,
-        t2: t2.heap,
-        tm: tm.heap,
-    }
+    let InsAt { pc, ci, t1, t2, tm } = *inputs;
+    InsAt::new(&pc.heap, &ci.heap, &t1.heap, &t2.heap, &tm.heap)
 }
 
 /// The plan with the components of heap safety.

@@ -3,7 +3,9 @@
 ghost use Rattle.std.specs.Prelude.{◌≡◌, ◌≤◌, ◌++◌, Some, None, length};
 ghost use Rattle.policy_product.specs.Maybe.{maybe, some_tag, tag_or};
 
-use policy_trait::{Args, Birth, Ins, Mask, Outs, Part, Plan, PlanEnd, Policy, Refused, TagMap};
+use policy_trait::{
+    Args, Birth, Ins, InsAt, Mask, Outs, Part, Plan, PlanEnd, Policy, Refused, TagMap,
+};
 use pump_words::Line;
 use rv_decode::Group;
 use std::alloc::AllocError;
@@ -36,6 +38,17 @@ impl<T: Copy> TagMap for Reading<T> {
             None => self.plain,
             Some(tag) => tag,
         }
+    }
+}
+
+/// The tag that stands there, or the plain one where it is missing.
+#[inline]
+fn read_at<'a, T>(tag: &'a Option<T>, plain: &'a T) -> &'a T
+    ensures { result.now ≡ tag_or plain.now tag.now }
+{
+    match tag {
+        None => plain,
+        Some(tag) => tag,
     }
 }
 
@@ -95,15 +108,42 @@ impl<P: Policy> Policy for Maybe<P> {
     ) -> Result<Outs<Option<P::Tag>>, Refused>
         ensures { result ≡ (maybe P.model).rule self.now group inputs }
     {
+        self.rule_at(
+            group,
+            &InsAt::new(&inputs.pc, &inputs.ci, &inputs.t1, &inputs.t2, &inputs.tm),
+        )
+    }
+
+    #[inline(always)]
+    fn rule_at(
+        &self,
+        group: Group,
+        inputs: &InsAt<'_, Option<P::Tag>>,
+    ) -> Result<Outs<Option<P::Tag>>, Refused>
+        ensures { result ≡ (maybe P.model).rule self.now group inputs.now }
+    {
         match &self.part {
             None => Ok(Outs {
                 pc: None,
                 result: None,
             }),
-            Some(part) => match part.rule(group, inputs.map(&reading_of(part))) {
-                Ok(outs) => Ok(outs.map(&Present { of: PhantomData })),
-                Err(refused) => Err(refused),
-            },
+            Some(part) => {
+                let plain = part.plain();
+                let read = InsAt::new(
+                    read_at(inputs.pc, &plain),
+                    read_at(inputs.ci, &plain),
+                    read_at(inputs.t1, &plain),
+                    read_at(inputs.t2, &plain),
+                    read_at(inputs.tm, &plain),
+                );
+                match part.rule_at(group, &read) {
+                    Ok(outs) => Ok(Outs {
+                        pc: Some(outs.pc),
+                        result: Some(outs.result),
+                    }),
+                    Err(refused) => Err(refused),
+                }
+            }
         }
     }
 

@@ -65,6 +65,17 @@ impl CompartmentSet {
         }
     }
 
+    /// The same set, copied by its halves: the compiler keeps these in registers, and a copy in one piece in memory.
+    #[inline]
+    pub fn copied(&self) -> CompartmentSet
+        ensures { result ≡ self.now }
+    {
+        CompartmentSet {
+            low: self.low,
+            high: self.high,
+        }
+    }
+
     /// The bit of each compartment.
     pub fn bits(self) -> u128
         ensures { result ≡ self.bits }

@@ -395,6 +395,7 @@ impl<P: Policy, T: TagTable<Tag = P::Tag>, C: RuleStore> Pump<P, T, C> {
     }
 
     /// What the policy's service that hart `h` calls is asked with.
+    #[inline(always)]
     fn service_call(&self, h: u32, outs: OutWords) -> ServiceCall<'_, T>
         requires { h < length self.now.core.harts }
         ensures service { (look : AnyLook) → service_in P.Tag.eq P.model self.now h look outs

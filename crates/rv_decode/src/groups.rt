@@ -65,7 +65,7 @@ pub enum Group {
 
 impl Instr {
     /// The group of the instruction where register a7 holds `a7`, which decides for ECALL alone.
-    #[inline(always)]
+    #[inline]
     pub fn group(&self, a7: u32) -> Group
         ensures { result ≡ group_of self.now a7 }
     {

@@ -187,7 +187,7 @@ impl Instr {
 
     /// The registers of its operands and of its result where register a7 holds `a7`: those that `reads` and `writes`
     /// give, and x0 for each that there is not.
-    #[inline(always)]
+    #[inline]
     pub fn places(&self, a7: u32) -> Places
         ensures { result ≡ places_of self.now a7 }
     {

@@ -9,7 +9,9 @@ ghost use Rattle.sealing_policy.specs.Sealing.{key_plan, sealing};
 use crate::services::{MAKE_KEY, SEAL, UNSEAL, answer, seal, unseal};
 use crate::table::{is_data, refused, row_of};
 use crate::tag::SealTag;
-use policy_trait::{Args, Birth, Ins, Mask, Outs, Part, Plan, PlanEnd, Policy, Refused, Rest, Why};
+use policy_trait::{
+    Args, Birth, Ins, InsAt, Mask, Outs, Part, Plan, PlanEnd, Policy, Refused, Rest, Why,
+};
 use pump_words::{Line, dec, write_text};
 use rv_decode::Group;
 use std::alloc::AllocError;
@@ -66,11 +68,21 @@ impl Policy for Sealing {
     fn rule(&self, group: Group, inputs: Ins<SealTag>) -> Result<Outs<SealTag>, Refused>
         ensures { result ≡ sealing.rule self.now group inputs }
     {
+        self.rule_at(
+            group,
+            &InsAt::new(&inputs.pc, &inputs.ci, &inputs.t1, &inputs.t2, &inputs.tm),
+        )
+    }
+
+    #[inline(always)]
+    fn rule_at(&self, group: Group, inputs: &InsAt<'_, SealTag>) -> Result<Outs<SealTag>, Refused>
+        ensures { result ≡ sealing.rule self.now group inputs.now }
+    {
         let row = row_of(group);
-        if row.is_met(&inputs) {
+        if row.is_met(inputs) {
             Ok(Outs {
                 pc: SealTag::Data,
-                result: row.tag(&inputs),
+                result: row.tag(inputs),
             })
         } else {
             Err(refused(Why::Rule(group)))

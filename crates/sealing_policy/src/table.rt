@@ -4,7 +4,7 @@ ghost use Rattle.std.specs.Prelude.{◌≡◌};
 ghost use Rattle.sealing_policy.specs.Sealing.{free, is_data, is_fit, meets_row, refused_for, row_ignores, row_of, tag_from};
 
 use crate::tag::SealTag;
-use policy_trait::{Ins, Mask, Part, Refused, Why};
+use policy_trait::{InsAt, Mask, Part, Refused, Why};
 use rv_decode::Group;
 
 /// Where the tag of a result is from.
@@ -104,24 +104,24 @@ impl Row {
     }
 
     /// Whether the instruction is data, and all that has to be data.
-    pub(crate) fn is_met(&self, inputs: &Ins<SealTag>) -> bool
+    pub(crate) fn is_met(&self, inputs: &InsAt<'_, SealTag>) -> bool
         ensures { result ≡ meets_row self.now inputs.now }
     {
-        is_data(inputs.ci)
-            && is_fit(self.first, inputs.t1)
-            && is_fit(self.second, inputs.t2)
-            && is_fit(self.word, inputs.tm)
+        is_data(*inputs.ci)
+            && is_fit(self.first, *inputs.t1)
+            && is_fit(self.second, *inputs.t2)
+            && is_fit(self.word, *inputs.tm)
     }
 
     /// The tag of the result.
-    pub(crate) fn tag(&self, inputs: &Ins<SealTag>) -> SealTag
+    pub(crate) fn tag(&self, inputs: &InsAt<'_, SealTag>) -> SealTag
         ensures { result ≡ tag_from self.now.result inputs.now }
     {
         match self.result {
             Source::Plain => SealTag::Data,
-            Source::OfFirst => inputs.t1,
-            Source::OfSecond => inputs.t2,
-            Source::OfWord => inputs.tm,
+            Source::OfFirst => *inputs.t1,
+            Source::OfSecond => *inputs.t2,
+            Source::OfWord => *inputs.tm,
         }
     }
 

@@ -2,14 +2,16 @@
 
 use crate::programs::{KEY, LETTERS, LINE, LOOP, ROUNDS, image_of};
 use crate::runs::{Limits, Run, run_over};
-use engine_trait::{Stop, TurnEnd};
+use engine_trait::{LoadEnd, Stop, TurnEnd};
 use image_format::Image;
 use part_tables::AllTable;
 use policy_choice::{AllTag, Basis, Choice, choose};
+use rule_cache::RuleCache;
 use rv_step::Fault;
 use std::alloc::Global;
 use std::test::Fail;
 use tag_intern::{Interner, TagTable};
+use word_loader::start_cached;
 use workload::write_workload;
 
 /// All policies together.
@@ -45,6 +47,19 @@ fn run_chosen<T: TagTable<Tag = AllTag>>(
 ) -> Result<Run, Fail> {
     let policy = choose(alloc, Basis { choice }, image)?;
     run_over::<_, T>(alloc, policy, image, limits)
+}
+
+/// Whether the image starts under the chosen policies over a table of parts, where so many tags may have words.
+fn is_started(alloc: Global, choice: Choice, image: &Image, tags: u32) -> Result<bool, Fail> {
+    if tags == 0 {
+        return Err("no room")?;
+    }
+    let policy = choose(alloc, Basis { choice }, image)?;
+    match start_cached::<_, AllTable, RuleCache>(alloc, policy, image, 1, 1024, tags) {
+        Ok(_) => Ok(true),
+        Err(LoadEnd::TagsOut) => Ok(false),
+        Err(LoadEnd::Memory) => Err("no memory")?,
+    }
 }
 
 /// How many rules are kept, of how many tags, and whether tags are swept then.
@@ -196,5 +211,13 @@ fn workloads_over_tables_of_parts_are_as_told(rt: HostRuntime) -> Result<(), Fai
         assert_eq!(rt; run.counts.hits, hits, "{blocks} blocks");
         assert_eq!(rt; run.counts.misses, misses, "{blocks} blocks");
     }
+    Ok(())
+}
+
+#[test]
+fn a_workload_needs_more_than_one_tag_at_its_start(rt: HostRuntime) -> Result<(), Fail> {
+    let image = image_of(rt.alloc(), &write_workload(rt.alloc(), 1)?)?;
+    assert!(rt; !is_started(rt.alloc(), EVERY_POLICY, &image, 1)?);
+    assert!(rt; is_started(rt.alloc(), EVERY_POLICY, &image, 65_536)?);
     Ok(())
 }

@@ -116,7 +116,7 @@ fn value_of<T: Copy>(ram: &Ram<T>, effect: &Action) -> u32
 }
 
 /// Memory after the access.
-#[inline(always)]
+#[inline]
 fn store<T: Copy>(ram: &mut Ram<T>, access: Access, tag: T)
     requires { EndsWithin (ram_bytes ram.old) access }
     ensures exact { ram.new ≡ with_store ram.old access tag }

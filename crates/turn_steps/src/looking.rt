@@ -158,7 +158,7 @@ pub fn inputs_of<T: Copy>(hart: &Hart<T>, ram: &Ram<T>, look: &Look) -> Ins<T>
 }
 
 /// Where the five tags of `inputs_of` stand.
-#[inline(always)]
+#[inline]
 pub fn inputs_at<'a, T: Copy>(hart: &'a Hart<T>, ram: &'a Ram<T>, look: &Look) -> InsAt<'a, T>
     requires fetched { hart.now.pc + 4 ≤ ram_bytes ram.now }
     requires in_memory { EndsWithin (ram_bytes ram.now) look.now.effect.access }

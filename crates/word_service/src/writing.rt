@@ -28,6 +28,7 @@ pub struct WordJob {
 ///
 /// `Full` is told only where there would be more tags with words than there may be, and `Memory` only where there is room
 /// at least for the first tag that is written. Neither refusal leaves a tag behind.
+#[inline(always)]
 pub fn intern_job<T: TagTable>(
     alloc: Global,
     tags: &mut T,
@@ -125,12 +126,11 @@ fn intern_words<T: TagTable>(
     let mut written = Vec::new(alloc);
     let mut last = None;
     for item in words {
-        let (address, value, tag) = *item;
-        let word = next_word(tags, last, tag)?;
-        let Ok(()) = written.push((address, value, word)) else {
+        let word = next_word(tags, last, &item.2)?;
+        let Ok(()) = written.push((item.0, item.1, word)) else {
             return Err(InternEnd::Memory);
         };
-        last = Some((tag, word));
+        last = Some((&item.2, word));
     }
     Ok(written)
 }
@@ -139,21 +139,23 @@ fn intern_words<T: TagTable>(
 /// compared before the table is asked.
 fn next_word<T: TagTable>(
     tags: &mut T,
-    last: Option<(T::Tag, u32)>,
-    tag: T::Tag,
+    last: Option<(&T::Tag, u32)>,
+    tag: &T::Tag,
 ) -> Result<u32, InternEnd>
-    requires last { IfSome last (λ known. slice_get (T.state tags.old).tags known.1 ≡ Some known.0) }
-    ensures word { IfOk result (λ word. slice_get (T.state tags.new).tags word ≡ Some tag) }
-    ensures grown { OnOk result (T.state tags.new ≡ table_after T.Tag.eq (T.state tags.old) tag) }
+    requires last { IfSome last (λ known.
+        slice_get (T.state tags.old).tags known.1 ≡ Some known.0.now) }
+    ensures word { IfOk result (λ word. slice_get (T.state tags.new).tags word ≡ Some tag.now) }
+    ensures grown { OnOk result
+        (T.state tags.new ≡ table_after T.Tag.eq (T.state tags.old) tag.now) }
     ensures over { (result ≡ Err InternEnd.Full)
-        ↔ ((T.state tags.old).limit < length (with_tag T.Tag.eq (T.state tags.old).tags tag)) }
+        ↔ ((T.state tags.old).limit < length (with_tag T.Tag.eq (T.state tags.old).tags tag.now)) }
     ensures refused { OnErr result (T.state tags.new ≡ T.state tags.old) }
     ensures extends { Extends (T.state tags.old).tags (T.state tags.new).tags }
 {
     let _len = tags.len(); // for the proof: there are no more tags than may be
     match last {
-        Some((before, word)) if before == tag => Ok(word),
-        _ => tags.intern(tag),
+        Some((before, word)) if *before == *tag => Ok(word),
+        _ => tags.intern(*tag),
     }
 }
 

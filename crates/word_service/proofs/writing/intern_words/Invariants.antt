@@ -13,6 +13,6 @@ invariant-loop-item g l =
       limit : now.limit ≡ before.limit;
       within : length now.tags ≤ now.limit;
       extends : Extends before.tags now.tags;
-      last : IfSome l.last (λ known. slice_get now.tags known.1 ≡ Some known.0);
+      last : IfSome l.last (λ known. slice_get now.tags known.1 ≡ Some known.0.now);
       words : StandFor now.tags l.written.items (take l.item-index l.words);
     }
