@@ -46,6 +46,8 @@ none_rose broken statuses.ExitedNonzero before now fault stayed memory = tt
 none_rose broken statuses.BadWords before now fault stayed memory = tt
 none_rose broken statuses.BadImage before now fault stayed memory = tt
 none_rose broken statuses.BadSource before now fault stayed memory = tt
+none_rose broken statuses.BadTags before now fault stayed memory = tt
+none_rose broken statuses.BadElf before now fault stayed memory = tt
 none_rose broken statuses.Violated before now fault stayed memory = tt
 none_rose broken statuses.Faulted before now fault stayed memory = tt
 none_rose broken statuses.TurnsSpent before now fault stayed memory = tt
@@ -138,6 +140,8 @@ module _ (broken : Option FileCall) (before now : Faults) where
   refusal_is_quiet refusals.BadWords none = none
   refusal_is_quiet (refusals.BadImage error) none = none
   refusal_is_quiet (refusals.BadSource error) none = none
+  refusal_is_quiet (refusals.BadTags error) none = none
+  refusal_is_quiet (refusals.BadElf error) none = none
   refusal_is_quiet refusals.TooLong none = none
 
   pub refusal_quiet : (refusal : Refusal) (result : Result Status Cut) → IfOk result (λ status. status ≡ status_of_refusal refusal)
@@ -152,6 +156,8 @@ module _ (broken : Option FileCall) (before now : Faults) where
   run_is_quiet statuses.BadWords of_run none = none
   run_is_quiet statuses.BadImage of_run none = none
   run_is_quiet statuses.BadSource of_run none = none
+  run_is_quiet statuses.BadTags of_run none = none
+  run_is_quiet statuses.BadElf of_run none = none
   run_is_quiet statuses.Violated of_run none = none
   run_is_quiet statuses.Faulted of_run none = none
   run_is_quiet statuses.TurnsSpent of_run none = none

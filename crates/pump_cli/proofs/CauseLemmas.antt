@@ -12,10 +12,10 @@ use Rattle.rounds.specs.Course.{Course, hart_stops}
 use Rattle.rounds.proofs.SpentLemmas.{rounds_have_memory, rounds_spent, turn_is_next}
 use Rattle.cache_size.specs.Sizes.{keeps_no_rule}
 use Rattle.pump_loader.specs.Loads.{cached_start_of}
-use Rattle.pump_line.specs.Task.{RunTask, Task, disassemble, load, run, save, shell, task_of}
+use Rattle.pump_line.specs.Task.{RunTask, Task, disassemble, elf, load, run, save, shell, task_of}
 use Rattle.pump_cli.specs.Endings.{Outcome, has_any, is_of, is_out, status_of, status_of_stops}
 use Rattle.pump_cli.specs.Program.{basis_of, course_of_run, outcome_of_content, outcome_of_fed, outcome_of_image, outcome_of_input, outcome_of_load, outcome_of_picture, outcome_of_run, outcome_of_words, program, run_of_load, start_of_run, started_account}
-use Rattle.pump_cli.specs.Reading.{content_of, content_read, input_read}
+use Rattle.pump_cli.specs.Reading.{ContentOf, content_of, content_read, input_read}
 use Rattle.pump_cli.specs.Runs.{AfterContent, AfterFed, AfterImage, AfterInput, AfterPicture, AfterWords, AnySession, IsOut, IsSpent, TheRun}
 use Rattle.pump_cli.specs.declared.ending.Kind.TheVariants.{Ready}
 use Rattle.pump_cli.specs.declared.refusal.Refusal.{Refusal}
@@ -129,6 +129,7 @@ module _ (status : Status) (Ran : RunTask → Picture → List ℕ → Type 0) (
   of_picture (shell task) picture None says = tt
   of_picture (shell task) picture (Some input) says = tt
   of_picture (save task) picture input says = tt
+  of_picture (elf task) picture input says = tt
   of_picture (disassemble task) picture input says = tt
   of_picture (load task) picture input says = each (run_of_load task) picture [] says
 
@@ -136,9 +137,9 @@ module _ (status : Status) (Ran : RunTask → Picture → List ℕ → Type 0) (
   of_image task (Ok picture) input says = of_picture task picture input says
   of_image task (Err refusal) input says = tt
 
-  of_content : (task : Task) (content input : Option (List ℕ)) → Says (outcome_of_content task content input) → AfterContent Ran AnySession task content input
+  of_content : (task : Task) (content : Option (ContentOf task)) (input : Option (List ℕ)) → Says (outcome_of_content task content input) → AfterContent Ran AnySession task content input
   of_content task None input says = tt
-  of_content task (Some bytes) input says = of_image task (content_read task bytes) input says
+  of_content task (Some content) input says = of_image task (content_read task content) input says
 
   of_words : (task : Option Task) (held : List ℕ → Option (List ℕ)) (input : Option (List ℕ)) → Says (outcome_of_words task held input) → AfterWords Ran AnySession task held input
   of_words None held input says = tt

@@ -3,6 +3,8 @@ pub mod BareLemmas
 pub mod CallLemmas
 pub mod CauseLemmas
 pub mod DisWayLemmas
+pub mod ElfLemmas
+pub mod ElfWayLemmas
 pub mod EndLemmas
 pub mod GatheringLemmas
 pub mod ListLemmas

@@ -11,7 +11,7 @@ use Rattle.workload.proofs.LengthLemmas.{source_fits}
 use Rattle.workload_laws.specs.Images.{image_of_workload}
 use Rattle.workload_laws.proofs.DraftLemmas.{workload_pictured}
 use Rattle.workload_laws.proofs.WorkloadLemmas.{workload_assembled}
-use Rattle.pump_line.specs.Request.{Request, disassemble_asked, load_asked, request_of, run_asked, save_asked, shell_asked}
+use Rattle.pump_line.specs.Request.{Request, disassemble_asked, elf_asked, load_asked, request_of, run_asked, save_asked, shell_asked}
 use Rattle.cache_size.specs.declared.size.CacheSize.{CacheSize}
 use Rattle.pump_line.specs.Task.{LoadTask, RunTask, ShellTask, Task, count_of, load, load_task_in, load_with, number_of, run, shell, task_in, task_of}
 use Rattle.pump_line.proofs.ValueLemmas.{within as number_in}
@@ -66,6 +66,7 @@ request_few None task is = absurd cc
 request_few (Some (run_asked request)) task is = no_run _ task is
 request_few (Some (shell_asked request)) task is = no_shell _ task is
 request_few (Some (save_asked asked)) task is = absurd cc
+request_few (Some (elf_asked asked)) task is = absurd cc
 request_few (Some (disassemble_asked asked)) task is = absurd cc
 request_few (Some (load_asked request)) task is =
     load_made (load_task_in request) task (λ other read. blocks_in_load _ _ _ other (few_blocks request.count) read) is

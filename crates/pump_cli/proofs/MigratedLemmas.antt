@@ -1,5 +1,5 @@
 -- What `migrate` saves of an image.
-use Rattle.std.proofs.Common.{◌≡◌, ℕ, List, [], ◌∷◌, Result, Ok, ap, refl, ◌∙◌}
+use Rattle.std.proofs.Common.{◌≡◌, ℕ, List, Result, Ok, ap, refl, ◌∙◌}
 use Rattle.host_io.specs.Bytes.{AreBytes}
 use Rattle.image_format.specs.Migrated.{migrated}
 use Rattle.image_format.specs.Picture.{Picture}
@@ -12,7 +12,7 @@ use Rattle.pump_line.specs.Task.{save}
 use Rattle.pump_line.specs.declared.task.Making.{Making}
 use Rattle.pump_line.specs.declared.task.Making.TheVariants.{Migrate}
 use Rattle.run_props.proofs.MigrationLemmas.{runs_alike, start_is}
-use Rattle.pump_cli.specs.Calls.{Load, Save, calls_of_task}
+use Rattle.pump_cli.specs.Calls.{calls_of_task}
 use Rattle.pump_cli.specs.Migrated.{SavesMigrated}
 use Rattle.pump_cli.specs.Reading.{image_read, made_read}
 use Rattle.pump_cli.specs.declared.refusal.Refusal.{Refusal}

@@ -25,8 +25,8 @@ use Rattle.pump_cli.specs.declared.status.Status.TheVariants as statuses
 use Rattle.pump_cli.proofs.AnswerLemmas.{answers, does_nothing, puts_fault, refusal_ends, refusal_quiet, run_ends, run_quiet}
 use Rattle.pump_cli.proofs.CallLemmas.{Called, load_called}
 use Rattle.pump_cli.proofs.TaskLemmas.{Side, due_by_input, due_by_run, facts_asked, long_input}
-use Rattle.pump_cli.proofs.SideLemmas.{OfRun, memory_is, of_cut, of_run_is, of_too_long, put_failed_is, refusal_is_told}
-use Rattle.pump_cli.proofs.WayLemmas.{BadFile, BadText, LongFile, beside, beside_faults, early, refused_outcome}
+use Rattle.pump_cli.proofs.SideLemmas.{OfRun, memory_is, of_cut, of_refusal, of_run_is, put_failed_is, refusal_is_told}
+use Rattle.pump_cli.proofs.WayLemmas.{beside, beside_faults, early, refused_outcome}
 
 -- a refusal of the input comes after the input was asked for
 late : (task : RunTask) (r : Refusal) → r ≡ refusals.TooLong → IsBeforeInput (run task) (status_of_refusal r) → ⊥
@@ -43,22 +43,13 @@ abbrev input_error : Refusal → Result (List ℕ) Refusal
 input_error r = Err r
 
 module _ {I : Type 0} (task : RunTask) (before after : Environment I) where
-  abbrev Refused : Type 0
-  Refused = BadFile (run task) before
-
-  abbrev NoSource : Type 0
-  NoSource = BadText (run task) before
-
-  abbrev Exceeds : Type 0
-  Exceeds = LongFile (run task) before
-
   abbrev AnsweredRun : Status → Type 0
   AnsweredRun status = HeadlineOf (run task) status before after
 
   module _ (picture : Picture) (is : IfSome (before.held task.image) (λ bytes. image_read bytes ≡ Ok picture)) (held : after.held ≡ before.held)
       (calls : after.calls ≡ next_count before.calls) (moved : LosesPrefix before.left after.left (input_limit + 4096)) (read : after.faults.read ≡ before.faults.read) (write : after.faults.write ≡ before.faults.write) where
     abbrev SideOfRun : Status → Type 0
-    SideOfRun status = Side (run task) status Refused NoSource Exceeds
+    SideOfRun status = Side (run task) before status
 
     -- the image was loaded
     run_called : (status : Status) → FaultBy None status before.faults after.faults → Called (Some (run task)) status before after
@@ -67,7 +58,7 @@ module _ {I : Type 0} (task : RunTask) (before after : Environment I) where
     input_refusal : (refusal : Refusal) → refusal ≡ refusals.TooLong → IfSome before.left (λ all. input_read all ≡ Err refusal) → SideOfRun (status_of_refusal refusal)
     input_refusal refusal long_is long =
         subst (λ (other : Refusal). SideOfRun (status_of_refusal other)) (sym long_is)
-        (of_too_long (run task) Refused NoSource Exceeds (if_some_all (before.held task.image) _ (λ bytes. if_some_each before.left _ _ (λ all read. inr (long_input all (read ∙ ap (λ (r : Refusal). input_error r) long_is))) long)))
+        (of_refusal (run task) before refusals.TooLong tt (if_some_all (before.held task.image) _ (λ bytes. if_some_each before.left _ _ (λ all read. inr (long_input all (read ∙ ap (λ (r : Refusal). input_error r) long_is))) long)))
 
     -- the input is refused
     pub input_refused : (refusal : Refusal) (result : Result Status Cut) → refusal ≡ refusals.TooLong → IfSome before.left (λ all. input_read all ≡ Err refusal)
@@ -76,14 +67,14 @@ module _ {I : Type 0} (task : RunTask) (before after : Environment I) where
     input_refused refusal result long_is long does faults ends input_faults out =
         let side : SideOfRun (status_in result) =
         refusal_ends SideOfRun refusal before.faults.puts after.faults.puts result faults ends
-        (input_refusal refusal long_is long) (of_cut (run task) Refused NoSource Exceeds cut.PutFailed) (of_cut (run task) Refused NoSource Exceeds cut.Memory) in
+        (input_refusal refusal long_is long) (of_cut (run task) before cut.PutFailed) (of_cut (run task) before cut.Memory) in
         answers _ (Some (run task)) result before after
         (due_by_input (λ outcome. Does outcome before.taken after.taken result) task (before.held task.image) before.left picture refusal is long does)
         (run_called (status_in result) (puts_fault None before.faults after.faults result faults read write input_faults (refusal_quiet None before.faults after.faults refusal result ends)))
         (λ words. absurd (side.words words))
         (λ silent. absurd (refusal_ends (λ (ended : Status). IsSilent (Some (run task)) ended → ⊥) refusal before.faults.puts after.faults.puts result faults ends (refusal_is_told (Some (run task)) refusal) (λ no. no) (λ no. no) silent))
         (λ refused. out)
-        (facts_asked (run task) (status_in result) before after side.bad side.source side.long tt picture is moved
+        (facts_asked (run task) (status_in result) before after side.causes tt picture is moved
         (λ early. absurd (refusal_ends (λ (ended : Status). IsBeforeInput (run task) ended → ⊥) refusal before.faults.puts after.faults.puts result faults ends (late task refusal long_is) (λ no. no) (λ no. no) early))
         (λ all. absurd (side.not_run all)))
 
@@ -106,11 +97,11 @@ module _ {I : Type 0} (task : RunTask) (before after : Environment I) where
     pub input_cut : (cut : Cut) (A : Type 0) → InputRoseBy {A = A} before.faults.input after.faults.input (Err (early_end.Cut cut))
         → after.faults.puts ≡ before.faults.puts → after.taken ≡ before.taken → AnsweredRun (status_of_cut cut)
     input_cut cut A rose puts taken =
-        let side : SideOfRun (status_of_cut cut) = of_cut (run task) Refused NoSource Exceeds cut in
+        let side : SideOfRun (status_of_cut cut) = of_cut (run task) before cut in
         answers _ (Some (run task)) (Err cut) before after
         (if_some_all _ _ (λ outcome. subst (λ (now : Taken). Does outcome before.taken now (Err cut)) (sym taken) (does_nothing outcome before.taken cut)))
         (run_called (status_of_cut cut) (input_fault cut A rose puts)) (λ words. absurd (side.words words)) (λ silent. taken) (λ refused. ap (λ (now : Taken). now.out) taken)
-        (facts_asked (run task) (status_of_cut cut) before after side.bad side.source side.long tt picture is moved (λ early. absurd (not_early cut A rose early)) (λ all. absurd (side.not_run all)))
+        (facts_asked (run task) (status_of_cut cut) before after side.causes tt picture is moved (λ early. absurd (not_early cut A rose early)) (λ all. absurd (side.not_run all)))
 
     -- either of them
     pub input_ends : (end : EarlyEnd) (A : Type 0) (result : Result Status Cut)
@@ -132,12 +123,12 @@ module _ {I : Type 0} (task : RunTask) (before after : Environment I) where
         → Does (outcome_of_run task picture fed) before.taken after.taken result → PutsFaultBy before.faults.puts after.faults.puts result
         → IfOk result IsOfRun → after.faults.input ≡ before.faults.input → IsTrue after.closed → AnsweredRun (status_in result)
     ran fed result taken does faults kind input_faults closed =
-        let side : OfRun (run task) (status_in result) =
-        run_ends (OfRun (run task)) before.faults.puts after.faults.puts result faults kind (of_run_is (run task)) (put_failed_is (run task)) (memory_is (run task)) in
+        let side : OfRun (run task) before (status_in result) =
+        run_ends (OfRun (run task) before) before.faults.puts after.faults.puts result faults kind (of_run_is (run task) before) (put_failed_is (run task) before) (memory_is (run task) before) in
         answers _ (Some (run task)) result before after
         (due_by_run (λ outcome. Does outcome before.taken after.taken result) task (before.held task.image) before.left picture fed is taken does)
         (run_called (status_in result) (puts_fault None before.faults after.faults result faults read write input_faults (run_quiet None before.faults after.faults result kind)))
         (λ words. absurd (side.words words)) (λ silent. absurd (side.silent silent)) (λ refused. absurd (side.refusal refused))
-        (facts_asked (run task) (status_in result) before after (λ e. absurd (side.bad e)) (λ e. absurd (side.source e)) (λ e. absurd (side.long e)) tt picture is moved
+        (facts_asked (run task) (status_in result) before after side.causes tt picture is moved
         (λ early. absurd (run_ends (λ (ended : Status). IsBeforeInput (run task) ended → ⊥) before.faults.puts after.faults.puts result faults kind (ran_late task) (λ no. no) (λ no. no) early))
         (λ of_run. closed))

@@ -20,9 +20,9 @@ use Rattle.policy_choice.specs.All.{AllState, AllTag, all, all_eq}
 use Rattle.rounds.proofs.RunLemmas.{rounds_are_run}
 use Rattle.run_props.proofs.RunLemmas.{run_is_safe}
 use Rattle.run_props.specs.Safe.{IsSafe}
-use Rattle.pump_line.specs.Task.{RunTask, ShellTask, Task, disassemble, load, run, save, shell, task_of}
+use Rattle.pump_line.specs.Task.{RunTask, ShellTask, Task, disassemble, elf, load, run, save, shell, task_of}
 use Rattle.pump_cli.specs.Program.{basis_of, course_of_run, run_of_load, start_of_run}
-use Rattle.pump_cli.specs.Reading.{content_of, content_read, file_as, file_limit, image_or_refusal, image_read, input_read, made_read, source_or_refusal, source_read}
+use Rattle.pump_cli.specs.Reading.{ContentOf, content_of, content_read, elf_read, file_as, file_limit, files_told, image_or_refusal, image_read, input_read, made_read, source_or_refusal, source_read}
 use Rattle.pump_cli.specs.Runs.{AfterContent, AfterFed, AfterImage, AfterInput, AfterLines, AfterPicture, AfterWords, EachRun, HoldsOfLines, HoldsOfRun, IsSafeRun, items_after_lines}
 use Rattle.pump_cli.specs.declared.refusal.Refusal.{Refusal}
 
@@ -33,7 +33,7 @@ abbrev SafeExecuted : ShellTask → Picture → List ℕ → Type 0
 SafeExecuted = HoldsOfLines IsSafeRun
 
 -- past the end of a list of bytes its items are told as 0
-each_small : (bytes : List ℕ) → AreBytes bytes → (i : ℕ) → slice_index bytes i < 256
+pub each_small : (bytes : List ℕ) → AreBytes bytes → (i : ℕ) → slice_index bytes i < 256
 each_small bytes are i = elim (cases_lt i (length bytes)) [
   | inl within ↦ are i 0 within
   | inr past ↦ subst (λ (item : ℕ). item < 256) (sym (get_or_past bytes i 0 (omega (arith, past)))) (omega arith)
@@ -102,6 +102,7 @@ safe_picture : (task : Task) (g : Picture) (input : Option (List ℕ)) → IsIma
 safe_picture (run task) g input is = safe_input task g input is
 safe_picture (shell task) g input is = safe_lines task g input is
 safe_picture (save task) g input is = tt
+safe_picture (elf task) g input is = tt
 safe_picture (disassemble task) g input is = tt
 safe_picture (load task) g input is = safe_course (run_of_load task) g [] is
 
@@ -116,21 +117,23 @@ none_made : (task : Task) → ((g : Picture) (input : Option (List ℕ)) → Aft
 none_made task none (Ok g) input = none g input
 none_made task none (Err refusal) input = tt
 
--- a file's bytes
-safe_file : (task : Task) (file input : Option (List ℕ)) → ((bytes : List ℕ) → file ≡ Some bytes → AreBytes bytes)
-    → ((bytes : List ℕ) → AreBytes bytes → AfterImage SafeRan SafeExecuted task (content_read task bytes) input) → AfterContent SafeRan SafeExecuted task file input
-safe_file task None input tells safe = tt
-safe_file task (Some bytes) input tells safe = safe bytes (tells bytes refl)
+-- by what is told of its content
+safe_told : (task : Task) (told : Option (ContentOf task)) (input : Option (List ℕ))
+    → ((content : ContentOf task) → told ≡ Some content → AfterImage SafeRan SafeExecuted task (content_read task content) input) → AfterContent SafeRan SafeExecuted task told input
+safe_told task None input safe = tt
+safe_told task (Some content) input safe = safe content refl
 
 safe_content : (task : Task) (held : List ℕ → Option (List ℕ)) (input : Option (List ℕ)) → TellBytes held → AfterContent SafeRan SafeExecuted task (content_of task held) input
 safe_content (run task) held input tells =
-    safe_file (run task) (held task.image) input (tells task.image) (λ bytes are_bytes. safe_image (run task) (image_read bytes) input (λ g read. file_is_image bytes g are_bytes read))
+    safe_told (run task) (held task.image) input (λ bytes told. safe_image (run task) (image_read bytes) input (λ g read. file_is_image bytes g (tells task.image bytes told) read))
 safe_content (shell task) held input tells =
-    safe_file (shell task) (held task.image) input (tells task.image) (λ bytes are_bytes. safe_image (shell task) (image_read bytes) input (λ g read. file_is_image bytes g are_bytes read))
+    safe_told (shell task) (held task.image) input (λ bytes told. safe_image (shell task) (image_read bytes) input (λ g read. file_is_image bytes g (tells task.image bytes told) read))
 safe_content (save task) held input tells =
-    safe_file (save task) (held task.source) input (tells task.source) (λ bytes are_bytes. none_made (save task) (λ g given. tt) (made_read task.making bytes) input)
+    safe_told (save task) (held task.source) input (λ bytes told. none_made (save task) (λ g given. tt) (made_read task.making bytes) input)
+safe_content (elf task) held input tells =
+    safe_told (elf task) (files_told (held task.elf) (held task.tags)) input (λ files told. none_made (elf task) (λ g given. tt) (elf_read files) input)
 safe_content (disassemble task) held input tells =
-    safe_file (disassemble task) (held task.image) input (tells task.image) (λ bytes are_bytes. none_made (disassemble task) (λ g given. tt) (image_read bytes) input)
+    safe_told (disassemble task) (held task.image) input (λ bytes told. none_made (disassemble task) (λ g given. tt) (image_read bytes) input)
 safe_content (load task) held input tells =
     safe_image (load task) (source_read (source_of_workload task.count)) input (λ g made. source_is_image (source_of_workload task.count) g made)
 

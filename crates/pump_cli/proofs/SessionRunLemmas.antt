@@ -21,9 +21,9 @@ use Rattle.shell_script.specs.Shell.{shell_of}
 use Rattle.shell_script.proofs.GainLemmas.{closed_by, next_told, script_start, shell_is_told}
 use Rattle.shell_script.proofs.RunLemmas.{script_goes}
 use Rattle.pump_shell.specs.Told.{out_at_start, start_of_setup, told_by, told_from, told_of}
-use Rattle.pump_line.specs.Task.{RunTask, ShellTask, Task, disassemble, load, run, save, shell, task_of}
+use Rattle.pump_line.specs.Task.{RunTask, ShellTask, Task, disassemble, elf, load, run, save, shell, task_of}
 use Rattle.pump_cli.specs.Program.{basis_of, is_over_at_start, setup_of}
-use Rattle.pump_cli.specs.Reading.{content_of, content_read, input_limit, input_read}
+use Rattle.pump_cli.specs.Reading.{ContentOf, content_of, content_read, input_limit, input_read}
 use Rattle.pump_cli.specs.Runs.{AfterContent, AfterFed, AfterImage, AfterInput, AfterLines, AfterPicture, AfterWords, Run, items_after_lines, run_after_lines}
 use Rattle.pump_cli.specs.Sessions.{AnyRun, TellsRuns, TheSession, session_after, session_over}
 use Rattle.pump_cli.specs.declared.refusal.Refusal.{Refusal}
@@ -113,6 +113,7 @@ after_picture : (task : Task) (g : Picture) (input : Option (List ℕ)) → Afte
 after_picture (run task) g input = any_input task g input
 after_picture (shell task) g input = after_lines task g input
 after_picture (save task) g input = tt
+after_picture (elf task) g input = tt
 after_picture (disassemble task) g input = tt
 after_picture (load task) g input = tt
 
@@ -120,9 +121,9 @@ after_image : (task : Task) (read : Result Picture Refusal) (input : Option (Lis
 after_image task (Ok g) input = after_picture task g input
 after_image task (Err refusal) input = tt
 
-after_content : (task : Task) (content input : Option (List ℕ)) → AfterContent AnyRun TellsRuns task content input
+after_content : (task : Task) (content : Option (ContentOf task)) (input : Option (List ℕ)) → AfterContent AnyRun TellsRuns task content input
 after_content task None input = tt
-after_content task (Some bytes) input = after_image task (content_read task bytes) input
+after_content task (Some content) input = after_image task (content_read task content) input
 
 after_words : (task : Option Task) (held : List ℕ → Option (List ℕ)) (input : Option (List ℕ)) → AfterWords AnyRun TellsRuns task held input
 after_words None held input = tt

@@ -21,7 +21,7 @@ use Rattle.pump_cli.specs.declared.status.Status.{Status}
 use Rattle.pump_cli.specs.declared.status.Status.TheVariants as statuses
 use Rattle.pump_cli.proofs.AnswerLemmas.{answers}
 use Rattle.pump_cli.proofs.CallLemmas.{load_called}
-use Rattle.pump_cli.proofs.TaskLemmas.{due_by_lines, facts_asked, some_session}
+use Rattle.pump_cli.proofs.TaskLemmas.{NoRefusal, causes_long, due_by_lines, facts_asked, some_session}
 use Rattle.pump_cli.proofs.SideLemmas.{cut_not}
 use Rattle.pump_cli.proofs.WayLemmas.{early}
 
@@ -30,8 +30,7 @@ record OfSession {I : Type 0} (task : ShellTask) (before after : Environment I) 
   words : status ≡ statuses.BadWords → ⊥
   silent : IsSilent (Some (shell task)) status → ⊥
   refusal : IsOfRefusal (Some (shell task)) status → ⊥
-  bad : status ≡ statuses.BadImage → ⊥
-  source : status ≡ statuses.BadSource → ⊥
+  none : NoRefusal status
   long : status ≡ statuses.TooLong → IfSome before.left IsLongInput
   unread : IsBeforeInput (shell task) status → after.input ≡ before.input
 
@@ -42,8 +41,12 @@ module _ {I : Type 0} (task : ShellTask) (before after : Environment I) where
     words = λ e. subst IsOfSession e of_session;
     silent = λ silent. silent_is status of_session silent;
     refusal = λ refused. refused_is status of_session refused;
-    bad = λ e. subst IsOfSession e of_session;
-    source = λ e. subst IsOfSession e of_session;
+    none = record {
+      image = λ e. subst IsOfSession e of_session;
+      source = λ e. subst IsOfSession e of_session;
+      tags = λ e. subst IsOfSession e of_session;
+      elf_file = λ e. subst IsOfSession e of_session;
+    };
     long = long;
     unread = λ early. unread_is status of_session unread early;
   }
@@ -57,6 +60,8 @@ module _ {I : Type 0} (task : ShellTask) (before after : Environment I) where
       refused_is statuses.BadWords of_session refused = of_session
       refused_is statuses.BadImage of_session refused = of_session
       refused_is statuses.BadSource of_session refused = of_session
+      refused_is statuses.BadTags of_session refused = of_session
+      refused_is statuses.BadElf of_session refused = of_session
       refused_is _ of_session refused = refused
 
       unread_is : (s : Status) → IsOfSession s → (s ≡ statuses.TagsOut → after.input ≡ before.input) → IsBeforeInput (shell task) s → after.input ≡ before.input
@@ -74,8 +79,12 @@ module _ {I : Type 0} (task : ShellTask) (before after : Environment I) where
     words = λ e. let h : statuses.InputFailed ≡ statuses.BadWords = e in cc;
     silent = λ no. no;
     refusal = λ no. no;
-    bad = λ e. let h : statuses.InputFailed ≡ statuses.BadImage = e in cc;
-    source = λ e. let h : statuses.InputFailed ≡ statuses.BadSource = e in cc;
+    none = record {
+      image = λ e. let h : statuses.InputFailed ≡ statuses.BadImage = e in cc;
+      source = λ e. let h : statuses.InputFailed ≡ statuses.BadSource = e in cc;
+      tags = λ e. let h : statuses.InputFailed ≡ statuses.BadTags = e in cc;
+      elf_file = λ e. let h : statuses.InputFailed ≡ statuses.BadElf = e in cc;
+    };
     long = λ e. absurd (let h : statuses.InputFailed ≡ statuses.TooLong = e in cc);
     unread = λ no. absurd no;
   }
@@ -83,8 +92,12 @@ module _ {I : Type 0} (task : ShellTask) (before after : Environment I) where
     words = λ e. let h : statuses.PutFailed ≡ statuses.BadWords = e in cc;
     silent = λ no. no;
     refusal = λ no. no;
-    bad = λ e. let h : statuses.PutFailed ≡ statuses.BadImage = e in cc;
-    source = λ e. let h : statuses.PutFailed ≡ statuses.BadSource = e in cc;
+    none = record {
+      image = λ e. let h : statuses.PutFailed ≡ statuses.BadImage = e in cc;
+      source = λ e. let h : statuses.PutFailed ≡ statuses.BadSource = e in cc;
+      tags = λ e. let h : statuses.PutFailed ≡ statuses.BadTags = e in cc;
+      elf_file = λ e. let h : statuses.PutFailed ≡ statuses.BadElf = e in cc;
+    };
     long = λ e. absurd (let h : statuses.PutFailed ≡ statuses.TooLong = e in cc);
     unread = λ no. absurd no;
   }
@@ -92,8 +105,12 @@ module _ {I : Type 0} (task : ShellTask) (before after : Environment I) where
     words = λ e. let h : statuses.Memory ≡ statuses.BadWords = e in cc;
     silent = λ no. no;
     refusal = λ no. no;
-    bad = λ e. let h : statuses.Memory ≡ statuses.BadImage = e in cc;
-    source = λ e. let h : statuses.Memory ≡ statuses.BadSource = e in cc;
+    none = record {
+      image = λ e. let h : statuses.Memory ≡ statuses.BadImage = e in cc;
+      source = λ e. let h : statuses.Memory ≡ statuses.BadSource = e in cc;
+      tags = λ e. let h : statuses.Memory ≡ statuses.BadTags = e in cc;
+      elf_file = λ e. let h : statuses.Memory ≡ statuses.BadElf = e in cc;
+    };
     long = λ e. absurd (let h : statuses.Memory ≡ statuses.TooLong = e in cc);
     unread = λ no. absurd no;
   }
@@ -177,7 +194,7 @@ module _ {I : Type 0} (task : ShellTask) (before after : Environment I) where
       (due_by_lines (λ outcome. Does outcome before.taken after.taken result) task (before.held task.image) before.left picture is does no_start)
       (load_called (status_in result) before after held (shell task) (Ok picture) task.image refl is (λ all. tt) calls (session_fault result read write fault kind))
       (λ words. absurd (side.words words)) (λ silent. absurd (side.silent silent)) (λ refused. absurd (side.refusal refused))
-      (facts_asked (shell task) (status_in result) before after (λ e. absurd (side.bad e)) (λ e. absurd (side.source e))
-      (λ e. if_some_all (before.held task.image) _ (λ bytes. if_some_each before.left _ _ (λ lines past. inr past) (side.long e)))
+      (facts_asked (shell task) (status_in result) before after
+      (causes_long (shell task) (status_in result) before side.none (λ e. if_some_all (before.held task.image) _ (λ bytes. if_some_each before.left _ _ (λ lines past. inr past) (side.long e))))
       (some_session task picture (status_in result) before after is (executed_facts picture result kind out unread closed replied))
       picture is moved side.unread (λ all. absurd all))

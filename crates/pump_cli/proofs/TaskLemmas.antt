@@ -1,5 +1,5 @@
 -- What is due at the end of a task, why something is refused, and what is done to file and input.
-use Rattle.std.proofs.Common.{◌≡◌, ℕ, ◌+◌, ◌<◌, ◌⊎◌, nat_le, if◌then◌else◌, Bool, true, false, List, [], length, Option, Some, None, Result, Ok, Err, IfSome, IsErr, IsTrue, refl, sym, subst, arith, inl, inr, ◌∙◌, ap}
+use Rattle.std.proofs.Common.{◌≡◌, ℕ, ◌+◌, ◌<◌, ◌⊎◌, nat_le, if◌then◌else◌, Bool, true, false, List, [], length, Option, Some, None, Result, Ok, Err, IfSome, IsErr, IsTrue, refl, sym, subst, arith, inl, inr, ap}
 use Rattle.std.proofs.lemmas.Bool.Decides.{nat_tests}
 use Rattle.std.specs.Io.KnownBytes.{prepend_known}
 use Rattle.host_io.specs.Prefixes.{LosesPrefix}
@@ -9,19 +9,23 @@ use Rattle.image_format.specs.Reading.{image_of}
 use Rattle.image_format.specs.declared.errors.ImageError.{ImageError}
 use Rattle.asm_read.specs.declared.errors.AsmError.{AsmError}
 use Rattle.asm_emit.specs.Assembled.{image_of_source}
+use Rattle.elf_image.specs.Loaded.{image_of_elf}
+use Rattle.elf_image.specs.Tags.{tags_of}
+use Rattle.elf_image.specs.declared.errors.ElfError.{ElfError}
+use Rattle.elf_image.specs.declared.errors.TagsError.{TagsError}
 use Rattle.workload.specs.Source.{source_of_workload}
-use Rattle.pump_line.specs.Request.{DisassembleTask, SaveTask}
-use Rattle.pump_line.specs.Task.{LoadTask, RunTask, ShellTask, Task, disassemble, load, run, save, shell}
+use Rattle.pump_line.specs.Request.{DisassembleTask, ElfTask, SaveTask}
+use Rattle.pump_line.specs.Task.{LoadTask, RunTask, ShellTask, Task, disassemble, elf, load, run, save, shell}
 use Rattle.pump_cli.specs.Codes.{IsBeforeInput, ReadsAll}
 use Rattle.pump_cli.specs.Endings.{Outcome}
 use Rattle.host_io.proofs.PrefixLemmas.{if_some_each}
-use Rattle.pump_cli.specs.Facts.{FileFacts, IsLongFile, IsLongInput, IsTooLong, Executed, ExecutedIn, SessionFacts}
-use Rattle.pump_cli.specs.Program.{is_over_at_start, outcome_of_content, outcome_of_fed, outcome_of_image, outcome_of_lines, outcome_of_listing, outcome_of_load, outcome_of_no_start, outcome_of_run, outcome_of_saving, refusal_outcome}
-use Rattle.shared_terms.specs.Steps.{result_view}
+use Rattle.pump_cli.specs.Facts.{Causes, FileFacts, HasNoElf, HasNoImage, HasNoSource, HasNoTags, IsLongFile, IsLongInput, IsTooLong, Executed, ExecutedIn, SessionFacts}
+use Rattle.pump_cli.specs.Program.{is_over_at_start, outcome_of_content, outcome_of_fed, outcome_of_image, outcome_of_lines, outcome_of_listing, outcome_of_load, outcome_of_no_start, outcome_of_picture, outcome_of_run, outcome_of_saving, refusal_outcome}
+use Rattle.shared_terms.specs.Steps.{◌>>=◌, result_view}
 use Rattle.image_format.specs.Migrated.{migrated}
 use Rattle.pump_line.specs.declared.task.Making.{Making}
 use Rattle.pump_line.specs.declared.task.Making.TheVariants.{Assemble, Migrate}
-use Rattle.pump_cli.specs.Reading.{content_of, content_read, file_as, file_limit, image_or_refusal, image_read, input_limit, input_read, made_read, source_or_refusal, source_read}
+use Rattle.pump_cli.specs.Reading.{ContentOf, ElfFiles, both_taken, content_of, content_read, elf_or_refusal, elf_read, elf_taken, file_as, file_limit, image_or_refusal, image_read, input_limit, input_read, made_read, source_or_refusal, source_read, tags_or_refusal, tags_taken, within_limit}
 use Rattle.pump_cli.specs.declared.refusal.Refusal.{Refusal}
 use Rattle.pump_cli.specs.declared.refusal.Refusal.TheVariants as refusals
 use Rattle.pump_cli.specs.declared.status.Status.{Status}
@@ -30,10 +34,10 @@ use Rattle.pump_cli.specs.declared.status.Status.TheVariants as statuses
 -- ---- what is due
 
 module _ (P : Outcome → Type 0) where
-  pub due_by_file : (task : Task) (held input : Option (List ℕ)) (refusal : Refusal) → IfSome held (λ bytes. content_read task bytes ≡ Err refusal)
+  pub due_by_file : (task : Task) (held : Option (ContentOf task)) (input : Option (List ℕ)) (refusal : Refusal) → IfSome held (λ content. content_read task content ≡ Err refusal)
       → P (refusal_outcome refusal) → IfSome (outcome_of_content task held input) P
   due_by_file task None input refusal is refused = tt
-  due_by_file task (Some bytes) input refusal is refused =
+  due_by_file task (Some content) input refusal is refused =
       subst (λ (read : Result Picture Refusal). IfSome (outcome_of_image task read input) P) (sym is) refused
 
   pub due_by_input : (task : RunTask) (held input : Option (List ℕ)) (picture : Picture) (refusal : Refusal) → IfSome held (λ bytes. image_read bytes ≡ Ok picture)
@@ -67,11 +71,12 @@ module _ (P : Outcome → Type 0) where
   due_by_lines task (Some bytes) (Some lines) picture is executed ended =
       subst (λ (read : Result Picture Refusal). IfSome (outcome_of_image (shell task) read (Some lines)) P) (sym is) executed
 
-  pub due_by_saving : (task : SaveTask) (held input : Option (List ℕ)) (picture : Picture) → IfSome held (λ bytes. made_read task.making bytes ≡ Ok picture)
-      → P outcome_of_saving → IfSome (outcome_of_content (save task) held input) P
-  due_by_saving task None input picture is saved = tt
-  due_by_saving task (Some bytes) input picture is saved =
-      subst (λ (read : Result Picture Refusal). IfSome (outcome_of_image (save task) read input) P) (sym is) saved
+  -- an image is made and saved
+  pub due_by_saving : (task : Task) (held : Option (ContentOf task)) (input : Option (List ℕ)) (picture : Picture) → outcome_of_picture task picture input ≡ Some outcome_of_saving
+      → IfSome held (λ content. content_read task content ≡ Ok picture) → P outcome_of_saving → IfSome (outcome_of_content task held input) P
+  due_by_saving task None input picture due is saved = tt
+  due_by_saving task (Some content) input picture due is saved =
+      subst (λ (read : Result Picture Refusal). IfSome (outcome_of_image task read input) P) (sym is) (subst (λ (outcome : Option Outcome). IfSome outcome P) (sym due) saved)
 
   pub due_by_listing : (task : DisassembleTask) (held input : Option (List ℕ)) (picture : Picture) → IfSome held (λ bytes. image_read bytes ≡ Ok picture)
       → P (outcome_of_listing picture) → IfSome (outcome_of_content (disassemble task) held input) P
@@ -86,9 +91,9 @@ module _ (P : Outcome → Type 0) where
 
 -- ---- why something was refused
 
-each : (told : Option (List ℕ)) (P : List ℕ → Type 0) → ((bytes : List ℕ) → P bytes) → IfSome told P
+each : {A : Type 0} (told : Option A) (P : A → Type 0) → ((x : A) → P x) → IfSome told P
 each None P all = tt
-each (Some bytes) P all = all bytes
+each (Some x) P all = all x
 
 abbrev refusal_error : Refusal → Result Picture Refusal
 refusal_error r = Err r
@@ -96,121 +101,134 @@ refusal_error r = Err r
 abbrev taken_as : Picture → Result Picture Refusal
 taken_as picture = Ok picture
 
--- a file that is refused is too long, or what its bytes are read as is refused
-as_refused : (fits : Bool) (bytes : List ℕ) (read : List ℕ → Result Picture Refusal) (refusal : Refusal) → file_as read (if fits then Ok bytes else Err refusals.TooLong) ≡ Err refusal
-    → ((fits ≡ false) × (refusal ≡ refusals.TooLong)) ⊎ (read bytes ≡ Err refusal)
-as_refused true bytes read refusal is = inr is
-as_refused false bytes read refusal is = inl (refl, (let h : refusal_error refusals.TooLong ≡ refusal_error refusal = is in cc))
+-- ---- what holds of a refusal, from what holds at each that there may be
 
-image_not_long : (image : Result Picture ImageError) → image_or_refusal image ≡ Err refusals.TooLong → ⊥
-image_not_long (Ok picture) e = let h : taken_as picture ≡ refusal_error refusals.TooLong = e in cc
-image_not_long (Err error) e = let h : refusal_error (refusals.BadImage error) ≡ refusal_error refusals.TooLong = e in cc
+module _ (P : Refusal → Type 0) where
+  image_told : (image : Result Picture ImageError) → ((error : ImageError) → IsErr image → P (refusals.BadImage error))
+      → (refusal : Refusal) → image_or_refusal image ≡ Err refusal → P refusal
+  image_told (Ok picture) bad refusal is = absurd (let h : taken_as picture ≡ refusal_error refusal = is in cc)
+  image_told (Err error) bad refusal is = subst P (let h : refusal_error (refusals.BadImage error) ≡ refusal_error refusal = is in cc) (bad error refl)
 
-source_not_long : (image : Result Picture AsmError) → source_or_refusal image ≡ Err refusals.TooLong → ⊥
-source_not_long (Ok picture) e = let h : taken_as picture ≡ refusal_error refusals.TooLong = e in cc
-source_not_long (Err error) e = let h : refusal_error (refusals.BadSource error) ≡ refusal_error refusals.TooLong = e in cc
+  source_told : (image : Result Picture AsmError) → ((error : AsmError) → IsErr image → P (refusals.BadSource error))
+      → (refusal : Refusal) → source_or_refusal image ≡ Err refusal → P refusal
+  source_told (Ok picture) bad refusal is = absurd (let h : taken_as picture ≡ refusal_error refusal = is in cc)
+  source_told (Err error) bad refusal is = subst P (let h : refusal_error (refusals.BadSource error) ≡ refusal_error refusal = is in cc) (bad error refl)
 
-image_no_source : (image : Result Picture ImageError) (error : AsmError) → image_or_refusal image ≡ Err (refusals.BadSource error) → ⊥
-image_no_source (Ok picture) error e = let h : taken_as picture ≡ refusal_error (refusals.BadSource error) = e in cc
-image_no_source (Err other) error e = let h : refusal_error (refusals.BadImage other) ≡ refusal_error (refusals.BadSource error) = e in cc
+  tags_told : (image : Result Picture TagsError) → ((error : TagsError) → IsErr image → P (refusals.BadTags error))
+      → (refusal : Refusal) → tags_or_refusal image ≡ Err refusal → P refusal
+  tags_told (Ok picture) bad refusal is = absurd (let h : taken_as picture ≡ refusal_error refusal = is in cc)
+  tags_told (Err error) bad refusal is = subst P (let h : refusal_error (refusals.BadTags error) ≡ refusal_error refusal = is in cc) (bad error refl)
 
-source_no_image : (image : Result Picture AsmError) (error : ImageError) → source_or_refusal image ≡ Err (refusals.BadImage error) → ⊥
-source_no_image (Ok picture) error e = let h : taken_as picture ≡ refusal_error (refusals.BadImage error) = e in cc
-source_no_image (Err other) error e = let h : refusal_error (refusals.BadSource other) ≡ refusal_error (refusals.BadImage error) = e in cc
+  elf_told : (image : Result Picture ElfError) → ((error : ElfError) → IsErr image → P (refusals.BadElf error))
+      → (refusal : Refusal) → elf_or_refusal image ≡ Err refusal → P refusal
+  elf_told (Ok picture) bad refusal is = absurd (let h : taken_as picture ≡ refusal_error refusal = is in cc)
+  elf_told (Err error) bad refusal is = subst P (let h : refusal_error (refusals.BadElf error) ≡ refusal_error refusal = is in cc) (bad error refl)
 
-image_is_bad : (image : Result Picture ImageError) (error : ImageError) → image_or_refusal image ≡ Err (refusals.BadImage error) → IsErr image
-image_is_bad (Ok picture) error e = absurd (let h : taken_as picture ≡ refusal_error (refusals.BadImage error) = e in cc)
-image_is_bad (Err other) error e = refl
+  -- a file is too long, or refused for what it holds
+  module _ (bytes : List ℕ) (long : IsLongFile bytes → P refusals.TooLong) where
+    file_told : (read : List ℕ → Result Picture Refusal) → ((refusal : Refusal) → read bytes ≡ Err refusal → P refusal)
+        → (refusal : Refusal) → file_as read (within_limit file_limit bytes) ≡ Err refusal → P refusal
+    file_told read bad refusal is = by_length (nat_le (length bytes) file_limit) refl is
+      where
+        by_length : (fits : Bool) → nat_le (length bytes) file_limit ≡ fits → file_as read (if fits then Ok bytes else Err refusals.TooLong) ≡ Err refusal → P refusal
+        by_length true fits refused = bad refusal refused
+        by_length false past refused =
+            subst P (let h : refusal_error refusals.TooLong ≡ refusal_error refusal = refused in cc) (long (grind (arith, nat_tests, past)))
 
-source_is_bad : (image : Result Picture AsmError) (error : AsmError) → source_or_refusal image ≡ Err (refusals.BadSource error) → IsErr image
-source_is_bad (Ok picture) error e = absurd (let h : taken_as picture ≡ refusal_error (refusals.BadSource error) = e in cc)
-source_is_bad (Err other) error e = refl
+    image_why : ((error : ImageError) → IsErr (image_of bytes) → P (refusals.BadImage error)) → (refusal : Refusal) → image_read bytes ≡ Err refusal → P refusal
+    unfolding image_read
+    image_why bad refusal is = file_told (λ file. image_or_refusal (image_of file)) (image_told (image_of bytes) bad) refusal is
 
--- a number that is not below or at the limit
-past_limit : (bytes : List ℕ) → nat_le (length bytes) file_limit ≡ false → IsLongFile bytes
-past_limit bytes past = grind (arith, nat_tests)
+    source_why : ((error : AsmError) → IsErr (image_of_source bytes) → P (refusals.BadSource error)) → (refusal : Refusal) → source_read bytes ≡ Err refusal → P refusal
+    unfolding source_read
+    source_why bad refusal is = file_told (λ file. source_or_refusal (image_of_source file)) (source_told (image_of_source bytes) bad) refusal is
 
-long_from : {A B : Type 0} (bytes : List ℕ) → ((nat_le (length bytes) file_limit ≡ false) × A) ⊎ B → (B → ⊥) → IsLongFile bytes
-long_from bytes (inl past) never = past_limit bytes past.0
-long_from bytes (inr other) never = absurd (never other)
+    tags_why : ((error : TagsError) → IsErr (tags_of bytes) → P (refusals.BadTags error))
+        → (refusal : Refusal) → tags_taken (within_limit file_limit bytes) ≡ Err refusal → P refusal
+    tags_why bad refusal is = file_told (λ file. tags_or_refusal (tags_of file)) (tags_told (tags_of bytes) bad) refusal is
 
-long_image : (bytes : List ℕ) → image_read bytes ≡ Err refusals.TooLong → IsLongFile bytes
-unfolding image_read
-long_image bytes is =
-    long_from bytes (as_refused (nat_le (length bytes) file_limit) bytes (λ file. image_or_refusal (image_of file)) refusals.TooLong is) (image_not_long (image_of bytes))
+    elf_why : (tags : Picture) → ((error : ElfError) → IsErr (image_of_elf bytes tags) → P (refusals.BadElf error))
+        → (refusal : Refusal) → elf_taken (within_limit file_limit bytes) tags ≡ Err refusal → P refusal
+    elf_why tags bad refusal is = file_told (λ file. elf_or_refusal (image_of_elf file tags)) (elf_told (image_of_elf bytes tags) bad) refusal is
 
-long_source : (bytes : List ℕ) → source_read bytes ≡ Err refusals.TooLong → IsLongFile bytes
-unfolding source_read
-long_source bytes is =
-    long_from bytes (as_refused (nat_le (length bytes) file_limit) bytes (λ file. source_or_refusal (image_of_source file)) refusals.TooLong is) (source_not_long (image_of_source bytes))
+  -- the tag file is refused, or the ELF file under it
+  both_why : (elf_file tag_file : Result (List ℕ) Refusal) → ((refusal : Refusal) → tags_taken tag_file ≡ Err refusal → P refusal)
+      → ((tags : Picture) → tags_taken tag_file ≡ Ok tags → (refusal : Refusal) → elf_taken elf_file tags ≡ Err refusal → P refusal)
+      → (refusal : Refusal) → both_taken elf_file tag_file ≡ Err refusal → P refusal
+  unfolding both_taken
+  both_why elf_file tag_file no_tags no_elf refusal is = by_tags (tags_taken tag_file) refl is
+    where
+      by_tags : (read : Result Picture Refusal) → tags_taken tag_file ≡ read → (read >>= (λ tags. elf_taken elf_file tags)) ≡ Err refusal → P refusal
+      by_tags (Ok tags) taken refused = no_elf tags taken refusal refused
+      by_tags (Err other) taken refused = subst P (let h : refusal_error other ≡ refusal_error refusal = refused in cc) (no_tags other taken)
+
+-- a tag file that is taken is one
+pub tags_are : (bytes : List ℕ) (tags : Picture) → tags_taken (within_limit file_limit bytes) ≡ Ok tags → tags_of bytes ≡ Ok tags
+tags_are bytes tags is = by_length (nat_le (length bytes) file_limit) is
+  where
+    tag_image : Picture → Result Picture TagsError
+    tag_image picture = Ok picture
+
+    by_image : (read : Result Picture TagsError) → tags_or_refusal read ≡ Ok tags → read ≡ Ok tags
+    by_image (Ok picture) taken = let same : picture ≡ tags = (let h : taken_as picture ≡ taken_as tags = taken in cc) in ap tag_image same
+    by_image (Err error) taken = absurd (let h : refusal_error (refusals.BadTags error) ≡ taken_as tags = taken in cc)
+
+    by_length : (fits : Bool) → tags_taken (if fits then Ok bytes else Err refusals.TooLong) ≡ Ok tags → tags_of bytes ≡ Ok tags
+    by_length true taken = by_image (tags_of bytes) taken
+    by_length false taken = absurd (let h : refusal_error refusals.TooLong ≡ taken_as tags = taken in cc)
+
+-- and so is an ELF file
+pub elf_is : (bytes : List ℕ) (tags g : Picture) → elf_taken (within_limit file_limit bytes) tags ≡ Ok g → image_of_elf bytes tags ≡ Ok g
+elf_is bytes tags g is = by_length (nat_le (length bytes) file_limit) is
+  where
+    elf_image : Picture → Result Picture ElfError
+    elf_image picture = Ok picture
+
+    by_image : (read : Result Picture ElfError) → elf_or_refusal read ≡ Ok g → read ≡ Ok g
+    by_image (Ok picture) taken = let same : picture ≡ g = (let h : taken_as picture ≡ taken_as g = taken in cc) in ap elf_image same
+    by_image (Err error) taken = absurd (let h : refusal_error (refusals.BadElf error) ≡ taken_as g = taken in cc)
+
+    by_length : (fits : Bool) → elf_taken (if fits then Ok bytes else Err refusals.TooLong) tags ≡ Ok g → image_of_elf bytes tags ≡ Ok g
+    by_length true taken = by_image (image_of_elf bytes tags) taken
+    by_length false taken = absurd (let h : refusal_error refusals.TooLong ≡ taken_as g = taken in cc)
 
 -- what is mapped was refused as it was before
 refused_before : {A B : Type 0} (view : A → B) (read : Result A Refusal) (refusal : Refusal) → result_view view read ≡ Err refusal → read ≡ Err refusal
 refused_before view (Ok x) refusal is = absurd (let h : Ok (view x) ≡ Err refusal = is in cc)
 refused_before view (Err other) refusal is = let same : other ≡ refusal = (let h : Err other ≡ Err refusal = is in cc) in ap Err same
 
-long_made : (making : Making) (bytes : List ℕ) → made_read making bytes ≡ Err refusals.TooLong → IsLongFile bytes
-long_made Assemble bytes is = long_source bytes is
-long_made Migrate bytes is = long_image bytes (refused_before migrated (image_read bytes) refusals.TooLong is)
+-- what holds of a content that is refused so
+abbrev pub RefusedFor : (task : Task) → ContentOf task → Option (List ℕ) → Refusal → Type 0
+RefusedFor task content left refusals.BadWords = ⊥
+RefusedFor task content left (refusals.BadImage error) = HasNoImage task content
+RefusedFor task content left (refusals.BadSource error) = HasNoSource task content
+RefusedFor task content left (refusals.BadTags error) = HasNoTags task content
+RefusedFor task content left (refusals.BadElf error) = HasNoElf task content
+RefusedFor task content left refusals.TooLong = IsTooLong task content left
 
-pub too_long : (task : Task) (bytes : List ℕ) (left : Option (List ℕ)) → content_read task bytes ≡ Err refusals.TooLong → IsTooLong task bytes left
-too_long (run task) bytes left is = each left _ (λ input. inl (long_image bytes is))
-too_long (shell task) bytes left is = each left _ (λ input. inl (long_image bytes is))
-too_long (save task) bytes left is = long_made task.making bytes is
-too_long (disassemble task) bytes left is = long_image bytes is
-too_long (load task) bytes left is = long_source bytes is
+made_why : (task : SaveTask) (bytes : List ℕ) (left : Option (List ℕ)) (making : Making) (refusal : Refusal) → made_read making bytes ≡ Err refusal
+    → RefusedFor (save task) bytes left refusal
+made_why task bytes left Assemble refusal is = source_why (RefusedFor (save task) bytes left) bytes (λ long. long) (λ error bad. bad) refusal is
+made_why task bytes left Migrate refusal is =
+    image_why (RefusedFor (save task) bytes left) bytes (λ long. long) (λ error bad. bad) refusal (refused_before migrated (image_read bytes) refusal is)
 
--- what is read was refused, and not for its length
-not_for_length : {A B : Type 0} (refusal : Refusal) → (A × (refusal ≡ refusals.TooLong)) ⊎ B → (refusal ≡ refusals.TooLong → ⊥) → B
-not_for_length refusal (inl past) never = absurd (never past.1)
-not_for_length refusal (inr read) never = read
+elf_files_why : (task : ElfTask) (files : ElfFiles) (left : Option (List ℕ)) (refusal : Refusal) → elf_read files ≡ Err refusal → RefusedFor (elf task) files left refusal
+elf_files_why task files left =
+    both_why (RefusedFor (elf task) files left) (within_limit file_limit files.elf) (within_limit file_limit files.tags)
+    (tags_why (RefusedFor (elf task) files left) files.tags inl (λ error bad. bad))
+    (λ tags taken. elf_why (RefusedFor (elf task) files left) files.elf inr tags (λ error bad. record { tags = tags; is_tags = tags_are files.tags tags taken; is_bad = bad }))
 
-image_refusal : (bytes : List ℕ) (refusal : Refusal) → image_read bytes ≡ Err refusal → (refusal ≡ refusals.TooLong → ⊥) → image_or_refusal (image_of bytes) ≡ Err refusal
-unfolding image_read
-image_refusal bytes refusal is never =
-    not_for_length refusal (as_refused (nat_le (length bytes) file_limit) bytes (λ file. image_or_refusal (image_of file)) refusal is) never
-
-source_refusal : (bytes : List ℕ) (refusal : Refusal) → source_read bytes ≡ Err refusal → (refusal ≡ refusals.TooLong → ⊥) → source_or_refusal (image_of_source bytes) ≡ Err refusal
-unfolding source_read
-source_refusal bytes refusal is never =
-    not_for_length refusal (as_refused (nat_le (length bytes) file_limit) bytes (λ file. source_or_refusal (image_of_source file)) refusal is) never
-
-image_bad : (bytes : List ℕ) (error : ImageError) → image_read bytes ≡ Err (refusals.BadImage error) → image_or_refusal (image_of bytes) ≡ Err (refusals.BadImage error)
-image_bad bytes error is = image_refusal bytes (refusals.BadImage error) is (λ e. let h : refusals.BadImage error ≡ refusals.TooLong = e in cc)
-
-source_bad : (bytes : List ℕ) (error : AsmError) → source_read bytes ≡ Err (refusals.BadSource error) → source_or_refusal (image_of_source bytes) ≡ Err (refusals.BadSource error)
-source_bad bytes error is = source_refusal bytes (refusals.BadSource error) is (λ e. let h : refusals.BadSource error ≡ refusals.TooLong = e in cc)
-
-source_no_image_in : (bytes : List ℕ) (error : ImageError) → source_read bytes ≡ Err (refusals.BadImage error) → ⊥
-source_no_image_in bytes error is =
-    source_no_image (image_of_source bytes) error (source_refusal bytes (refusals.BadImage error) is (λ e. let h : refusals.BadImage error ≡ refusals.TooLong = e in cc))
-
-no_image_made : (making : Making) (bytes : List ℕ) (error : ImageError) → made_read making bytes ≡ Err (refusals.BadImage error) → IsErr (image_of bytes)
-no_image_made Assemble bytes error is = absurd (source_no_image_in bytes error is)
-no_image_made Migrate bytes error is =
-    image_is_bad (image_of bytes) error (image_bad bytes error (refused_before migrated (image_read bytes) (refusals.BadImage error) is))
-
-pub no_image : (task : Task) (bytes : List ℕ) (error : ImageError) → content_read task bytes ≡ Err (refusals.BadImage error) → IsErr (image_of bytes)
-no_image (run task) bytes error is = image_is_bad (image_of bytes) error (image_bad bytes error is)
-no_image (shell task) bytes error is = image_is_bad (image_of bytes) error (image_bad bytes error is)
-no_image (save task) bytes error is = no_image_made task.making bytes error is
-no_image (disassemble task) bytes error is = image_is_bad (image_of bytes) error (image_bad bytes error is)
-no_image (load task) bytes error is = absurd (source_no_image_in bytes error is)
-
-image_no_source_in : (bytes : List ℕ) (error : AsmError) → image_read bytes ≡ Err (refusals.BadSource error) → ⊥
-image_no_source_in bytes error is =
-    image_no_source (image_of bytes) error (image_refusal bytes (refusals.BadSource error) is (λ e. let h : refusals.BadSource error ≡ refusals.TooLong = e in cc))
-
-no_source_made : (making : Making) (bytes : List ℕ) (error : AsmError) → made_read making bytes ≡ Err (refusals.BadSource error) → IsErr (image_of_source bytes)
-no_source_made Assemble bytes error is = source_is_bad (image_of_source bytes) error (source_bad bytes error is)
-no_source_made Migrate bytes error is = absurd (image_no_source_in bytes error (refused_before migrated (image_read bytes) (refusals.BadSource error) is))
-
-pub no_source : (task : Task) (bytes : List ℕ) (error : AsmError) → content_read task bytes ≡ Err (refusals.BadSource error) → IsErr (image_of_source bytes)
-no_source (run task) bytes error is = absurd (image_no_source_in bytes error is)
-no_source (shell task) bytes error is = absurd (image_no_source_in bytes error is)
-no_source (save task) bytes error is = no_source_made task.making bytes error is
-no_source (disassemble task) bytes error is = absurd (image_no_source_in bytes error is)
-no_source (load task) bytes error is = source_is_bad (image_of_source bytes) error (source_bad bytes error is)
+-- why a content is refused
+pub why_refused : (task : Task) (content : ContentOf task) (left : Option (List ℕ)) (refusal : Refusal) → content_read task content ≡ Err refusal
+    → RefusedFor task content left refusal
+why_refused (run task) bytes left refusal is =
+    image_why (RefusedFor (run task) bytes left) bytes (λ long. each left _ (λ input. inl long)) (λ error bad. bad) refusal is
+why_refused (shell task) bytes left refusal is =
+    image_why (RefusedFor (shell task) bytes left) bytes (λ long. each left _ (λ input. inl long)) (λ error bad. bad) refusal is
+why_refused (save task) bytes left refusal is = made_why task bytes left task.making refusal is
+why_refused (elf task) files left refusal is = elf_files_why task files left refusal is
+why_refused (disassemble task) bytes left refusal is = image_why (RefusedFor (disassemble task) bytes left) bytes (λ long. long) (λ error bad. bad) refusal is
+why_refused (load task) bytes left refusal is = source_why (RefusedFor (load task) bytes left) bytes (λ long. long) (λ error bad. bad) refusal is
 
 pub long_input : (bytes : List ℕ) → input_read bytes ≡ Err refusals.TooLong → IsLongInput bytes
 unfolding input_read
@@ -229,18 +247,46 @@ loses_nothing left most = record { prefix = []; moved = by left; within = omega 
     by None = refl
     by (Some bytes) = refl
 
-taken_is_fine : (task : Task) (bytes : List ℕ) (picture : Picture) {P : Type 0} → content_read task bytes ≡ Ok picture → IsErr (content_read task bytes) → P
-taken_is_fine task bytes picture is bad = absurd (let h : false ≡ true = subst (λ (read : Result Picture Refusal). IsErr read) is bad in cc)
+taken_is_fine : (task : Task) (content : ContentOf task) (picture : Picture) {P : Type 0} → content_read task content ≡ Ok picture → IsErr (content_read task content) → P
+taken_is_fine task content picture is bad = absurd (let h : false ≡ true = subst (λ (read : Result Picture Refusal). IsErr read) is bad in cc)
 
 -- what a status is not, and why it may be what it is
-pub record Side (task : Task) (status : Status) (BadImage BadSource TooLong : Type 0) : Type 0 where
+pub record Side {I : Type 0} (task : Task) (before : Environment I) (status : Status) : Type 0 where
   pub words : status ≡ statuses.BadWords → ⊥
-  pub bad : status ≡ statuses.BadImage → BadImage
-  pub source : status ≡ statuses.BadSource → BadSource
-  pub long : status ≡ statuses.TooLong → TooLong
+  pub causes : Causes task status before
   pub not_run : ReadsAll task status → ⊥
   pub not_out : status ≡ statuses.TagsOut → ⊥
   pub not_done : status ≡ statuses.Done → ⊥
+
+-- a status that is not a refusal's has no cause
+pub record NoRefusal (status : Status) : Type 0 where
+  pub image : status ≡ statuses.BadImage → ⊥
+  pub source : status ≡ statuses.BadSource → ⊥
+  pub tags : status ≡ statuses.BadTags → ⊥
+  pub elf_file : status ≡ statuses.BadElf → ⊥
+
+-- nor has one that is told of what is too long, but that
+pub causes_long : {I : Type 0} (task : Task) (status : Status) (before : Environment I) → NoRefusal status
+    → (status ≡ statuses.TooLong → IfSome (content_of task before.held) (λ content. IsTooLong task content before.left)) → Causes task status before
+causes_long task status before none long = record {
+  bad_image = λ e. absurd (none.image e);
+  bad_source = λ e. absurd (none.source e);
+  bad_tags = λ e. absurd (none.tags e);
+  bad_elf = λ e. absurd (none.elf_file e);
+  too_long = long;
+}
+
+pub no_causes : {I : Type 0} (task : Task) (status : Status) (before : Environment I) → NoRefusal status → (status ≡ statuses.TooLong → ⊥) → Causes task status before
+no_causes task status before none not_long = causes_long task status before none (λ e. absurd (not_long e))
+
+pub of_memory : {I : Type 0} (task : Task) (before : Environment I) → Causes task statuses.Memory before
+of_memory task before =
+    no_causes task statuses.Memory before (record {
+      image = λ e. let h : statuses.Memory ≡ statuses.BadImage = e in cc;
+      source = λ e. let h : statuses.Memory ≡ statuses.BadSource = e in cc;
+      tags = λ e. let h : statuses.Memory ≡ statuses.BadTags = e in cc;
+      elf_file = λ e. let h : statuses.Memory ≡ statuses.BadElf = e in cc;
+    }) (λ e. let h : statuses.Memory ≡ statuses.TooLong = e in cc)
 
 -- ---- sessions
 
@@ -263,6 +309,7 @@ no_session (run task) status before after not_out not_done not_input input = tt
 no_session (shell task) status before after not_out not_done not_input input =
     each (before.held task.image) _ (λ bytes. unexecuted task (image_read bytes) status before after not_out not_done not_input input)
 no_session (save task) status before after not_out not_done not_input input = tt
+no_session (elf task) status before after not_out not_done not_input input = tt
 no_session (disassemble task) status before after not_out not_done not_input input = tt
 no_session (load task) status before after not_out not_done not_input input = tt
 
@@ -276,34 +323,27 @@ some_session task picture status before after taken executed =
 
 -- ---- what is done to the input
 
-module _ {I : Type 0} (task : Task) (status : Status) (before after : Environment I)
-    (bad : status ≡ statuses.BadImage → IfSome (content_of task before.held) (λ bytes. IsErr (image_of bytes)))
-    (source : status ≡ statuses.BadSource → IfSome (content_of task before.held) (λ bytes. IsErr (image_of_source bytes)))
-    (long : status ≡ statuses.TooLong → IfSome (content_of task before.held) (λ bytes. IsTooLong task bytes before.left))
+module _ {I : Type 0} (task : Task) (status : Status) (before after : Environment I) (causes : Causes task status before)
     (session : SessionFacts task status before after) where
   -- the input was not asked for
   pub facts_unasked : after.input ≡ before.input → after.left ≡ before.left → (ReadsAll task status → ⊥) → FileFacts task status before after
   facts_unasked input left not_all = record {
-    bad_image = bad;
-    bad_source = source;
-    too_long = long;
+    causes = causes;
     unread = λ early. input;
-    unasked = each (content_of task before.held) _ (λ bytes refused. input);
+    unasked = each (content_of task before.held) _ (λ content refused. input);
     whole = λ all. absurd (not_all all);
     session = session;
     moved = subst (λ (now : Option (List ℕ)). LosesPrefix before.left now (input_limit + 4096)) (sym left) (loses_nothing before.left (input_limit + 4096));
   }
 
   -- the file was taken
-  pub facts_asked : (picture : Picture) → IfSome (content_of task before.held) (λ bytes. content_read task bytes ≡ Ok picture)
+  pub facts_asked : (picture : Picture) → IfSome (content_of task before.held) (λ content. content_read task content ≡ Ok picture)
       → LosesPrefix before.left after.left (input_limit + 4096) → (IsBeforeInput task status → after.input ≡ before.input)
       → (ReadsAll task status → IsTrue after.closed) → FileFacts task status before after
   facts_asked picture taken moved unread whole = record {
-    bad_image = bad;
-    bad_source = source;
-    too_long = long;
+    causes = causes;
     unread = unread;
-    unasked = if_some_each (content_of task before.held) _ _ (λ bytes is refused. taken_is_fine task bytes picture is refused) taken;
+    unasked = if_some_each (content_of task before.held) _ _ (λ content is refused. taken_is_fine task content picture is refused) taken;
     whole = whole;
     session = session;
     moved = moved;
@@ -316,59 +356,35 @@ IsSaving statuses.WriteFailed = Unit {0}
 IsSaving _ = ⊥
 
 -- it is none of a refusal
-record OfSaving (status : Status) : Type 0 where
-  bad : status ≡ statuses.BadImage → ⊥
-  source : status ≡ statuses.BadSource → ⊥
-  long : status ≡ statuses.TooLong → ⊥
+of_saving : {I : Type 0} (task : Task) (status : Status) (before : Environment I) → IsSaving status ⊎ (status ≡ statuses.Memory) → Causes task status before
+of_saving task status before (inl saving) =
+    no_causes task status before (record {
+      image = λ e. subst IsSaving e saving;
+      source = λ e. subst IsSaving e saving;
+      tags = λ e. subst IsSaving e saving;
+      elf_file = λ e. subst IsSaving e saving;
+    }) (λ e. subst IsSaving e saving)
+of_saving task status before (inr memory) = subst (λ (s : Status). Causes task s before) (sym memory) (of_memory task before)
 
-of_saving : (status : Status) → IsSaving status ⊎ (status ≡ statuses.Memory) → OfSaving status
-of_saving status (inl saving) = record {
-  bad = λ e. subst IsSaving e saving;
-  source = λ e. subst IsSaving e saving;
-  long = λ e. subst IsSaving e saving;
-}
-of_saving status (inr memory) = record {
-  bad = λ e. let h : statuses.Memory ≡ statuses.BadImage = sym memory ∙ e in cc;
-  source = λ e. let h : statuses.Memory ≡ statuses.BadSource = sym memory ∙ e in cc;
-  long = λ e. let h : statuses.Memory ≡ statuses.TooLong = sym memory ∙ e in cc;
-}
-
--- a file was taken, and the image that is made of it was to be saved
-pub facts_saving : {I : Type 0} (task : SaveTask) (status : Status) (before after : Environment I) (picture : Picture)
-    → IfSome (before.held task.source) (λ bytes. made_read task.making bytes ≡ Ok picture) → IsSaving status ⊎ (status ≡ statuses.Memory)
-    → after.input ≡ before.input → after.left ≡ before.left → FileFacts (save task) status before after
-facts_saving task status before after picture taken ends input left =
-    let side = of_saving status ends in
-    record {
-      bad_image = λ e. absurd (side.bad e);
-      bad_source = λ e. absurd (side.source e);
-      too_long = λ e. absurd (side.long e);
-      unread = λ early. input;
-      unasked = if_some_each (before.held task.source) _ _ (λ bytes is refused. taken_is_fine (save task) bytes picture is refused) taken;
-      whole = λ all. absurd all;
-      session = tt;
-      moved = subst (λ (now : Option (List ℕ)). LosesPrefix before.left now (input_limit + 4096)) (sym left) (loses_nothing before.left (input_limit + 4096));
-    }
+-- an image was made, and was to be saved
+pub facts_saving : {I : Type 0} (task : Task) (status : Status) (before after : Environment I) → IsSaving status ⊎ (status ≡ statuses.Memory)
+    → SessionFacts task status before after → (ReadsAll task status → ⊥)
+    → after.input ≡ before.input → after.left ≡ before.left → FileFacts task status before after
+facts_saving task status before after ends session not_all input left =
+    facts_unasked task status before after (of_saving task status before ends) session input left not_all
 
 -- a call that wants memory did not read the input to its end, as far as is told
 not_all_read : (task : Task) → ReadsAll task statuses.Memory → ⊥
 not_all_read (run task) all = all
 not_all_read (shell task) all = all
 not_all_read (save task) all = all
+not_all_read (elf task) all = all
 not_all_read (disassemble task) all = all
 not_all_read (load task) all = all
 
 -- running out of memory before anything was asked for
 pub facts_none : {I : Type 0} (task : Task) (before : Environment I) → FileFacts task statuses.Memory before before
-facts_none task before = record {
-  bad_image = λ e. absurd (let h : statuses.Memory ≡ statuses.BadImage = e in cc);
-  bad_source = λ e. absurd (let h : statuses.Memory ≡ statuses.BadSource = e in cc);
-  too_long = λ e. absurd (let h : statuses.Memory ≡ statuses.TooLong = e in cc);
-  unread = λ early. refl;
-  unasked = each (content_of task before.held) _ (λ bytes refused. refl);
-  whole = λ all. absurd (not_all_read task all);
-  session =
-      no_session task statuses.Memory before before (λ e. let h : statuses.Memory ≡ statuses.TagsOut = e in cc)
-      (λ e. let h : statuses.Memory ≡ statuses.Done = e in cc) (λ e. let h : statuses.Memory ≡ statuses.InputFailed = e in cc) refl;
-  moved = loses_nothing before.left (input_limit + 4096);
-}
+facts_none task before =
+    facts_unasked task statuses.Memory before before (of_memory task before)
+    (no_session task statuses.Memory before before (λ e. let h : statuses.Memory ≡ statuses.TagsOut = e in cc)
+    (λ e. let h : statuses.Memory ≡ statuses.Done = e in cc) (λ e. let h : statuses.Memory ≡ statuses.InputFailed = e in cc) refl) refl refl (not_all_read task)

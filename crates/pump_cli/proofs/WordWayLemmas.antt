@@ -8,7 +8,7 @@ use Rattle.pump_cli.specs.Early.{Tells}
 use Rattle.pump_cli.specs.Endings.{Outcome}
 use Rattle.pump_cli.specs.Facts.{Does, TaskFacts, status_in}
 use Rattle.pump_cli.specs.Program.{outcome_of_words, program}
-use Rattle.pump_cli.specs.Theorem.{Headline}
+use Rattle.pump_cli.specs.Theorem.{Headline, HeadlineOf}
 use Rattle.pump_cli.specs.declared.cut.Cut.{Cut}
 use Rattle.pump_cli.specs.declared.cut.Cut.TheVariants as cut
 use Rattle.pump_cli.specs.declared.refusal.Refusal.TheVariants as refusals
@@ -19,6 +19,11 @@ use Rattle.pump_cli.proofs.CallLemmas.{none_called, unread_called}
 use Rattle.pump_cli.proofs.TaskLemmas.{facts_none}
 use Rattle.pump_cli.proofs.SideLemmas.{refusal_is_told, told_as}
 use Rattle.pump_cli.proofs.WayLemmas.{beside, beside_faults, refused_outcome}
+
+-- what is done of a task is what is done of the one that it is
+pub done_as : {I : Type 0} (task other : Task) (status : Status) (before after : Environment I) → task ≡ other
+    → HeadlineOf other status before after → HeadlineOf task status before after
+done_as task other status before after is done = subst (λ (one : Task). HeadlineOf one status before after) (sym is) done
 
 module _ {I : Type 0} (words : List (List ℕ)) (before after : Environment I) where
   -- the words ask for that, or for nothing

@@ -6,7 +6,7 @@ use Rattle.shared_terms.specs.Counts.{next_count}
 use Rattle.host_io.specs.Environment.{Faults, InputFault, NoFault, Environment, PutFault, ReadFault, WriteFault}
 use Rattle.image_format.specs.Picture.{Picture}
 use Rattle.image_format.specs.Spelling.{spelling}
-use Rattle.pump_line.specs.Task.{Task, disassemble, load, run, save, shell}
+use Rattle.pump_line.specs.Task.{Task, disassemble, elf, load, run, save, shell}
 use Rattle.pump_cli.specs.Codes.{status_of_refusal}
 use Rattle.pump_cli.specs.Reading.{content_of, content_read}
 use Rattle.pump_cli.specs.declared.refusal.Refusal.{Refusal}
@@ -21,12 +21,15 @@ pub data FileCall : Type 0 where
 
 -- ---- the calls of a task
 
--- by what the content is read as: `asm` and `migrate` save the file of the image that they make of it, and a refused one saves nothing
+-- by what the content is read as: `asm`, `migrate` and `elf` save the file of the image that they make of it, and a refused one saves
+-- nothing
 abbrev pub calls_of_task : Task → Result Picture Refusal → List FileCall
 calls_of_task (run task) read = Load task.image ∷ []
 calls_of_task (shell task) read = Load task.image ∷ []
 calls_of_task (save task) (Ok picture) = Load task.source ∷ Save task.image (spelling picture) ∷ []
 calls_of_task (save task) (Err refusal) = Load task.source ∷ []
+calls_of_task (elf task) (Ok picture) = Load task.elf ∷ Load task.tags ∷ Save task.image (spelling picture) ∷ []
+calls_of_task (elf task) (Err refusal) = Load task.elf ∷ Load task.tags ∷ []
 calls_of_task (disassemble task) read = Load task.image ∷ []
 calls_of_task (load task) read = []
 
@@ -38,7 +41,7 @@ calls_of (Some task) read = calls_of_task task read
 -- the content is read as that, where it is told; bad words are refused whatever it is
 abbrev pub IsReadAs : Option Task → (List ℕ → Option (List ℕ)) → Result Picture Refusal → Type 0
 IsReadAs None held read = read ≡ Err BadWords
-IsReadAs (Some task) held read = IfSome (content_of task held) (λ bytes. read ≡ content_read task bytes)
+IsReadAs (Some task) held read = IfSome (content_of task held) (λ content. read ≡ content_read task content)
 
 -- ---- which of them were made
 
@@ -52,6 +55,7 @@ MakesAll _ = Unit {0}
 -- such a status, where the content was taken: a task that saved is done
 abbrev pub EndsTaken : Option Task → Status → Type 0
 EndsTaken (Some (save task)) status = status ≡ Done
+EndsTaken (Some (elf task)) status = status ≡ Done
 EndsTaken _ status = Unit {0}
 
 -- such a status, by what the content was read as: a refusal's own, unless it could not be told

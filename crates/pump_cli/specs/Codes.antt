@@ -1,12 +1,12 @@
 -- The number of each status, and kinds of statuses.
 use Rattle.std.specs.Prelude.{ℕ, Option, Some, None}
-use Rattle.pump_line.specs.Task.{Task, disassemble, load, run, save, shell}
+use Rattle.pump_line.specs.Task.{Task, disassemble, elf, load, run, save, shell}
 use Rattle.pump_cli.specs.declared.cut.Cut.{Cut}
 use Rattle.pump_cli.specs.declared.cut.Cut.TheVariants as cut
 use Rattle.pump_cli.specs.declared.refusal.Refusal.{Refusal}
 use Rattle.pump_cli.specs.declared.refusal.Refusal.TheVariants as refusal
 use Rattle.pump_cli.specs.declared.status.Status.{Status}
-use Rattle.pump_cli.specs.declared.status.Status.TheVariants.{Done, ExitedNonzero, BadWords, BadImage, BadSource, Violated, Faulted, TurnsSpent, TagsOut, ReadFailed, InputFailed, PutFailed, Memory, WriteFailed, TooLong}
+use Rattle.pump_cli.specs.declared.status.Status.TheVariants.{Done, ExitedNonzero, BadWords, BadImage, BadSource, BadTags, BadElf, Violated, Faulted, TurnsSpent, TagsOut, ReadFailed, InputFailed, PutFailed, Memory, WriteFailed, TooLong}
 
 -- the number that the process ends with
 abbrev pub code_of : Status → ℕ
@@ -15,6 +15,8 @@ code_of ExitedNonzero = 1
 code_of BadWords = 2
 code_of BadImage = 3
 code_of BadSource = 3
+code_of BadTags = 3
+code_of BadElf = 3
 code_of Violated = 4
 code_of Faulted = 5
 code_of TurnsSpent = 6
@@ -30,6 +32,8 @@ abbrev pub status_of_refusal : Refusal → Status
 status_of_refusal refusal.BadWords = BadWords
 status_of_refusal (refusal.BadImage error) = BadImage
 status_of_refusal (refusal.BadSource error) = BadSource
+status_of_refusal (refusal.BadTags error) = BadTags
+status_of_refusal (refusal.BadElf error) = BadElf
 status_of_refusal refusal.TooLong = TooLong
 
 abbrev pub status_of_cut : Cut → Status
@@ -62,6 +66,7 @@ ReadsFirst None = Unit {0}
 ReadsFirst (Some (run task)) = Unit {0}
 ReadsFirst (Some (shell task)) = ⊥
 ReadsFirst (Some (save task)) = Unit {0}
+ReadsFirst (Some (elf task)) = Unit {0}
 ReadsFirst (Some (disassemble task)) = Unit {0}
 ReadsFirst (Some (load task)) = Unit {0}
 
@@ -70,6 +75,8 @@ abbrev pub IsOfRefusal : Option Task → Status → Type 0
 IsOfRefusal task BadWords = Unit {0}
 IsOfRefusal task BadImage = Unit {0}
 IsOfRefusal task BadSource = Unit {0}
+IsOfRefusal task BadTags = Unit {0}
+IsOfRefusal task BadElf = Unit {0}
 IsOfRefusal task TooLong = ReadsFirst task
 IsOfRefusal task _ = ⊥
 
@@ -94,6 +101,7 @@ abbrev pub StartsFirst : Task → Type 0
 StartsFirst (run task) = ⊥
 StartsFirst (shell task) = Unit {0}
 StartsFirst (save task) = ⊥
+StartsFirst (elf task) = ⊥
 StartsFirst (disassemble task) = ⊥
 StartsFirst (load task) = ⊥
 
@@ -101,6 +109,7 @@ StartsFirst (load task) = ⊥
 -- run
 abbrev pub IsBeforeInput : Task → Status → Type 0
 IsBeforeInput (save task) status = Unit {0}
+IsBeforeInput (elf task) status = Unit {0}
 IsBeforeInput (disassemble task) status = Unit {0}
 IsBeforeInput (load task) status = Unit {0}
 IsBeforeInput task BadWords = Unit {0}
@@ -114,5 +123,6 @@ abbrev pub ReadsAll : Task → Status → Type 0
 ReadsAll (run task) status = IsOfRun status
 ReadsAll (shell task) status = ⊥
 ReadsAll (save task) status = ⊥
+ReadsAll (elf task) status = ⊥
 ReadsAll (disassemble task) status = ⊥
 ReadsAll (load task) status = ⊥

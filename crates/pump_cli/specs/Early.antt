@@ -1,7 +1,9 @@
 -- Where nothing ran: which counts of faults rose, and what was told.
-use Rattle.std.specs.Prelude.{◌≡◌, ℕ, List, Option, Result, Ok, Err, IfOk}
+use Rattle.std.specs.Prelude.{◌≡◌, ℕ, List, Option, Some, None, Result, Ok, Err, IfOk}
+use Rattle.std.specs.declared.vec.Vec.{Vec}
 use Rattle.host_io.specs.Causes.{Rose, RoseAt}
 use Rattle.host_io.specs.TwoSinks.{OneRose, PutFaults}
+use Rattle.image_format.specs.Picture.{Picture}
 use Rattle.pump_cli.specs.Codes.{status_of_refusal}
 use Rattle.pump_cli.specs.Facts.{Does, PutsFaultBy}
 use Rattle.pump_cli.specs.Program.{refusal_outcome}
@@ -13,15 +15,24 @@ use Rattle.pump_cli.specs.declared.refusal.Refusal.{Refusal}
 use Rattle.pump_cli.specs.declared.refusal.Refusal.TheVariants as refusal
 use Rattle.pump_cli.specs.declared.status.Status.{Status}
 
--- the count of the named file rises where its load failed, and every other answer leaves all counts
+-- the count of the named file rises where its load failed, and running out of memory leaves all counts; nothing else cuts a load short
+abbrev pub LoadCutBy : (List ℕ → ℕ) → (List ℕ → ℕ) → List ℕ → Cut → Type 0
+LoadCutBy before now name cut.ReadFailed = RoseAt before now name
+LoadCutBy before now name cut.WriteFailed = ⊥
+LoadCutBy before now name cut.InputFailed = ⊥
+LoadCutBy before now name cut.PutFailed = ⊥
+LoadCutBy before now name cut.Memory = now ≡ before
+
+-- what was loaded leaves all counts
+abbrev pub LoadRoseBy : {A : Type 0} → (List ℕ → ℕ) → (List ℕ → ℕ) → List ℕ → Result A Cut → Type 0
+LoadRoseBy before now name (Ok _) = now ≡ before
+LoadRoseBy before now name (Err why) = LoadCutBy before now name why
+
+-- and so does a refusal
 abbrev pub ReadRoseBy : {A : Type 0} → (List ℕ → ℕ) → (List ℕ → ℕ) → List ℕ → Result A EarlyEnd → Type 0
 ReadRoseBy before now name (Ok _) = now ≡ before
 ReadRoseBy before now name (Err (early_end.Refused refusal)) = now ≡ before
-ReadRoseBy before now name (Err (early_end.Cut cut.ReadFailed)) = RoseAt before now name
-ReadRoseBy before now name (Err (early_end.Cut cut.WriteFailed)) = ⊥
-ReadRoseBy before now name (Err (early_end.Cut cut.InputFailed)) = ⊥
-ReadRoseBy before now name (Err (early_end.Cut cut.PutFailed)) = ⊥
-ReadRoseBy before now name (Err (early_end.Cut cut.Memory)) = now ≡ before
+ReadRoseBy before now name (Err (early_end.Cut why)) = LoadCutBy before now name why
 
 -- the count of the named file rises where its save failed, and every other answer leaves all counts
 abbrev pub WriteRoseBy : {A : Type 0} → (List ℕ → ℕ) → (List ℕ → ℕ) → List ℕ → Result A Cut → Type 0
@@ -57,7 +68,20 @@ abbrev pub IsOfFile : Refusal → Type 0
 IsOfFile refusal.BadWords = ⊥
 IsOfFile (refusal.BadImage error) = Unit {0}
 IsOfFile (refusal.BadSource error) = Unit {0}
+IsOfFile (refusal.BadTags error) = Unit {0}
+IsOfFile (refusal.BadElf error) = Unit {0}
 IsOfFile refusal.TooLong = Unit {0}
+
+-- the bytes of a file that was loaded, or that it was too long to have any
+abbrev pub bytes_or_long : {A : Type 0} → Option (Vec ℕ A) → Result (List ℕ) Refusal
+bytes_or_long None = Err refusal.TooLong
+bytes_or_long (Some bytes) = Ok bytes.items
+
+-- what was returned is what is read, an image or the refusal of a file, unless memory ran out
+abbrev pub GivesImage : Result Picture EarlyEnd → Result Picture Refusal → Type 0
+GivesImage (Ok picture) read = read ≡ Ok picture
+GivesImage (Err (early_end.Refused refusal)) read = (read ≡ Err refusal) × IsOfFile refusal
+GivesImage (Err (early_end.Cut why)) read = why ≡ cut.Memory
 
 -- The refusal is told on standard error, which ends the program, whatever standard output has taken beside it.
 pub record Tells (refusal : Refusal) (err_before err_after : Option (List ℕ)) (before after : ℕ) (result : Result Status Cut) : Type 0 where

@@ -9,20 +9,22 @@ use Rattle.host_io.specs.TwoSinks.{OneRose, PutFaults}
 use Rattle.image_format.specs.Picture.{Picture}
 use Rattle.image_format.specs.Reading.{image_of}
 use Rattle.asm_emit.specs.Assembled.{image_of_source}
+use Rattle.elf_image.specs.Loaded.{image_of_elf}
+use Rattle.elf_image.specs.Tags.{tags_of}
 use Rattle.shell_script.specs.Shell.{lines_in}
 use Rattle.pump_shell.specs.Told.{told_of}
 use Rattle.pump_shell.specs.declared.ends.SessionEnd.TheVariants.{InputEnd}
-use Rattle.pump_line.specs.Task.{ShellTask, Task, disassemble, load, run, save, shell}
+use Rattle.pump_line.specs.Task.{ShellTask, Task, disassemble, elf, load, run, save, shell}
 use Rattle.pump_cli.specs.Codes.{IsBeforeInput, ReadsAll, status_of_cut}
 use Rattle.pump_cli.specs.Endings.{Outcome}
 use Rattle.pump_cli.specs.Program.{is_over_at_start, setup_of}
-use Rattle.pump_cli.specs.Reading.{content_of, content_read, file_limit, image_read, input_limit}
+use Rattle.pump_cli.specs.Reading.{ContentOf, ElfFiles, content_of, content_read, file_limit, image_read, input_limit}
 use Rattle.pump_cli.specs.Sessions.{session_after}
 use Rattle.pump_cli.specs.declared.refusal.Refusal.{Refusal}
 use Rattle.pump_cli.specs.declared.cut.Cut.{Cut}
 use Rattle.pump_cli.specs.declared.cut.Cut.TheVariants as cut
 use Rattle.pump_cli.specs.declared.status.Status.{Status}
-use Rattle.pump_cli.specs.declared.status.Status.TheVariants.{BadImage, BadSource, Done, InputFailed, TagsOut, TooLong}
+use Rattle.pump_cli.specs.declared.status.Status.TheVariants.{BadElf, BadImage, BadSource, BadTags, Done, InputFailed, TagsOut, TooLong}
 
 -- all that the outcome says was put, and the status is its
 pub record Finishes (outcome : Outcome) (before after : Taken) (status : Status) : Type 0 where
@@ -59,13 +61,56 @@ IsLongFile bytes = file_limit < length bytes
 abbrev pub IsLongInput : List ℕ → Type 0
 IsLongInput bytes = input_limit < length bytes
 
--- the file is longer than its limit, or the input, where it is told and the task reads it
-abbrev pub IsTooLong : Task → List ℕ → Option (List ℕ) → Type 0
+-- a file is longer than its limit, or the input, where it is told and the task reads it
+abbrev pub IsTooLong : (task : Task) → ContentOf task → Option (List ℕ) → Type 0
 IsTooLong (run task) bytes left = IfSome left (λ input. IsLongFile bytes ⊎ IsLongInput input)
 IsTooLong (shell task) bytes left = IfSome left (λ input. IsLongFile bytes ⊎ IsLongInput input)
 IsTooLong (save task) bytes left = IsLongFile bytes
+IsTooLong (elf task) files left = IsLongFile files.tags ⊎ IsLongFile files.elf
 IsTooLong (disassemble task) bytes left = IsLongFile bytes
 IsTooLong (load task) bytes left = IsLongFile bytes
+
+-- the task takes an image, and its file is none
+abbrev pub HasNoImage : (task : Task) → ContentOf task → Type 0
+HasNoImage (run task) bytes = IsErr (image_of bytes)
+HasNoImage (shell task) bytes = IsErr (image_of bytes)
+HasNoImage (save task) bytes = IsErr (image_of bytes)
+HasNoImage (elf task) files = ⊥
+HasNoImage (disassemble task) bytes = IsErr (image_of bytes)
+HasNoImage (load task) bytes = ⊥
+
+-- the task takes a source, and its file is none
+abbrev pub HasNoSource : (task : Task) → ContentOf task → Type 0
+HasNoSource (run task) bytes = ⊥
+HasNoSource (shell task) bytes = ⊥
+HasNoSource (save task) bytes = IsErr (image_of_source bytes)
+HasNoSource (elf task) files = ⊥
+HasNoSource (disassemble task) bytes = ⊥
+HasNoSource (load task) bytes = IsErr (image_of_source bytes)
+
+-- the task takes a tag file, and its file is none
+abbrev pub HasNoTags : (task : Task) → ContentOf task → Type 0
+HasNoTags (run task) bytes = ⊥
+HasNoTags (shell task) bytes = ⊥
+HasNoTags (save task) bytes = ⊥
+HasNoTags (elf task) files = IsErr (tags_of files.tags)
+HasNoTags (disassemble task) bytes = ⊥
+HasNoTags (load task) bytes = ⊥
+
+-- a tag file, and an ELF file that is not loaded under it
+pub record IsUnloaded (files : ElfFiles) : Type 0 where
+  pub tags : Picture
+  pub is_tags : tags_of files.tags ≡ Ok tags
+  pub is_bad : IsErr (image_of_elf files.elf tags)
+
+-- the task takes an ELF file, and its file is none that is loaded
+abbrev pub HasNoElf : (task : Task) → ContentOf task → Type 0
+HasNoElf (run task) bytes = ⊥
+HasNoElf (shell task) bytes = ⊥
+HasNoElf (save task) bytes = ⊥
+HasNoElf (elf task) files = IsUnloaded files
+HasNoElf (disassemble task) bytes = ⊥
+HasNoElf (load task) bytes = ⊥
 
 -- A read of the input failed behind these bytes of it: each line that a newline ends among them was replied to as a whole, none of
 -- these lines was `quit`, and nothing else was put on either sink.
@@ -96,19 +141,25 @@ abbrev pub SessionFacts : {I : Type 0} → Task → Status → Environment I →
 SessionFacts (run task) status before after = Unit {0}
 SessionFacts (shell task) status before after = IfSome (before.held task.image) (λ bytes. ExecutedIn task (image_read bytes) status before after)
 SessionFacts (save task) status before after = Unit {0}
+SessionFacts (elf task) status before after = Unit {0}
 SessionFacts (disassemble task) status before after = Unit {0}
 SessionFacts (load task) status before after = Unit {0}
 
+-- why something is refused, where the content is told
+pub record Causes {I : Type 0} (task : Task) (status : Status) (before : Environment I) : Type 0 where
+  pub bad_image : status ≡ BadImage → IfSome (content_of task before.held) (HasNoImage task)
+  pub bad_source : status ≡ BadSource → IfSome (content_of task before.held) (HasNoSource task)
+  pub bad_tags : status ≡ BadTags → IfSome (content_of task before.held) (HasNoTags task)
+  pub bad_elf : status ≡ BadElf → IfSome (content_of task before.held) (HasNoElf task)
+  pub too_long : status ≡ TooLong → IfSome (content_of task before.held) (λ content. IsTooLong task content before.left)
+
 -- Why something is refused, and what is done to the input, which is read only once the file is taken.
 pub record FileFacts {I : Type 0} (task : Task) (status : Status) (before after : Environment I) : Type 0 where
-  -- the causes of a refusal
-  pub bad_image : status ≡ BadImage → IfSome (content_of task before.held) (λ bytes. IsErr (image_of bytes))
-  pub bad_source : status ≡ BadSource → IfSome (content_of task before.held) (λ bytes. IsErr (image_of_source bytes))
-  pub too_long : status ≡ TooLong → IfSome (content_of task before.held) (λ bytes. IsTooLong task bytes before.left)
-  -- the input is left alone where the file fails or is refused, where a session can't start, and by `asm`, `migrate`, `dis` and `load`; a run
-  -- that came to its end has read it to its end, and at most 4,096 bytes past its limit are taken
+  pub causes : Causes task status before
+  -- the input is left alone where a file fails or is refused, where a session can't start, and by `asm`, `migrate`, `elf`, `dis` and `load`; a
+  -- run that came to its end has read it to its end, and at most 4,096 bytes past its limit are taken
   pub unread : IsBeforeInput task status → after.input ≡ before.input
-  pub unasked : IfSome (content_of task before.held) (λ bytes. IsErr (content_read task bytes) → after.input ≡ before.input)
+  pub unasked : IfSome (content_of task before.held) (λ content. IsErr (content_read task content) → after.input ≡ before.input)
   pub whole : ReadsAll task status → IsTrue after.closed
   pub session : SessionFacts task status before after
   pub moved : LosesPrefix before.left after.left (input_limit + 4096)

@@ -2,6 +2,7 @@ pub mod Calls
 pub mod Codes
 pub mod Cuts
 pub mod Early
+pub mod Elf
 pub mod Endings
 pub mod Facts
 pub mod ListedBack

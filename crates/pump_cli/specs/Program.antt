@@ -20,10 +20,10 @@ use Rattle.pump_shell.specs.declared.ends.SessionEnd.{SessionEnd}
 use Rattle.pump_shell.specs.declared.ends.SessionEnd.TheVariants as session_end
 use Rattle.pump_shell.specs.declared.setup.Setup.{Setup}
 use Rattle.image_listing.specs.Listing.{listing}
-use Rattle.pump_line.specs.Task.{LoadTask, RunTask, ShellTask, Task, disassemble, load, run, save, shell, task_of}
+use Rattle.pump_line.specs.Task.{LoadTask, RunTask, ShellTask, Task, disassemble, elf, load, run, save, shell, task_of}
 use Rattle.pump_cli.specs.Endings.{Outcome, out_at_start, outcome_of_course, status_of}
 use Rattle.pump_cli.specs.Codes.{code_of, status_of_refusal}
-use Rattle.pump_cli.specs.Reading.{content_of, content_read, input_limit, input_read}
+use Rattle.pump_cli.specs.Reading.{ContentOf, content_of, content_read, input_limit, input_read}
 use Rattle.pump_cli.specs.Texts.{refusal_text, workload_line}
 use Rattle.pump_cli.specs.declared.refusal.Refusal.{Refusal}
 use Rattle.pump_cli.specs.declared.refusal.Refusal.TheVariants.{BadWords, TooLong}
@@ -111,7 +111,7 @@ abbrev pub outcome_of_session : ShellTask → Picture → Option (List ℕ) → 
 outcome_of_session task picture None = if is_over_at_start task picture then Some outcome_of_no_start else None
 outcome_of_session task picture (Some input) = Some (outcome_of_lines task picture input)
 
--- ---- `asm`, `migrate` and `dis`
+-- ---- `asm`, `migrate`, `elf` and `dis`
 
 -- the file of the image is saved, and nothing is told
 abbrev pub outcome_of_saving : Outcome
@@ -157,6 +157,7 @@ abbrev pub outcome_of_picture : Task → Picture → Option (List ℕ) → Optio
 outcome_of_picture (run task) picture input = outcome_of_input task picture input
 outcome_of_picture (shell task) picture input = outcome_of_session task picture input
 outcome_of_picture (save task) picture input = Some outcome_of_saving
+outcome_of_picture (elf task) picture input = Some outcome_of_saving
 outcome_of_picture (disassemble task) picture input = Some (outcome_of_listing picture)
 outcome_of_picture (load task) picture input = Some (outcome_of_load task picture)
 
@@ -166,9 +167,9 @@ outcome_of_image task (Ok picture) input = outcome_of_picture task picture input
 outcome_of_image task (Err refusal) input = Some (refusal_outcome refusal)
 
 -- a content that is not told leaves the outcome unsaid too
-abbrev pub outcome_of_content : Task → Option (List ℕ) → Option (List ℕ) → Option Outcome
+abbrev pub outcome_of_content : (task : Task) → Option (ContentOf task) → Option (List ℕ) → Option Outcome
 outcome_of_content task None input = None
-outcome_of_content task (Some bytes) input = outcome_of_image task (content_read task bytes) input
+outcome_of_content task (Some content) input = outcome_of_image task (content_read task content) input
 
 -- what the task comes to, by what the files hold and what the input gives, where these are told
 abbrev pub outcome_of_task : Task → (List ℕ → Option (List ℕ)) → Option (List ℕ) → Option Outcome

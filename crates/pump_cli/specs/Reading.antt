@@ -1,5 +1,5 @@
--- What is read: the file of an image or of a source, and the whole input, each within its limit.
-use Rattle.std.specs.Prelude.{ℕ, nat_le, List, length, Option, Some, Result, Ok, Err, if◌then◌else◌}
+-- What is read: the files that an image is made of, and the whole input, each within its limit.
+use Rattle.std.specs.Prelude.{ℕ, nat_le, List, length, Option, Some, Result, Ok, Err, if◌then◌else◌, option_and_then, option_map}
 use Rattle.image_format.specs.Picture.{Picture}
 use Rattle.image_format.specs.Migrated.{migrated}
 use Rattle.image_format.specs.Reading.{image_of}
@@ -7,8 +7,12 @@ use Rattle.image_format.specs.declared.errors.ImageError.{ImageError}
 use Rattle.asm_read.specs.declared.errors.AsmError.{AsmError}
 use Rattle.asm_emit.specs.Assembled.{image_of_source}
 use Rattle.workload.specs.Source.{source_of_workload}
-use Rattle.pump_line.specs.Task.{Task, disassemble, load, run, save, shell}
-use Rattle.shared_terms.specs.Steps.{result_view}
+use Rattle.elf_image.specs.Loaded.{image_of_elf}
+use Rattle.elf_image.specs.Tags.{tags_of}
+use Rattle.elf_image.specs.declared.errors.ElfError.{ElfError}
+use Rattle.elf_image.specs.declared.errors.TagsError.{TagsError}
+use Rattle.pump_line.specs.Task.{Task, disassemble, elf, load, run, save, shell}
+use Rattle.shared_terms.specs.Steps.{◌>>=◌, result_view}
 use Rattle.pump_line.specs.declared.task.Making.{Making}
 use Rattle.pump_line.specs.declared.task.Making.TheVariants.{Assemble, Migrate}
 use Rattle.pump_cli.specs.declared.refusal.Refusal.{Refusal}
@@ -58,19 +62,71 @@ abbrev pub made_read : Making → List ℕ → Result Picture Refusal
 made_read Assemble bytes = source_read bytes
 made_read Migrate bytes = migrated_read bytes
 
--- the bytes that a task's image is made from, where they are told: those of its file, or the source of a workload
-abbrev pub content_of : Task → (List ℕ → Option (List ℕ)) → Option (List ℕ)
+-- ---- an ELF file and a tag file
+
+-- the first condition of a tag file that fails is told
+abbrev pub tags_or_refusal : Result Picture TagsError → Result Picture Refusal
+tags_or_refusal (Ok picture) = Ok picture
+tags_or_refusal (Err error) = Err (refusal.BadTags error)
+
+-- the first condition of an ELF file that fails is told
+abbrev pub elf_or_refusal : Result Picture ElfError → Result Picture Refusal
+elf_or_refusal (Ok picture) = Ok picture
+elf_or_refusal (Err error) = Err (refusal.BadElf error)
+
+-- the image of a tag file, where it is not too long, or why there is none
+abbrev pub tags_taken : Result (List ℕ) Refusal → Result Picture Refusal
+tags_taken file = file_as (λ bytes. tags_or_refusal (tags_of bytes)) file
+
+-- the image of an ELF file under that of a tag file, where it is not too long, or why there is none
+abbrev pub elf_taken : Result (List ℕ) Refusal → Picture → Result Picture Refusal
+elf_taken file tags = file_as (λ bytes. elf_or_refusal (image_of_elf bytes tags)) file
+
+-- the tag file is judged first: its length, then what it holds, and then the same of the ELF file
+unfoldable pub both_taken : Result (List ℕ) Refusal → Result (List ℕ) Refusal → Result Picture Refusal
+both_taken elf_file tag_file = do
+  tags ← tags_taken tag_file
+  elf_taken elf_file tags
+
+-- the bytes of an ELF file and of a tag file
+pub record ElfFiles : Type 0 where
+  pub elf : List ℕ
+  pub tags : List ℕ
+
+-- the image of two files that hold these bytes, or why there is none
+abbrev pub elf_read : ElfFiles → Result Picture Refusal
+elf_read files = both_taken (within_limit file_limit files.elf) (within_limit file_limit files.tags)
+
+-- what both files hold, where both are told
+abbrev pub files_told : Option (List ℕ) → Option (List ℕ) → Option ElfFiles
+files_told elf_bytes tag_bytes = option_and_then (λ file. option_map (λ tags. record { elf = file; tags = tags }) tag_bytes) elf_bytes
+
+-- ---- a task's content
+
+-- what a task's image is made from: the bytes of its file or the source of a workload, and of `elf` the bytes of two files
+abbrev pub ContentOf : Task → Type 0
+ContentOf (run task) = List ℕ
+ContentOf (shell task) = List ℕ
+ContentOf (save task) = List ℕ
+ContentOf (elf task) = ElfFiles
+ContentOf (disassemble task) = List ℕ
+ContentOf (load task) = List ℕ
+
+-- that, where it is told
+abbrev pub content_of : (task : Task) → (List ℕ → Option (List ℕ)) → Option (ContentOf task)
 content_of (run task) held = held task.image
 content_of (shell task) held = held task.image
 content_of (save task) held = held task.source
+content_of (elf task) held = files_told (held task.elf) (held task.tags)
 content_of (disassemble task) held = held task.image
 content_of (load task) held = Some (source_of_workload task.count)
 
--- the image that is made from them
-abbrev pub content_read : Task → List ℕ → Result Picture Refusal
+-- the image that is made from it
+abbrev pub content_read : (task : Task) → ContentOf task → Result Picture Refusal
 content_read (run task) bytes = image_read bytes
 content_read (shell task) bytes = image_read bytes
 content_read (save task) bytes = made_read task.making bytes
+content_read (elf task) files = elf_read files
 content_read (disassemble task) bytes = image_read bytes
 content_read (load task) bytes = source_read bytes
 

@@ -12,10 +12,10 @@ use Rattle.shell_run.specs.Session.{fresh}
 use Rattle.shell_script.specs.Scripts.{items_along}
 use Rattle.shell_script.specs.Shell.{lines_within}
 use Rattle.pump_shell.specs.Told.{start_of_setup}
-use Rattle.pump_line.specs.Task.{RunTask, ShellTask, Task, disassemble, load, run, save, shell, task_of}
+use Rattle.pump_line.specs.Task.{RunTask, ShellTask, Task, disassemble, elf, load, run, save, shell, task_of}
 use Rattle.pump_cli.specs.Endings.{has_any, is_out}
 use Rattle.pump_cli.specs.Program.{basis_of, course_of_run, run_of_load, setup_of}
-use Rattle.pump_cli.specs.Reading.{content_of, content_read, input_limit, input_read}
+use Rattle.pump_cli.specs.Reading.{ContentOf, content_of, content_read, input_limit, input_read}
 use Rattle.pump_cli.specs.declared.ending.Kind.TheVariants.{Ready}
 use Rattle.pump_cli.specs.declared.refusal.Refusal.{Refusal}
 
@@ -67,11 +67,12 @@ module _ (Ran : RunTask → Picture → List ℕ → Type 0) (Executed : ShellTa
   AfterLines task picture None = Unit {0}
   AfterLines task picture (Some input) = Executed task picture input
 
-  -- a case for each subcommand; `asm` and `dis` make no run
+  -- a case for each subcommand; those that save an image, and `dis`, make no run
   abbrev pub AfterPicture : Task → Picture → Option (List ℕ) → Type 0
   AfterPicture (run task) picture input = AfterInput task picture input
   AfterPicture (shell task) picture input = AfterLines task picture input
   AfterPicture (save task) picture input = Unit {0}
+  AfterPicture (elf task) picture input = Unit {0}
   AfterPicture (disassemble task) picture input = Unit {0}
   AfterPicture (load task) picture input = Ran (run_of_load task) picture []
 
@@ -81,9 +82,9 @@ module _ (Ran : RunTask → Picture → List ℕ → Type 0) (Executed : ShellTa
   AfterImage task (Err refusal) input = Unit {0}
 
   -- nothing is said where the content is not told
-  abbrev pub AfterContent : Task → Option (List ℕ) → Option (List ℕ) → Type 0
+  abbrev pub AfterContent : (task : Task) → Option (ContentOf task) → Option (List ℕ) → Type 0
   AfterContent task None input = Unit {0}
-  AfterContent task (Some bytes) input = AfterImage task (content_read task bytes) input
+  AfterContent task (Some content) input = AfterImage task (content_read task content) input
 
   -- words that ask for no task make no run
   abbrev pub AfterWords : Option Task → (List ℕ → Option (List ℕ)) → Option (List ℕ) → Type 0

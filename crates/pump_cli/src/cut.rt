@@ -12,7 +12,7 @@ use std::alloc::AllocError;
 /// Why a call was cut short.
 #[derive(Clone, Copy)]
 pub(crate) enum Cut {
-    /// The file of the image or of the source could not be read.
+    /// The file of an image or of what one is made from could not be read.
     ReadFailed,
     /// The image's file could not be written.
     WriteFailed,

@@ -4,21 +4,23 @@ ghost use Rattle.std.specs.Prelude.{◌≡◌, ℕ, List, Option, Some, Ok};
 ghost use Rattle.host_io.specs.Bytes.{AreBytes, TellBytes};
 ghost use Rattle.image_format.specs.Picture.{Picture};
 ghost use Rattle.workload_laws.specs.Images.{image_of_workload};
-ghost use Rattle.pump_line.specs.Request.{DisassembleTask, SaveTask};
-ghost use Rattle.pump_line.specs.Task.{AllowsRules, AllowsTags, LoadTask, disassemble, load, save, task_of};
+ghost use Rattle.pump_line.specs.Request.{DisassembleTask, ElfTask, SaveTask};
+ghost use Rattle.pump_line.specs.Task.{AllowsRules, AllowsTags, LoadTask, disassemble, elf, load, save, task_of};
 ghost use Rattle.pump_line.specs.Told.{texts_of, task_value};
+ghost use Rattle.pump_cli.specs.Elf.{SavesElf};
 ghost use Rattle.pump_cli.specs.Facts.{status_in};
 ghost use Rattle.pump_cli.specs.ListedBack.{ListsBack};
 ghost use Rattle.pump_cli.specs.Migrated.{SavesMigrated};
 ghost use Rattle.pump_cli.specs.Environments.{environment};
 ghost use Rattle.pump_cli.specs.Program.{outcome_of_load, program};
-ghost use Rattle.pump_cli.specs.Reading.{image_read};
+ghost use Rattle.pump_cli.specs.Reading.{ElfFiles, elf_read, image_read};
 ghost use Rattle.pump_cli.specs.Runs.{EachRun, IsOut, IsSafeRun, IsSpent, TheRun};
 ghost use Rattle.pump_cli.specs.Sessions.{TellsRuns, TheSession};
 ghost use Rattle.pump_cli.specs.Theorem.{Headline, HeadlineOf};
 
 use crate::cut::Cut;
 use crate::dis::disassemble_task;
+use crate::elf::elf_task;
 use crate::load::load_task;
 use crate::refusal::{Refusal, refuse};
 use crate::run::run_task;
@@ -50,6 +52,7 @@ fn do_task<F: Files, S: Source, K: Sink, L: Sink>(
         Task::Run(task) => run_task(alloc, task, files, input, out, err),
         Task::Shell(task) => shell_task(alloc, task, files, input, out, err),
         Task::Save(task) => save_task(alloc, task, files, input, out, err),
+        Task::Elf(task) => elf_task(alloc, task, files, input, out, err),
         Task::Disassemble(task) => disassemble_task(alloc, task, files, input, out, err),
         Task::Load(task) => load_task(alloc, task, files, input, out, err),
     }
@@ -81,8 +84,8 @@ fn run_words<F: Files, S: Source, K: Sink, L: Sink>(
 
 /// The program: what the words ask for, with the files, the input and the two sinks, and the status that the process ends
 /// with. The first word is the program's name. The input is read only once the image is taken: by `run` as a whole before its
-/// first turn, by `shell` line by line; `asm`, `migrate`, `dis` and `load` leave it alone. The one file that is changed is that which
-/// `asm` or `migrate` saves: it holds the one spelling of the image that is made, and a file that is refused saves nothing.
+/// first turn, by `shell` line by line; `asm`, `migrate`, `elf`, `dis` and `load` leave it alone. The one file that is changed is that
+/// which `asm`, `migrate` or `elf` saves: it holds the one spelling of the image that is made, and a file that is refused saves nothing.
 ///
 /// Without a fault or running out of memory the bytes and the status are those of the machine that asks the chosen policies at
 /// every turn of every hart, however many rules are kept: on the whole input, or at the commands of its lines. Where some rules
@@ -103,6 +106,10 @@ fn run_words<F: Files, S: Source, K: Sink, L: Sink>(
 /// What `migrate` saves of an image is an image of version 2 (`migrates`) that starts as the first does under each choice of
 /// policies, but that 128 compartments may come to be, and that has the same events along every list of turns in which the first
 /// has no split that is spent.
+///
+/// What `elf` saves of an ELF file and a tag file is the image that they stand for (`converts`): under each choice of policies its start has
+/// at each address of the RAM the byte that the ELF file's loadable segments put there, and 0 where none lies; hart 0 starts at the ELF
+/// file's entry, and all else is as the tag file has it. Both files are loaded before either is judged, and the tag file is judged first.
 ///
 /// In such a run, and in each run that a session makes, the sentence of each chosen policy holds, whatever bytes the files hold and
 /// the input gives (`safe`), and so at those that these files and this input tell of (`safe_here`): every unsealing used its key,
@@ -149,6 +156,11 @@ pub fn pump<F: Files, S: Source, K: Sink, L: Sink>(
         → task_of (texts_of words.now.items) ≡ Some (save task) → task.making ≡ Making.Migrate
         → F.held files.old task.source ≡ Some bytes → image_read bytes ≡ Ok picture
         → SavesMigrated task bytes picture }
+    ensures converts { (task : ElfTask) (picture : Picture) (contents : ElfFiles)
+        → task_of (texts_of words.now.items) ≡ Some (elf task)
+        → F.held files.old task.elf ≡ Some contents.elf
+        → F.held files.old task.tags ≡ Some contents.tags → elf_read contents ≡ Ok picture
+        → SavesElf task contents picture }
 {
     match run_words(alloc, words, files, input, out, err) {
         Ok(status) => status,

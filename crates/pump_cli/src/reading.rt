@@ -35,7 +35,11 @@ pub(crate) enum EarlyEnd {
 
 /// The bytes of the file of this name.
 #[tactic(auto, unfolding(crate::specs::Reading::file_limit))]
-fn load_file<F: Files>(alloc: Global, files: &mut F, name: &str) -> Result<Vec<u8>, EarlyEnd>
+pub(crate) fn load_file<F: Files>(
+    alloc: Global,
+    files: &mut F,
+    name: &str,
+) -> Result<Vec<u8>, EarlyEnd>
     ensures taken { IfOk result (λ bytes. IfSome (F.held files.old name.now) (λ all.
         within_limit file_limit all ≡ Ok bytes.items)) }
     ensures refused { (refusal : Refusal) → result ≡ Err (EarlyEnd.Refused refusal) →

@@ -9,8 +9,9 @@ ghost use Rattle.pump_cli.specs.Texts.{refusal_text};
 use crate::cut::Cut;
 use crate::reading::EarlyEnd;
 use crate::status::Status;
-use crate::texts::{write_image_error, write_source_error};
+use crate::texts::{write_elf_error, write_image_error, write_source_error, write_tags_error};
 use asm_read::AsmError;
+use elf_image::{ElfError, TagsError};
 use host_io::Sink;
 use image_format::ImageError;
 use pump_words::{Line, write_text};
@@ -24,7 +25,11 @@ pub(crate) enum Refusal {
     BadImage(ImageError),
     /// The file is no source that can be assembled.
     BadSource(AsmError),
-    /// The file or the input is longer than its limit.
+    /// The file is no tag file.
+    BadTags(TagsError),
+    /// The file is no ELF file that is loaded.
+    BadElf(ElfError),
+    /// A file or the input is longer than its limit.
     TooLong,
 }
 
@@ -37,6 +42,8 @@ impl Refusal {
             Refusal::BadWords => Status::BadWords,
             Refusal::BadImage(_) => Status::BadImage,
             Refusal::BadSource(_) => Status::BadSource,
+            Refusal::BadTags(_) => Status::BadTags,
+            Refusal::BadElf(_) => Status::BadElf,
             Refusal::TooLong => Status::TooLong,
         }
     }
@@ -57,6 +64,14 @@ fn write_refusal(to: &mut Line, refusal: Refusal)
         Refusal::BadSource(error) => {
             write_text(to, b"pump: bad source: ");
             write_source_error(to, error);
+        }
+        Refusal::BadTags(error) => {
+            write_text(to, b"pump: bad tags: ");
+            write_tags_error(to, error);
+        }
+        Refusal::BadElf(error) => {
+            write_text(to, b"pump: bad elf: ");
+            write_elf_error(to, error);
         }
         Refusal::TooLong => write_text(to, b"pump: too long"),
     }

@@ -23,7 +23,7 @@ use pump_line::{Making, SaveTask};
 use std::alloc::Global;
 
 /// Saves the file of an image under this name.
-fn save_image<F: Files>(
+pub(crate) fn save_image<F: Files>(
     alloc: Global,
     files: &mut F,
     name: &str,

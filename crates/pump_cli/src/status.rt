@@ -16,6 +16,10 @@ pub enum Status {
     BadImage,
     /// The file is no source that is assembled.
     BadSource,
+    /// The file is no tag file that is taken.
+    BadTags,
+    /// The file is no ELF file that is loaded.
+    BadElf,
     /// A policy stopped some hart.
     Violated,
     /// One of the machine's checks stopped some hart, and no policy one.
@@ -24,7 +28,7 @@ pub enum Status {
     TurnsSpent,
     /// The engine ran out of tag numbers.
     TagsOut,
-    /// The file of the image or of the source could not be read.
+    /// The file of an image or of what one is made from could not be read.
     ReadFailed,
     /// A read of the input failed.
     InputFailed,
@@ -34,7 +38,7 @@ pub enum Status {
     Memory,
     /// The image's file could not be written.
     WriteFailed,
-    /// The file or the input is longer than its limit.
+    /// A file or the input is longer than its limit.
     TooLong,
 }
 
@@ -49,6 +53,8 @@ impl Status {
             Status::BadWords => 2,
             Status::BadImage => 3,
             Status::BadSource => 3,
+            Status::BadTags => 3,
+            Status::BadElf => 3,
             Status::Violated => 4,
             Status::Faulted => 5,
             Status::TurnsSpent => 6,

@@ -8,8 +8,8 @@ use Rattle.clap.specs.Simple.{argument_words, built_leaf, entered, inherited, la
 use Rattle.clap.specs.Takes.{is_given}
 use Rattle.clap.specs.Walk.{Held, Names, answers_to, finished, nothing_held, rows_after, settled, walk, walk_from}
 use Rattle.clap.specs.Words.{App, Kinds, Shape, Text, built, fault_of, subcommand_of}
-use Rattle.pump_line.specs.Line.{HasMatch, asm_shape, dis_shape, faults_of, load_shape, match_of, migrate_shape, pump_app, run_shape, shell_shape}
-use Rattle.pump_line.specs.Request.{disassemble_in, load_in, request_at, request_by, run_in, save_in, shell_in}
+use Rattle.pump_line.specs.Line.{HasMatch, asm_shape, dis_shape, elf_shape, faults_of, load_shape, match_of, migrate_shape, pump_app, run_shape, shell_shape}
+use Rattle.pump_line.specs.Request.{disassemble_in, elf_in, load_in, request_at, request_by, run_in, save_in, shell_in}
 use Rattle.pump_line.proofs.GivenLemmas.{given_has_value}
 
 or_nil : (a b : Kinds) → or_else a b ≡ [] → (a ≡ []) × (b ≡ [])
@@ -95,6 +95,10 @@ unfoldable built_migrate : Shape
 unfolding pump_app migrate_shape
 built_migrate = built_leaf (inherited (with_leaf_noted (marked_built pump_app.top)) migrate_shape)
 
+unfoldable built_elf : Shape
+unfolding pump_app elf_shape
+built_elf = built_leaf (inherited (with_leaf_noted (marked_built pump_app.top)) elf_shape)
+
 unfoldable built_dis : Shape
 unfolding pump_app dis_shape
 built_dis = built_leaf (inherited (with_leaf_noted (marked_built pump_app.top)) dis_shape)
@@ -112,6 +116,11 @@ some_both : {X Y Z : Type 0} (f : X → Y → Z) (a : Option X) (b : Option Y) �
 some_both f None b h k = cc
 some_both f (Some x) None h k = cc
 some_both f (Some x) (Some y) h k = refl
+
+some_three : {W X Y Z : Type 0} (f : W → X → Y → Z) (a : Option W) (b : Option X) (c : Option Y) → is_some a ≡ true → is_some b ≡ true → is_some c ≡ true
+    → is_some (option_and_then (λ w. option_and_then (λ x. option_map (f w x) c) b) a) ≡ true
+some_three f None b c h k l = cc
+some_three f (Some w) b c h k l = some_both (f w) b c k l
 
 given_if : (given rest : Bool) → not given || rest ≡ false → given ≡ true
 given_if true rest h = refl
@@ -161,6 +170,20 @@ migrate_asks words fine =
     some_mapped _ _ (some_both _ _ _ (given_has_value (codes "image") built_migrate.rules [] words refl has_image)
     (given_has_value (codes "out") built_migrate.rules [] words refl has_out))
 
+elf_asks : Asks built_elf
+unfolding built_elf pump_app elf_shape request_by elf_in
+elf_asks words fine =
+    let elf_given = is_given (codes "elf") (rows_after built_elf.rules [] words) in
+    let tags_given = is_given (codes "tags") (rows_after built_elf.rules [] words) in
+    let image_given = is_given (codes "image") (rows_after built_elf.rules [] words) in
+    let needs = level_needs built_elf words fine in
+    let others = rest_if elf_given (not tags_given || (not image_given || false)) needs in
+    let has_elf = given_if elf_given (not tags_given || (not image_given || false)) needs in
+    let has_tags = given_if tags_given (not image_given || false) others in
+    let has_image = given_if image_given false (rest_if tags_given (not image_given || false) others) in
+    some_mapped _ _ (some_three _ _ _ _ (given_has_value (codes "elf") built_elf.rules [] words refl has_elf)
+    (given_has_value (codes "tags") built_elf.rules [] words refl has_tags) (given_has_value (codes "image") built_elf.rules [] words refl has_image))
+
 dis_asks : Asks built_dis
 unfolding built_dis pump_app dis_shape request_by disassemble_in
 dis_asks words fine =
@@ -174,11 +197,11 @@ load_asks words fine =
     some_mapped _ _ (some_mapped _ _ (given_has_value (codes "count") built_load.rules [] words refl given))
 
 all_ask : AllAsk (built pump_app).subs
-unfolding built_run built_shell built_asm built_migrate built_dis built_load pump_app run_shape shell_shape asm_shape migrate_shape dis_shape load_shape
-all_ask = (run_asks, (shell_asks, (asm_asks, (migrate_asks, (dis_asks, (load_asks, tt))))))
+unfolding built_run built_shell built_asm built_migrate built_elf built_dis built_load pump_app run_shape shell_shape asm_shape migrate_shape elf_shape dis_shape load_shape
+all_ask = (run_asks, (shell_asks, (asm_asks, (migrate_asks, (elf_asks, (dis_asks, (load_asks, tt)))))))
 
 needs_subcommand : (built pump_app).top.subcommand_required ≡ true
-unfolding pump_app run_shape shell_shape asm_shape migrate_shape dis_shape load_shape
+unfolding pump_app run_shape shell_shape asm_shape migrate_shape elf_shape dis_shape load_shape
 needs_subcommand = refl
 
 -- words with a match ask for something

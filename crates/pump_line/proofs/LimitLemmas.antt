@@ -7,8 +7,8 @@ use Rattle.clap.specs.Words.{Text}
 use Rattle.cache_size.specs.Sizes.{IsCacheSize, one_set}
 use Rattle.cache_size.specs.declared.size.CacheSize.{CacheSize}
 use Rattle.policy_choice.specs.declared.choice.Choice.{Choice}
-use Rattle.pump_line.specs.Request.{Request, disassemble_asked, load_asked, request_of, run_asked, save_asked, shell_asked}
-use Rattle.pump_line.specs.Task.{AllowsRules, AllowsTags, LoadTask, RunTask, ShellTask, Task, cache_of, disassemble, is_times, load, load_task_in, load_with, number_of, number_within, run, run_task_in, run_with, save, shell, shell_task_in, shell_with, size_in_sets, size_with, tags_of, task_in, task_of, whole_size}
+use Rattle.pump_line.specs.Request.{Request, disassemble_asked, elf_asked, load_asked, request_of, run_asked, save_asked, shell_asked}
+use Rattle.pump_line.specs.Task.{AllowsRules, AllowsTags, LoadTask, RunTask, ShellTask, Task, cache_of, disassemble, elf, is_times, load, load_task_in, load_with, number_of, number_within, run, run_task_in, run_with, save, shell, shell_task_in, shell_with, size_in_sets, size_with, tags_of, task_in, task_of, whole_size}
 use Rattle.pump_line.proofs.ValueLemmas.{within}
 
 -- ---- a number within its bounds
@@ -125,6 +125,7 @@ request_allows (Some (run_asked request)) task is =
 request_allows (Some (shell_asked request)) task is =
     made_allows shell (shell_task_in request) task (λ other read. read_allows request.cache request.tags other.cache other.tags (shell_has request.image _ _ _ other read)) is
 request_allows (Some (save_asked asked)) task is = let same : save asked ≡ task = cc in subst Allows same (tt, tt)
+request_allows (Some (elf_asked asked)) task is = let same : elf asked ≡ task = cc in subst Allows same (tt, tt)
 request_allows (Some (disassemble_asked asked)) task is = let same : disassemble asked ≡ task = cc in subst Allows same (tt, tt)
 request_allows (Some (load_asked request)) task is =
     made_allows load (load_task_in request) task (λ other read. read_allows request.cache request.tags other.cache other.tags (load_has _ _ _ other read)) is

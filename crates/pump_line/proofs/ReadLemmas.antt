@@ -6,7 +6,7 @@ use Rattle.clap.specs.Words.{App, HasKind, HasMatchesOf, IsAmong, Kinds, Text, f
 use Rattle.clap.specs.declared.error.Error.{Error}
 use Rattle.clap.specs.declared.error.kind.ErrorKind.TheVariants.{OutOfMemory}
 use Rattle.clap.specs.declared.parser.matches.ArgMatches.{ArgMatches}
-use Rattle.pump_line.specs.Line.{HasMatch, asm_shape, dis_shape, faults_of, load_shape, match_of, migrate_shape, pump_app, run_shape, shell_shape}
+use Rattle.pump_line.specs.Line.{HasMatch, asm_shape, dis_shape, elf_shape, faults_of, load_shape, match_of, migrate_shape, pump_app, run_shape, shell_shape}
 use Rattle.pump_line.specs.Request.{request_at, request_of}
 use Rattle.pump_line.specs.Task.{Task, task_in, task_of}
 use Rattle.pump_line.specs.Told.{task_value}
@@ -16,11 +16,11 @@ use Rattle.pump_line.specs.declared.task.WordsEnd.TheVariants.{Bad, Memory}
 
 -- `clap` states the faults and the matches of this command line
 pub pump_is_simple : is_simple_and_free pump_app ≡ true
-unfolding pump_app run_shape shell_shape asm_shape migrate_shape dis_shape load_shape
+unfolding pump_app run_shape shell_shape asm_shape migrate_shape elf_shape dis_shape load_shape
 pump_is_simple = refl
 
 pub pump_is_plain : is_simple pump_app ≡ true
-unfolding pump_app run_shape shell_shape asm_shape migrate_shape dis_shape load_shape
+unfolding pump_app run_shape shell_shape asm_shape migrate_shape elf_shape dis_shape load_shape
 pump_is_plain = refl
 
 -- words without a fault ask for what their match says

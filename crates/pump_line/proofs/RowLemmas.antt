@@ -8,14 +8,14 @@ use Rattle.clap.specs.declared.error.kind.ErrorKind.TheVariants.{ArgumentConflic
 use Rattle.cache_size.specs.Sizes.{one_set}
 use Rattle.policy_choice.specs.Choice.{no_policy}
 use Rattle.policy_choice.specs.declared.choice.Choice.{Choice}
-use Rattle.pump_line.specs.Line.{asm_shape, dis_shape, faults_of, load_shape, match_of, migrate_shape, pump_app, run_shape, shell_shape}
-use Rattle.pump_line.specs.Request.{disassemble_in, load_in, request_by, request_of, run_in, save_in, shell_in}
-use Rattle.pump_line.specs.Task.{Task, disassemble, load, load_task_in, run, run_task_in, save, shell, shell_task_in, task_of}
+use Rattle.pump_line.specs.Line.{asm_shape, dis_shape, elf_shape, faults_of, load_shape, match_of, migrate_shape, pump_app, run_shape, shell_shape}
+use Rattle.pump_line.specs.Request.{disassemble_in, elf_in, load_in, request_by, request_of, run_in, save_in, shell_in}
+use Rattle.pump_line.specs.Task.{Task, disassemble, elf, load, load_task_in, run, run_task_in, save, shell, shell_task_in, task_of}
 use Rattle.pump_line.specs.declared.task.Making.TheVariants.{Assemble, Migrate}
 
 -- what computes on words that are written out
 unfoldable on_rows : ⊤
-unfolding clap_on_literals faults_of match_of pump_app run_shape shell_shape asm_shape migrate_shape dis_shape load_shape request_by request_of run_in shell_in save_in disassemble_in load_in run_task_in shell_task_in load_task_in task_of
+unfolding clap_on_literals faults_of match_of pump_app run_shape shell_shape asm_shape migrate_shape elf_shape dis_shape load_shape request_by request_of run_in shell_in save_in elf_in disassemble_in load_in run_task_in shell_task_in load_task_in task_of
 on_rows = tt
 
 -- the words of a line, with one space between each two; where two spaces stand together, or one at the end, a word is empty
@@ -58,6 +58,10 @@ asm_of source image = save (record { making = Assemble; source = source; image =
 -- an image that becomes one of version 2, saved under another name
 abbrev migrate_of : Text → Text → Task
 migrate_of image out = save (record { making = Migrate; source = image; image = out })
+
+-- an image of an ELF file and a tag file
+abbrev elf_of : Text → Text → Text → Task
+elf_of file tags image = elf (record { elf = file; tags = tags; image = image })
 
 -- a listing of an image
 abbrev dis_of : Text → Task
@@ -145,6 +149,18 @@ migrations : Ask (
 unfolding on_rows
 migrations = refl
 
+-- ---- lines that ask for an image of an ELF file
+
+elf_files : Ask (
+    (codes "pump elf a.elf a.tags a.img", elf_of (codes "a.elf") (codes "a.tags") (codes "a.img")) ∷  -- the ELF file, the tag file and the image
+    (codes "pump elf a a a", elf_of (codes "a") (codes "a") (codes "a")) ∷  -- one name for all
+    (codes "pump elf elf elf elf", elf_of (codes "elf") (codes "elf") (codes "elf")) ∷  -- the subcommand's name for each
+    (codes "pump elf -- --tags -5 --image", elf_of (codes "--tags") (codes "-5") (codes "--image")) ∷  -- no option after two dashes
+    (codes "pump elf   ", elf_of [] [] []) ∷  -- empty names
+    [])
+unfolding on_rows
+elf_files = refl
+
 -- ---- lines that ask for a listing
 
 listings : Ask (
@@ -191,6 +207,9 @@ without_operand : Name (MissingRequiredArgument ∷ []) (
     codes "pump asm a.s --" ∷  -- two dashes are no name
     codes "pump migrate" ∷  -- a migration of nothing
     codes "pump migrate a.img" ∷  -- a migration that isn't saved
+    codes "pump elf" ∷  -- an image of no ELF file
+    codes "pump elf a.elf" ∷  -- without a tag file
+    codes "pump elf a.elf a.tags" ∷  -- and one that isn't saved
     codes "pump dis" ∷  -- a listing of nothing
     codes "pump load" ∷  -- a workload of no count
     [])
@@ -237,6 +256,9 @@ unknown_arguments : Name (UnknownArgument ∷ []) (
     codes "pump migrate a.img b.img c.img" ∷  -- a migration of three names
     codes "pump migrate a.img b.img --policy seal" ∷  -- a migration starts no image
     codes "pump migrate a.img --out b.img" ∷  -- the operands are no options
+    codes "pump elf a.elf a.tags a.img b.img" ∷  -- an ELF file with four names
+    codes "pump elf a.elf a.tags a.img --policy seal" ∷  -- its image isn't started
+    codes "pump elf a.elf a.img --tags a.tags" ∷  -- the operands are no options
     codes "pump dis a.img b.img" ∷  -- a listing of two images
     codes "pump dis a.img --policy seal" ∷  -- a listing starts no image: it has no policy
     codes "pump dis a.img --cache 5" ∷  -- the same for kept rules
@@ -259,6 +281,7 @@ unknown_subcommands : Name (UnknownArgument ∷ InvalidSubcommand ∷ []) (
     codes "pump Run a.img" ∷  -- a subcommand in upper case
     codes "pump assemble a.s a.img" ∷  -- a longer name of the subcommand
     codes "pump migrated a.img b.img" ∷  -- and of another
+    codes "pump elfs a.elf a.tags a.img" ∷  -- and of another
     codes "pump disassemble a.img" ∷  -- and of another
     [])
 unfolding on_rows

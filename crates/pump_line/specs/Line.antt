@@ -45,6 +45,10 @@ asm_shape = subcommand_shape (codes "asm") (codes "source" ∷ codes "image" ∷
 unfoldable pub migrate_shape : Shape
 migrate_shape = subcommand_shape (codes "migrate") (codes "image" ∷ codes "out" ∷ []) []
 
+-- `elf ELF TAGS IMAGE`
+unfoldable pub elf_shape : Shape
+elf_shape = subcommand_shape (codes "elf") (codes "elf" ∷ codes "tags" ∷ codes "image" ∷ []) []
+
 -- `dis IMAGE`
 unfoldable pub dis_shape : Shape
 dis_shape = subcommand_shape (codes "dis") image_operand []
@@ -62,7 +66,7 @@ pump_app = record {
     disable_help_subcommand = true;
     subcommand_required = true;
   };
-  subs = run_shape ∷ shell_shape ∷ asm_shape ∷ migrate_shape ∷ dis_shape ∷ load_shape ∷ [];
+  subs = run_shape ∷ shell_shape ∷ asm_shape ∷ migrate_shape ∷ elf_shape ∷ dis_shape ∷ load_shape ∷ [];
 }
 
 -- the faults that `clap` may name for the words

@@ -28,6 +28,12 @@ pub record SaveTask : Type 0 where
   pub source : Text
   pub image : Text
 
+-- an `elf`: the names of the ELF file and of the tag file, and the name that the image's file gets, which is the task itself too
+pub record ElfTask : Type 0 where
+  pub elf : Text
+  pub tags : Text
+  pub image : Text
+
 -- a `dis`: the image's name, which is the task itself too
 pub record DisassembleTask : Type 0 where
   pub image : Text
@@ -43,6 +49,7 @@ pub data Request : Type 0 where
   run_asked : RunRequest → Request
   shell_asked : ShellRequest → Request
   save_asked : SaveTask → Request
+  elf_asked : ElfTask → Request
   disassemble_asked : DisassembleTask → Request
   load_asked : LoadRequest → Request
 
@@ -72,6 +79,13 @@ save_in making source image rows = option_and_then (λ from. option_map (λ to. 
   image = to;
 }) (first_of image rows)) (first_of source rows)
 
+unfoldable pub elf_in : List Row → Option ElfTask
+elf_in rows = option_and_then (λ elf. option_and_then (λ tags. option_map (λ image. record {
+  elf = elf;
+  tags = tags;
+  image = image;
+}) (first_of (codes "image") rows)) (first_of (codes "tags") rows)) (first_of (codes "elf") rows)
+
 unfoldable pub disassemble_in : List Row → Option DisassembleTask
 disassemble_in rows = option_map (λ image. record { image = image }) (first_of (codes "image") rows)
 
@@ -89,8 +103,9 @@ request_by name rows =
     else (if bytes_eq name (codes "shell") then option_map shell_asked (shell_in rows)
     else (if bytes_eq name (codes "asm") then option_map save_asked (save_in Assemble (codes "source") (codes "image") rows)
     else (if bytes_eq name (codes "migrate") then option_map save_asked (save_in Migrate (codes "image") (codes "out") rows)
+    else (if bytes_eq name (codes "elf") then option_map elf_asked (elf_in rows)
     else (if bytes_eq name (codes "dis") then option_map disassemble_asked (disassemble_in rows)
-    else (if bytes_eq name (codes "load") then option_map load_asked (load_in rows) else None)))))
+    else (if bytes_eq name (codes "load") then option_map load_asked (load_in rows) else None))))))
 
 -- the request of the subcommand that is named, if one is
 abbrev pub request_at : Option (Text × List Row) → Option Request

@@ -9,8 +9,8 @@ use Rattle.cache_size.specs.Sizes.{IsCacheSize, one_set}
 use Rattle.cache_size.specs.declared.size.CacheSize.{CacheSize}
 use Rattle.policy_choice.specs.Choice.{choice_of, no_policy}
 use Rattle.policy_choice.specs.declared.choice.Choice.{Choice}
-use Rattle.pump_line.specs.Request.{DisassembleTask, LoadRequest, Request, RunRequest, SaveTask, ShellRequest}
-use Rattle.pump_line.specs.Request.{disassemble_asked, load_asked, request_of, run_asked, save_asked, shell_asked}
+use Rattle.pump_line.specs.Request.{DisassembleTask, ElfTask, LoadRequest, Request, RunRequest, SaveTask, ShellRequest}
+use Rattle.pump_line.specs.Request.{disassemble_asked, elf_asked, load_asked, request_of, run_asked, save_asked, shell_asked}
 
 -- a `run`: the image's name, the policies that are chosen, and its limits
 pub record RunTask : Type 0 where
@@ -40,11 +40,12 @@ pub record LoadTask : Type 0 where
   -- the most tags that may have words
   pub tags : ℕ
 
--- what `pump` is asked to do, a case for each subcommand, but that the two which save an image have one
+-- what `pump` is asked to do, a case for each subcommand, but that the two which make an image of one file have one
 pub data Task : Type 0 where
   run : RunTask → Task
   shell : ShellTask → Task
   save : SaveTask → Task
+  elf : ElfTask → Task
   disassemble : DisassembleTask → Task
   load : LoadTask → Task
 
@@ -53,6 +54,7 @@ abbrev pub AllowsTags : Task → Type 0
 AllowsTags (run task) = 1 ≤ task.tags
 AllowsTags (shell task) = 1 ≤ task.tags
 AllowsTags (save task) = Unit {0}
+AllowsTags (elf task) = Unit {0}
 AllowsTags (disassemble task) = Unit {0}
 AllowsTags (load task) = 1 ≤ task.tags
 
@@ -61,6 +63,7 @@ abbrev pub AllowsRules : Task → Type 0
 AllowsRules (run task) = IsCacheSize task.cache
 AllowsRules (shell task) = IsCacheSize task.cache
 AllowsRules (save task) = Unit {0}
+AllowsRules (elf task) = Unit {0}
 AllowsRules (disassemble task) = Unit {0}
 AllowsRules (load task) = IsCacheSize task.cache
 
@@ -209,6 +212,7 @@ abbrev pub task_in : Request → Option Task
 task_in (run_asked request) = option_map run (run_task_in request)
 task_in (shell_asked request) = option_map shell (shell_task_in request)
 task_in (save_asked task) = Some (save task)
+task_in (elf_asked task) = Some (elf task)
 task_in (disassemble_asked task) = Some (disassemble task)
 task_in (load_asked request) = option_map load (load_task_in request)
 

@@ -1,15 +1,16 @@
 -- The words as lists of bytes, and a task as the definitions see it.
 use Rattle.std.specs.Prelude.{ℕ, List, map, Option, option_map, String, string_bytes}
 use Rattle.std.specs.Borrow.{Bor}
-use Rattle.pump_line.specs.Request.{DisassembleTask, SaveTask}
-use Rattle.pump_line.specs.Task.{LoadTask, RunTask, ShellTask, Task, disassemble, load, run, save, shell}
+use Rattle.pump_line.specs.Request.{DisassembleTask, ElfTask, SaveTask}
+use Rattle.pump_line.specs.Task.{LoadTask, RunTask, ShellTask, Task, disassemble, elf, load, run, save, shell}
 use Rattle.pump_line.specs.declared.task.DisassembleTask.{DisassembleTask as DisassembleWords}
+use Rattle.pump_line.specs.declared.task.ElfTask.{ElfTask as ElfWords}
 use Rattle.pump_line.specs.declared.task.LoadTask.{LoadTask as LoadWords}
 use Rattle.pump_line.specs.declared.task.RunTask.{RunTask as RunWords}
 use Rattle.pump_line.specs.declared.task.SaveTask.{SaveTask as SaveWords}
 use Rattle.pump_line.specs.declared.task.ShellTask.{ShellTask as ShellWords}
 use Rattle.pump_line.specs.declared.task.Task.{Task as TaskWords}
-use Rattle.pump_line.specs.declared.task.Task.TheVariants.{Disassemble, Load, Run, Save, Shell}
+use Rattle.pump_line.specs.declared.task.Task.TheVariants.{Disassemble, Elf, Load, Run, Save, Shell}
 
 -- each word by the bytes of its text
 abbrev pub texts_of : {A : Type 0} → List (String A) → List (List ℕ)
@@ -35,6 +36,9 @@ shell_value task = record { image = task.image.now; choice = task.choice; cache 
 abbrev pub save_value : SaveWords → SaveTask
 save_value task = record { making = task.making; source = task.source.now; image = task.image.now }
 
+abbrev pub elf_value : ElfWords → ElfTask
+elf_value task = record { elf = task.elf.now; tags = task.tags.now; image = task.image.now }
+
 abbrev pub disassemble_value : DisassembleWords → DisassembleTask
 disassemble_value task = record { image = task.image.now }
 
@@ -45,5 +49,6 @@ abbrev pub task_value : TaskWords → Task
 task_value (Run task) = run (run_value task)
 task_value (Shell task) = shell (shell_value task)
 task_value (Save task) = save (save_value task)
+task_value (Elf task) = elf (elf_value task)
 task_value (Disassemble task) = disassemble (disassemble_value task)
 task_value (Load task) = load (load_value task)

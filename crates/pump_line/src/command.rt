@@ -25,7 +25,7 @@ struct Leaf<'a> {
 }
 
 /// The subcommands of `pump`.
-const LEAVES: [Leaf<'static>; 6] = [
+const LEAVES: [Leaf<'static>; 7] = [
     Leaf {
         name: "run",
         arguments: &[
@@ -52,6 +52,14 @@ const LEAVES: [Leaf<'static>; 6] = [
     Leaf {
         name: "migrate",
         arguments: &[Argument::Operand("image"), Argument::Operand("out")],
+    },
+    Leaf {
+        name: "elf",
+        arguments: &[
+            Argument::Operand("elf"),
+            Argument::Operand("tags"),
+            Argument::Operand("image"),
+        ],
     },
     Leaf {
         name: "dis",

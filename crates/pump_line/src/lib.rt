@@ -8,5 +8,6 @@ mod values;
 
 pub use law::match_law;
 pub use task::{
-    DisassembleTask, LoadTask, Making, RunTask, SaveTask, ShellTask, Task, WordsEnd, read_task,
+    DisassembleTask, ElfTask, LoadTask, Making, RunTask, SaveTask, ShellTask, Task, WordsEnd,
+    read_task,
 };

@@ -2,7 +2,7 @@
 
 ghost use Rattle.std.specs.Prelude.{◌≡◌, ◌≢◌, Some, None, IfOk, IfErr, option_and_then, option_map};
 ghost use Rattle.clap.specs.Words.{first_of, found_of, kind_of, rows_of, subcommand_rows_of};
-ghost use Rattle.pump_line.specs.Request.{disassemble_asked, disassemble_in, load_asked, load_in, request_at};
+ghost use Rattle.pump_line.specs.Request.{disassemble_asked, disassemble_in, elf_asked, elf_in, load_asked, load_in, request_at};
 ghost use Rattle.pump_line.specs.Request.{request_by, run_asked, run_in, save_asked, save_in, shell_asked, shell_in};
 ghost use Rattle.pump_line.specs.Task.{AllowsRules, AllowsTags, task_in, task_of};
 ghost use Rattle.pump_line.specs.Told.{task_value, text_value, texts_of};
@@ -15,7 +15,7 @@ use clap::{ArgMatches, Error};
 use policy_choice::Choice;
 use std::alloc::{AllocError, Global};
 
-/// What the words ask for, a case for each subcommand, but that the two which save an image have one.
+/// What the words ask for, a case for each subcommand, but that the two which make an image of one file have one.
 #[derive(Clone, Copy)]
 pub enum Task<'a> {
     /// `run`
@@ -24,6 +24,8 @@ pub enum Task<'a> {
     Shell(ShellTask<'a>),
     /// `asm` or `migrate`
     Save(SaveTask<'a>),
+    /// `elf`
+    Elf(ElfTask<'a>),
     /// `dis`
     Disassemble(DisassembleTask<'a>),
     /// `load`
@@ -67,7 +69,7 @@ pub enum Making {
     Migrate,
 }
 
-/// An image that the words ask to be made and saved.
+/// An image that the words ask to be made of one file and saved.
 #[derive(Clone, Copy)]
 pub struct SaveTask<'a> {
     /// How it is made.
@@ -75,6 +77,17 @@ pub struct SaveTask<'a> {
     /// The name of the file that it is made from; it may be empty.
     pub source: &'a str,
     /// The name of the file that it goes to; it may be empty.
+    pub image: &'a str,
+}
+
+/// An image that the words ask to be made of an ELF file and a tag file, and saved.
+#[derive(Clone, Copy)]
+pub struct ElfTask<'a> {
+    /// The name of the ELF file; it may be empty.
+    pub elf: &'a str,
+    /// The name of the tag file; it may be empty.
+    pub tags: &'a str,
+    /// The name of the file that the image goes to; it may be empty.
     pub image: &'a str,
 }
 
@@ -183,6 +196,19 @@ fn save_task<'a>(
     }))
 }
 
+/// The image that a match of `elf` asks to be made and saved.
+#[tactic(auto, unfolding(crate::specs::Request::elf_in))]
+fn elf_task<'a>(matches: &ArgMatches<'a>) -> Option<Task<'a>>
+    ensures { option_map task_value result
+        ≡ option_and_then task_in
+        (option_map elf_asked (elf_in (rows_of (found_of matches.now)))) }
+{
+    let elf = text_of(matches, "elf")?;
+    let tags = text_of(matches, "tags")?;
+    let image = text_of(matches, "image")?;
+    Some(Task::Elf(ElfTask { elf, tags, image }))
+}
+
 /// The listing that a match of `dis` asks for.
 #[tactic(auto, unfolding(crate::specs::Request::disassemble_in))]
 fn disassemble_task<'a>(matches: &ArgMatches<'a>) -> Option<Task<'a>>
@@ -218,6 +244,7 @@ fn task_named<'a>(name: &str, matches: &ArgMatches<'a>) -> Option<Task<'a>>
         "shell" => shell_task(matches),
         "asm" => save_task(Making::Assemble, matches, "source", "image"),
         "migrate" => save_task(Making::Migrate, matches, "image", "out"),
+        "elf" => elf_task(matches),
         "dis" => disassemble_task(matches),
         "load" => load_task(matches),
         _ => None,
@@ -246,13 +273,13 @@ fn end_of(error: &Error) -> WordsEnd
 
 /// What the words ask for, the first being the program's name:
 /// `run IMAGE [--policy LIST] [--cache SIZE] [--tags N] [--turns N]`, `shell IMAGE [--policy LIST] [--cache SIZE] [--tags N]`,
-/// `asm SOURCE IMAGE`, `migrate IMAGE OUT`, `dis IMAGE` or `load COUNT [--cache SIZE] [--tags N]`, the options in any order before or after the
-/// operand, each at most once; `asm`, `migrate` and `dis` have none. LIST is `none`, or names among `seal`, `comp`, `flow` and `heap` with commas between, none twice; it is `none`
+/// `asm SOURCE IMAGE`, `migrate IMAGE OUT`, `elf ELF TAGS IMAGE`, `dis IMAGE` or `load COUNT [--cache SIZE] [--tags N]`, the options in
+/// any order before or after the operand, each at most once; `asm`, `migrate`, `elf` and `dis` have none. LIST is `none`, or names among `seal`, `comp`, `flow` and `heap` with commas between, none twice; it is `none`
 /// where it isn't there. SIZE is N, the rules of one set, 0 to 65,536 (1,024 where it isn't there), or SxW, S sets of W ways each, 1 to 64
 /// and 1 to 65,536, which make 65,536 rules at most. N is 1 to 10 decimal digits, as S and W are, that write 1 to
 /// 1,048,576 for `--tags` (65,536) and 1 to 1,000,000,000 for `--turns` (1,000,000). COUNT is 1 to 10 decimal digits that write
-/// 1 to 1,000. So some tag may have a word in every task that starts an image. SOURCE, IMAGE and OUT are names of files, of any
-/// text: no file is looked at. This is the project's own
+/// 1 to 1,000. So some tag may have a word in every task that starts an image. SOURCE, IMAGE, OUT, ELF and TAGS are names of files, of
+/// any text: no file is looked at. This is the project's own
 /// command line; `clap` judges its form. Any other words are `Bad`. A line that runs out of memory may end as `Memory`.
 pub fn read_task<'a>(alloc: Global, words: &'a Vec<String>) -> Result<Task<'a>, WordsEnd>
     ensures task { IfOk result (λ t. task_of (texts_of words.now.items) ≡ Some (task_value t)) }

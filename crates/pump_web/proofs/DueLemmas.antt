@@ -1,10 +1,10 @@
 -- What is due of a call whose files and input are told: something, and the calls on files by what its content is read as.
 use Rattle.std.proofs.Common.{◌≡◌, ℕ, List, Option, Some, None, Ok, Err, IfSome, IsSome, refl, ap, subst}
 use Rattle.host_io.specs.Environment.{Environment}
-use Rattle.pump_line.specs.Task.{Task, disassemble, load, run, save, shell, task_of}
+use Rattle.pump_line.specs.Task.{Task, disassemble, elf, load, run, save, shell, task_of}
 use Rattle.pump_cli.specs.Calls.{CallsMade, calls_of, calls_of_task}
 use Rattle.pump_cli.specs.Program.{outcome_of_image, outcome_of_words, program}
-use Rattle.pump_cli.specs.Reading.{content_of, content_read}
+use Rattle.pump_cli.specs.Reading.{ContentOf, content_of, content_read}
 use Rattle.pump_cli.specs.declared.status.Status.{Status}
 use Rattle.pump_web.specs.Replies.{calls_due, content_in}
 
@@ -17,6 +17,7 @@ module _ (held : List ℕ → List ℕ) where
   content_known (run task) = refl
   content_known (shell task) = refl
   content_known (save task) = refl
+  content_known (elf task) = refl
   content_known (disassemble task) = refl
   content_known (load task) = refl
 
@@ -36,6 +37,11 @@ module _ (held : List ℕ → List ℕ) where
         | Ok picture ↦ refl
         | Err refusal ↦ refl
       ]
+  task_due input (elf task) =
+      elim (content_read (elf task) (content_in (elf task) known)) as (λ read. IsSome (outcome_of_image (elf task) read (Some input))) [
+        | Ok picture ↦ refl
+        | Err refusal ↦ refl
+      ]
   task_due input (disassemble task) =
       elim (content_read (disassemble task) (content_in (disassemble task) known)) as (λ read. IsSome (outcome_of_image (disassemble task) read (Some input))) [
         | Ok picture ↦ refl
@@ -52,6 +58,7 @@ module _ (held : List ℕ → List ℕ) where
   words_due input (Some (run task)) = task_due input (run task)
   words_due input (Some (shell task)) = task_due input (shell task)
   words_due input (Some (save task)) = task_due input (save task)
+  words_due input (Some (elf task)) = task_due input (elf task)
   words_due input (Some (disassemble task)) = task_due input (disassemble task)
   words_due input (Some (load task)) = task_due input (load task)
 
@@ -64,7 +71,7 @@ module _ (held : List ℕ → List ℕ) where
       → (made : CallsMade task status before after) → calls_of task made.read ≡ calls_due task known
   calls_are None status before after told made = refl
   calls_are (Some task) status before after told made =
-      let read : IfSome (content_of task known) (λ bytes. made.read ≡ content_read task bytes) =
-      subst (λ (names : List ℕ → Option (List ℕ)). IfSome (content_of task names) (λ bytes. made.read ≡ content_read task bytes)) told made.is_read in
+      let read : IfSome (content_of task known) (λ content. made.read ≡ content_read task content) =
+      subst (λ (names : List ℕ → Option (List ℕ)). IfSome (content_of task names) (λ content. made.read ≡ content_read task content)) told made.is_read in
       ap (calls_of_task task)
-      (subst (λ (content : Option (List ℕ)). IfSome content (λ bytes. made.read ≡ content_read task bytes)) (content_known task) read)
+      (subst (λ (told : Option (ContentOf task)). IfSome told (λ content. made.read ≡ content_read task content)) (content_known task) read)

@@ -8,7 +8,7 @@ use Rattle.pump_cli.specs.Endings.{Outcome}
 use Rattle.pump_cli.specs.Facts.{AllStayed, Stayed}
 use Rattle.pump_cli.specs.Theorem.{Headline}
 use Rattle.pump_cli.specs.declared.status.Status.{Status}
-use Rattle.pump_cli.specs.declared.status.Status.TheVariants.{BadImage, BadSource, BadWords, Done, ExitedNonzero, Faulted, InputFailed, Memory, PutFailed, ReadFailed, TagsOut, TooLong, TurnsSpent, Violated, WriteFailed}
+use Rattle.pump_cli.specs.declared.status.Status.TheVariants.{BadElf, BadImage, BadSource, BadTags, BadWords, Done, ExitedNonzero, Faulted, InputFailed, Memory, PutFailed, ReadFailed, TagsOut, TooLong, TurnsSpent, Violated, WriteFailed}
 use Rattle.pump_web.specs.Replies.{calls_due, image_after}
 use Rattle.pump_web.proofs.DueLemmas.{calls_are}
 
@@ -29,6 +29,8 @@ makes_all ExitedNonzero final = tt
 makes_all BadWords final = tt
 makes_all BadImage final = tt
 makes_all BadSource final = tt
+makes_all BadTags final = tt
+makes_all BadElf final = tt
 makes_all Violated final = tt
 makes_all Faulted final = tt
 makes_all TurnsSpent final = tt
@@ -47,6 +49,8 @@ none_failed ExitedNonzero broken name final failed = failed
 none_failed BadWords broken name final failed = failed
 none_failed BadImage broken name final failed = failed
 none_failed BadSource broken name final failed = failed
+none_failed BadTags broken name final failed = failed
+none_failed BadElf broken name final failed = failed
 none_failed Violated broken name final failed = failed
 none_failed Faulted broken name final failed = failed
 none_failed TurnsSpent broken name final failed = failed

@@ -3,11 +3,11 @@ use Rattle.std.specs.Prelude.{◌≡◌, ℕ, true, List, [], ◌∷◌, codes, 
 use Rattle.host_io.specs.Bytes.{told_bytes}
 use Rattle.host_io.specs.Held.{sure_bytes}
 use Rattle.host_io.specs.Pieces.{PutsPrefix, Taken, errs_of, outs_of}
-use Rattle.pump_line.specs.Task.{Task, task_of}
+use Rattle.pump_line.specs.Task.{Task, disassemble, elf, load, run, save, shell, task_of}
 use Rattle.pump_cli.specs.Calls.{FileCall, calls_of_task, held_after}
 use Rattle.pump_cli.specs.Endings.{Outcome}
 use Rattle.pump_cli.specs.Program.{program}
-use Rattle.pump_cli.specs.Reading.{content_of, content_read}
+use Rattle.pump_cli.specs.Reading.{ContentOf, content_of, content_read}
 use Rattle.pump_cli.specs.declared.status.Status.{Status}
 use Rattle.pump_web.specs.Lines.{words_in}
 
@@ -47,11 +47,20 @@ TellsFirst outcome out err = PutsPrefix (taken_of [] []) (taken_of out err) outc
 
 -- ---- the image
 
--- the bytes that a task's image is made from
-abbrev pub content_in : Task → (List ℕ → Option (List ℕ)) → List ℕ
-content_in task held = unwrap_or (content_of task held) []
+-- the content of files without bytes
+abbrev pub no_content : (task : Task) → ContentOf task
+no_content (run task) = []
+no_content (shell task) = []
+no_content (save task) = []
+no_content (elf task) = record { elf = []; tags = [] }
+no_content (disassemble task) = []
+no_content (load task) = []
 
--- the calls on files that are due: what is asked for, by what these bytes are read as
+-- what a task's image is made from
+abbrev pub content_in : (task : Task) → (List ℕ → Option (List ℕ)) → ContentOf task
+content_in task held = unwrap_or (content_of task held) (no_content task)
+
+-- the calls on files that are due: what is asked for, by what that is read as
 abbrev pub calls_due : Option Task → (List ℕ → Option (List ℕ)) → List FileCall
 calls_due None held = []
 calls_due (Some task) held = calls_of_task task (content_read task (content_in task held))

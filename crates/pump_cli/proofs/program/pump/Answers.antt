@@ -3,6 +3,7 @@ use Rattle.pump_line.specs.Told.{texts_of}
 use Rattle.pump_cli.specs.Codes.{status_of_cut}
 use Rattle.pump_cli.proofs.AnswerLemmas.{due_status}
 use Rattle.pump_cli.proofs.CauseLemmas.{out_run, spent_run}
+use Rattle.pump_cli.proofs.ElfLemmas.{saves_elf}
 use Rattle.pump_cli.proofs.ListLemmas.{listed_back}
 use Rattle.pump_cli.proofs.LoadLemmas.{load_due}
 use Rattle.pump_cli.proofs.MigratedLemmas.{saves_migrated}
@@ -47,6 +48,16 @@ returns-in-Ok-clause-migrates g c task picture bytes asked migrates held read =
 pub returns-in-Err-clause-migrates : goal.returns-in-Err-clause-migrates
 returns-in-Err-clause-migrates g c task picture bytes asked migrates held read =
     saves_migrated task bytes picture (g.met.F.Files.tells_bytes c.args.files.now task.source bytes held) migrates read
+
+pub returns-in-Ok-clause-converts : goal.returns-in-Ok-clause-converts
+returns-in-Ok-clause-converts g c task picture contents asked elf_held tags_held read =
+    saves_elf task contents picture (g.met.F.Files.tells_bytes c.args.files.now task.elf contents.elf elf_held)
+    (g.met.F.Files.tells_bytes c.args.files.now task.tags contents.tags tags_held) read
+
+pub returns-in-Err-clause-converts : goal.returns-in-Err-clause-converts
+returns-in-Err-clause-converts g c task picture contents asked elf_held tags_held read =
+    saves_elf task contents picture (g.met.F.Files.tells_bytes c.args.files.now task.elf contents.elf elf_held)
+    (g.met.F.Files.tells_bytes c.args.files.now task.tags contents.tags tags_held) read
 
 pub returns-in-Ok-clause-spent : goal.returns-in-Ok-clause-spent
 returns-in-Ok-clause-spent g c is =
