@@ -149,10 +149,8 @@ impl Policy for Compartments {
     }
 
     fn wipe(&self, pc: CompartmentTag, old: CompartmentTag) -> Result<CompartmentTag, Refused> {
-        // serves the proof alone: what is asked of has been handed on
-        let kept = old;
         if is_writer(&pc, &old) {
-            Ok(kept)
+            Ok(old)
         } else {
             Err(refused(Why::Consent))
         }

@@ -10,8 +10,6 @@ mod errors;
 mod headers;
 mod loading;
 mod tags;
-#[cfg(test)]
-mod tests;
 mod words;
 
 pub use errors::{ElfEnd, ElfError, TagsEnd, TagsError};

@@ -4,8 +4,6 @@
 
 mod all;
 mod four;
-#[cfg(test)]
-mod tests;
 mod three;
 mod two;
 

@@ -20,6 +20,7 @@ use monitor_calls::{Job, ServeEnd, serve};
 use policy_trait::{Outs, Policy, Refused};
 use rv_decode::Instr;
 use rv_step::Fault;
+use shared_terms::count_up;
 use std::alloc::Global;
 use std::marker::Model;
 use tag_memory::{Hart, Ram};
@@ -158,7 +159,7 @@ impl<P: Policy> Plain<P> {
         ensures end { result ≡ TurnEnd.Stopped why }
     {
         self.core.stop_hart(h, why);
-        self.unasked = self.unasked.saturating_add(1);
+        count_up(&mut self.unasked);
         TurnEnd::Stopped(why)
     }
 
@@ -167,7 +168,7 @@ impl<P: Policy> Plain<P> {
     fn count_asked(&mut self)
         ensures { self.new ≡ after_asked self.old self.old.machine }
     {
-        self.asked = self.asked.saturating_add(1);
+        count_up(&mut self.asked);
     }
 
     /// Counts a turn that was stopped once its rule was looked up, and stops hart `h`.

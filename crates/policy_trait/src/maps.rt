@@ -1,9 +1,9 @@
-//! Inputs, outputs, arguments and plans with each tag changed by one function of tags.
+//! Inputs, arguments and plans with each tag changed by one function of tags.
 
 ghost use Rattle.std.specs.Prelude.{◌≡◌};
-ghost use Rattle.policy_trait.specs.Maps.{answer_by, args_by, ins_by, outs_by, plan_by};
+ghost use Rattle.policy_trait.specs.Maps.{answer_by, args_by, ins_by, plan_by};
 
-use crate::rules::{Ins, Outs};
+use crate::rules::Ins;
 use crate::services::{Answer, Args, Plan};
 
 /// A function of tags, as how a policy within a product reads the product's tags.
@@ -21,7 +21,6 @@ pub trait TagMap {
 
 impl<T: Copy> Ins<T> {
     /// The inputs with each tag changed.
-    #[inline(always)]
     pub fn map<M: TagMap<From = T>>(&self, map: &M) -> Ins<M::To>
         ensures { result ≡ ins_by (M.image map.now) self.now }
     {
@@ -31,19 +30,6 @@ impl<T: Copy> Ins<T> {
             t1: map.image(self.t1),
             t2: map.image(self.t2),
             tm: map.image(self.tm),
-        }
-    }
-}
-
-impl<T: Copy> Outs<T> {
-    /// The outputs with each tag changed.
-    #[inline(always)]
-    pub fn map<M: TagMap<From = T>>(&self, map: &M) -> Outs<M::To>
-        ensures { result ≡ outs_by (M.image map.now) self.now }
-    {
-        Outs {
-            pc: map.image(self.pc),
-            result: map.image(self.result),
         }
     }
 }

@@ -25,6 +25,7 @@ use monitor_calls::{Job, ServeEnd, serve};
 use policy_trait::{Args, Policy, TagMap};
 use rule_cache::{OutWords, RuleStore};
 use rv_step::Fault;
+use shared_terms::count_up;
 use std::alloc::{AllocError, Global};
 use std::marker::Model;
 use tag_intern::{Decoder, InternEnd, TagTable, remade, renumbering};
@@ -173,7 +174,7 @@ impl<P: Policy, T: TagTable<Tag = P::Tag>, C: RuleStore> Pump<P, T, C> {
         ensures end { result ≡ TurnEnd.Stopped why }
     {
         self.core.stop_hart(h, why);
-        self.turns = self.turns.saturating_add(1);
+        count_up(&mut self.turns);
         TurnEnd::Stopped(why)
     }
 
@@ -245,7 +246,7 @@ impl<P: Policy, T: TagTable<Tag = P::Tag>, C: RuleStore> Pump<P, T, C> {
         self.core.renumber(&numbers);
         self.tags = table;
         self.store.clear();
-        self.sweeps = self.sweeps.saturating_add(1);
+        count_up(&mut self.sweeps);
         Ok(numbers)
     }
 
@@ -359,7 +360,7 @@ impl<P: Policy, T: TagTable<Tag = P::Tag>, C: RuleStore> Pump<P, T, C> {
         ensures harts { length self.new.core.harts ≡ length self.old.core.harts }
         ensures bytes { ram_bytes self.new.core.ram ≡ ram_bytes self.old.core.ram }
     {
-        self.turns = self.turns.saturating_add(1);
+        count_up(&mut self.turns);
         self.core.effect(h, feed, look, outs)
     }
 
@@ -378,7 +379,7 @@ impl<P: Policy, T: TagTable<Tag = P::Tag>, C: RuleStore> Pump<P, T, C> {
         ensures harts { length self.new.core.harts ≡ length self.old.core.harts }
         ensures bytes { ram_bytes self.new.core.ram ≡ ram_bytes self.old.core.ram }
     {
-        self.turns = self.turns.saturating_add(1);
+        count_up(&mut self.turns);
         self.core.step(h, look, outs);
         TurnEnd::Ran(None)
     }
@@ -482,7 +483,7 @@ impl<P: Policy, T: TagTable<Tag = P::Tag>, C: RuleStore> Pump<P, T, C> {
             look.effect.next(),
             outs.pc,
         );
-        self.turns = self.turns.saturating_add(1);
+        count_up(&mut self.turns);
         Ok(TurnEnd::Ran(None))
     }
 

@@ -9,6 +9,7 @@ ghost use Rattle.rule_cache.specs.Stores.{Store, store_without_rules, empty_stor
 use crate::front::FrontedRules;
 use crate::key::{Key, OutWords};
 use crate::store::RuleStore;
+use shared_terms::count_up;
 use std::alloc::{AllocError, Global};
 use std::num::NonZeroUsize;
 
@@ -44,9 +45,9 @@ impl RuleStore for RuleCache {
     fn find(&mut self, key: &Key) -> Option<OutWords> {
         let found = moved(&mut self.rules, key);
         if found.is_some() {
-            self.hits = self.hits.saturating_add(1);
+            count_up(&mut self.hits);
         } else {
-            self.misses = self.misses.saturating_add(1);
+            count_up(&mut self.misses);
         }
         found
     }

@@ -1,7 +1,7 @@
 //! Tags changed by one function, and sets of compartments.
 
 use crate::raising::Raising;
-use policy_trait::{Answer, Args, CompartmentSet, Ins, Outs, Plan, Rest, Words};
+use policy_trait::{Answer, Args, CompartmentSet, Ins, Plan, Rest, Words};
 use pump_words::Line;
 
 #[test]
@@ -21,12 +21,6 @@ fn tags_of_rules_and_services_are_changed(rt: HostRuntime) {
         tm: 105,
     };
     assert!(rt; inputs.map(&Raising { by: 100 }) == changed);
-    let outputs = Outs { pc: 1, result: 2 };
-    let changed = Outs {
-        pc: 101,
-        result: 102,
-    };
-    assert!(rt; outputs.map(&Raising { by: 100 }) == changed);
     let arguments = Args {
         a0: 1,
         a1: 2,

@@ -8,6 +8,7 @@ ghost use Rattle.set_cache.specs.Sets.{AreHeld, IsHeld, rules_of};
 use crate::numbers::{GROUPS, number_of, set_numbers};
 use crate::set::{Rule, find_in, keep_in};
 use rule_cache::{Key, OutWords, RuleStore};
+use shared_terms::count_up;
 use std::alloc::{AllocError, Global};
 use std::marker::Model;
 
@@ -55,9 +56,9 @@ impl RuleStore for SetCache {
         let number = number_of(&self.numbers, key.group);
         let found = find_in(&mut self.sets[number], *key);
         if found.is_some() {
-            self.hits = self.hits.saturating_add(1);
+            count_up(&mut self.hits);
         } else {
-            self.misses = self.misses.saturating_add(1);
+            count_up(&mut self.misses);
         }
         found
     }

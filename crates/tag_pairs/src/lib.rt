@@ -6,8 +6,6 @@ mod coming;
 mod counts;
 mod mapped;
 mod pairs;
-#[cfg(test)]
-mod tests;
 
 pub use mapped::{Mapped, TagBijection};
 pub use pairs::Pairs;

@@ -17,6 +17,6 @@ invariant_of-self g c =
     record {
       pump = pump_at g.P.Policy.model (after_effect p c.args.feed.now c.args.h c.args.look.now c.args.outs)
           (pump_effected g.P.Policy.model p c.self.invariant.pump c.args.feed.now c.args.h c.args.look.now c.args.outs there sound outputs)
-          c.effect.new.self c.effect.ensures.core c.saturating_add-self-inside.result c.self.inside.sweeps c.self.inside.halt;
+          c.effect.new.self c.effect.ensures.core c.count_up.new.count c.self.inside.sweeps c.self.inside.halt;
       masks_are = c.self.invariant.masks_are;
     }

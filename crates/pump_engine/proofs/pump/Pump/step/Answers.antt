@@ -18,6 +18,6 @@ invariant_of-self g c =
     record {
       pump = pump_at g.P.Policy.model (after_effect p (tape_of []) c.args.h c.args.look.now c.args.outs)
           (pump_effected g.P.Policy.model p c.self.invariant.pump (tape_of []) c.args.h c.args.look.now c.args.outs there sound outputs)
-          c.step.new.self (c.step.ensures.core (tape_of [])) c.saturating_add-self-inside.result c.self.inside.sweeps c.self.inside.halt;
+          c.step.new.self (c.step.ensures.core (tape_of [])) c.count_up.new.count c.self.inside.sweeps c.self.inside.halt;
       masks_are = c.self.invariant.masks_are;
     }

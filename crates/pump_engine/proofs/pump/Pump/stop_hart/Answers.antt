@@ -9,6 +9,6 @@ invariant_of-self g c =
     pump_of c.self.inside.policy c.self.inside.core (g.T.TagTable.state c.self.inside.tags) (g.C.RuleStore.state c.self.inside.store) c.self.inside.turns c.self.inside.sweeps c.self.inside.halt in
     record {
       pump = pump_at g.P.Policy.model (after_stop p c.args.h c.args.why) (pump_stopped g.P.Policy.model p c.self.invariant.pump c.args.h c.args.why)
-          c.stop_hart.new.self c.stop_hart.ensures c.saturating_add-self-inside.result c.self.inside.sweeps c.self.inside.halt;
+          c.stop_hart.new.self c.stop_hart.ensures c.count_up.new.count c.self.inside.sweeps c.self.inside.halt;
       masks_are = c.self.invariant.masks_are;
     }

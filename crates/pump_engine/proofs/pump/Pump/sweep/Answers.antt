@@ -20,7 +20,7 @@ invariant_of-self g c =
     record {
       pump = pump_as g.P.Tag.PartialEq.eq g.met.P.Tag.Eq.laws g.met.P.Tag.Same.same g.P.Policy.model p c.self.invariant.pump c.args.made.now c.in_ok-numbers.numbers.items (g.T.TagTable.state c.in-Ok.table) made
           c.in_ok-numbers.ensures c.renumber.new.self (c.renumber.ensures ∙ ap (λ (list : List ℕ). core_by (slice_index list) p.core) numbers_are) (g.C.RuleStore.state c.clear.new.self) c.clear.ensures
-          c.saturating_add-self-inside.result c.len-words.ensures.sound.within;
+          c.count_up.new.count c.len-words.ensures.sound.within;
       masks_are = c.self.invariant.masks_are;
     }
 
@@ -35,7 +35,7 @@ returns-clause-swept g c =
     c.in-Ok.ensures.made ∙ λ j. remade_table g.P.Tag.PartialEq.eq p.table (c.plain-plain.ensures.value j) (live_is j) in
     let numbers_are = c.deref-2.ensures.value in
     subst (λ (q : PumpState g.row.P.Denot g.row.P-Tag.Denot). IsSwept g.P.Tag.PartialEq.eq g.P.Policy.model q c.args.made.now c.in_ok-numbers.numbers.items
-    (pump_of c.self.inside.policy c.renumber.new.self (g.T.TagTable.state c.in-Ok.table) (g.C.RuleStore.state c.clear.new.self) c.self.inside.turns c.saturating_add-self-inside.result c.self.inside.halt)) c.self.view_is
+    (pump_of c.self.inside.policy c.renumber.new.self (g.T.TagTable.state c.in-Ok.table) (g.C.RuleStore.state c.clear.new.self) c.self.inside.turns c.count_up.new.count c.self.inside.halt)) c.self.view_is
     (swept_as g.P.Tag.PartialEq.eq g.met.P.Tag.Eq.laws g.met.P.Tag.Same.same g.P.Policy.model p c.self.invariant.pump c.args.made.now c.in_ok-numbers.numbers.items (g.T.TagTable.state c.in-Ok.table) made
     c.in_ok-numbers.ensures c.renumber.new.self (c.renumber.ensures ∙ ap (λ (list : List ℕ). core_by (slice_index list) p.core) numbers_are) (g.C.RuleStore.state c.clear.new.self) c.clear.ensures
-    c.saturating_add-self-inside.result (search rules))
+    c.count_up.new.count (search rules))

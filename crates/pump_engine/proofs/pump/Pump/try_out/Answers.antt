@@ -78,9 +78,9 @@ invariant_of-self-2 g c =
     let low = outputs.pc in
     let below : c.args.outs.pc < length (g.T.TagTable.state c.intern_job.new.tags).tags = omega (arith, more, low) in
     record {
-      pump = subst (λ policy. IsPump g.P.Policy.model (pump_of policy c.serve.new.self (g.T.TagTable.state c.intern_job.new.tags) (g.C.RuleStore.state c.self.inside.store) c.saturating_add-self-inside.result c.self.inside.sweeps c.self.inside.halt)) (sym noted)
+      pump = subst (λ policy. IsPump g.P.Policy.model (pump_of policy c.serve.new.self (g.T.TagTable.state c.intern_job.new.tags) (g.C.RuleStore.state c.self.inside.store) c.count_up.new.count c.self.inside.sweeps c.self.inside.halt)) (sym noted)
           (pump_at g.P.Policy.model (left g.P.Tag.PartialEq.eq g.P.Policy.model g.P.Policy.holds g.met.P.Policy.lawful p c.self.invariant.pump c.args.h c.args.look.now c.args.outs (job_by c.args.job.now.plan c.args.job.now.words.items) (g.T.TagTable.state c.intern_job.new.tags) c.in-Ok.written.words.items c.in-Ok.written.answer) (pump_left g.P.Tag.PartialEq.eq g.P.Policy.model g.P.Policy.holds g.met.P.Policy.lawful p c.self.invariant.pump c.args.h c.args.look.now c.args.outs (job_by c.args.job.now.plan c.args.job.now.words.items) (g.T.TagTable.state c.intern_job.new.tags) c.in-Ok.written.words.items c.in-Ok.written.answer written given outputs there c.requires.aligned below)
-          c.serve.new.self core_is c.saturating_add-self-inside.result c.self.inside.sweeps c.self.inside.halt);
+          c.serve.new.self core_is c.count_up.new.count c.self.inside.sweeps c.self.inside.halt);
       masks_are = subst (λ policy. (group : Group) → c.self.inside.masks group ≡ g.P.Policy.model.ignores policy group) (sym noted)
           (λ group. c.self.invariant.masks_are group ∙ sym ((g.met.P.Policy.lawful.keeps c.self.inside.policy c.args.job.now.plan given).ignores group));
     }
@@ -106,14 +106,14 @@ returns-clause-tries g c =
     let core_is : c.serve.new.self ≡ core_served c.self.inside.core c.args.h c.in-Ok.written.words.items c.in-Ok.written.answer c.args.look.now.effect.next c.args.outs.pc =
     c.serve.ensures.core ∙ ap (λ words. core_served c.self.inside.core c.args.h words c.in-Ok.written.answer c.next.result c.args.outs.pc) c.deref.ensures.value
     ∙ ap (λ next. core_served c.self.inside.core c.args.h c.in-Ok.written.words.items c.in-Ok.written.answer next c.args.outs.pc) c.next.ensures in
-    let turns_are : c.saturating_add-self-inside.result ≡ next_count c.self.inside.turns = search rules in
-    let left_is : pump_of c.commit.new.self c.serve.new.self (g.T.TagTable.state c.intern_job.new.tags) (g.C.RuleStore.state c.self.inside.store) c.saturating_add-self-inside.result c.self.inside.sweeps c.self.inside.halt
+    let turns_are : c.count_up.new.count ≡ next_count c.self.inside.turns = search rules in
+    let left_is : pump_of c.commit.new.self c.serve.new.self (g.T.TagTable.state c.intern_job.new.tags) (g.C.RuleStore.state c.self.inside.store) c.count_up.new.count c.self.inside.sweeps c.self.inside.halt
     ≡ left g.P.Tag.PartialEq.eq g.P.Policy.model g.P.Policy.holds g.met.P.Policy.lawful p c.self.invariant.pump c.args.h c.args.look.now c.args.outs (job_by c.args.job.now.plan c.args.job.now.words.items) (g.T.TagTable.state c.intern_job.new.tags) c.in-Ok.written.words.items c.in-Ok.written.answer =
     λ j. pump_of (noted j) (core_is j) (g.T.TagTable.state c.intern_job.new.tags) (g.C.RuleStore.state c.self.inside.store) (turns_are j) c.self.inside.sweeps c.self.inside.halt in
     let tags = written_tags (job_by c.args.job.now.plan c.args.job.now.words.items) in
     subst (λ (q : PumpState g.row.P.Denot g.row.P-Tag.Denot). Serves g.P.Tag.PartialEq.eq g.P.Policy.model q c.args.h c.args.look.now c.args.outs (job_by c.args.job.now.plan c.args.job.now.words.items)
     (seeing g.P.Tag.PartialEq.eq tags (account_by_words g.P.Policy.model q))
-    (pump_of c.commit.new.self c.serve.new.self (g.T.TagTable.state c.intern_job.new.tags) (g.C.RuleStore.state c.self.inside.store) c.saturating_add-self-inside.result c.self.inside.sweeps c.self.inside.halt)) c.self.view_is
+    (pump_of c.commit.new.self c.serve.new.self (g.T.TagTable.state c.intern_job.new.tags) (g.C.RuleStore.state c.self.inside.store) c.count_up.new.count c.self.inside.sweeps c.self.inside.halt)) c.self.view_is
     (subst (Serves g.P.Tag.PartialEq.eq g.P.Policy.model p c.args.h c.args.look.now c.args.outs (job_by c.args.job.now.plan c.args.job.now.words.items)
     (seeing g.P.Tag.PartialEq.eq tags (account_by_words g.P.Policy.model p))) (sym left_is) (serves g.P.Tag.PartialEq.eq g.P.Policy.model g.P.Policy.holds g.met.P.Policy.lawful p c.self.invariant.pump c.args.h c.args.look.now c.args.outs (job_by c.args.job.now.plan c.args.job.now.words.items) (g.T.TagTable.state c.intern_job.new.tags) c.in-Ok.written.words.items c.in-Ok.written.answer written given outputs))
 

@@ -29,7 +29,7 @@ pub returns-then-is_some-clause-state : goal.returns-then-is_some-clause-state
 returns-then-is_some-clause-state c =
     let fields = c.self.inside in
     let key = c.args.key.now in
-    rw c.saturating_add-self-inside.ensures (
+    rw c.count_up.ensures (
     hit_there key fields.ways fields.numbers fields.sets.items c.self.invariant c.number_of-number.result c.number_of-number.ensures
     c.index_mut.result.now c.index_mut.ensures.value
     fields.hits fields.misses c.find_in-found.new.rules c.find_in-found.ensures.moved c.find_in-found.result c.find_in-found.ensures.found
@@ -41,7 +41,7 @@ pub returns-else-is_some-clause-state : goal.returns-else-is_some-clause-state
 returns-else-is_some-clause-state c =
     let fields = c.self.inside in
     let key = c.args.key.now in
-    rw c.saturating_add-self-inside-else-is_some.ensures (
+    rw c.count_up-else-is_some.ensures (
     miss_there key fields.ways fields.numbers fields.sets.items c.self.invariant c.number_of-number.result c.number_of-number.ensures
     c.index_mut.result.now c.index_mut.ensures.value
     fields.hits fields.misses c.find_in-found.new.rules c.find_in-found.ensures.moved c.find_in-found.result c.find_in-found.ensures.found

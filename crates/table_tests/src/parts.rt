@@ -2,10 +2,10 @@
 
 ghost use Rattle.std.specs.Prelude.{◌≤◌};
 
-use crate::AllTable;
 use compartment_policy::CompartmentTag;
 use flow_policy::FlowTag;
 use heap_policy::HeapTag;
+use part_tables::AllTable;
 use policy_choice::AllTag;
 use sealing_policy::SealTag;
 use std::alloc::{AllocError, Global};
@@ -98,7 +98,7 @@ enum Step {
 }
 
 /// Whether the table has so many tags that it can be cut to this length, and it is then.
-fn is_cut<T: TagTable<Tag = AllTag>>(table: &mut T, len: u32) -> bool {
+pub(crate) fn is_cut<T: TagTable>(table: &mut T, len: u32) -> bool {
     let within = len <= table.len();
     if within {
         table.cut(len);

@@ -1,9 +1,10 @@
 //! Words of pairs by hand, as pairs come, are refused and are cut off.
 
-use crate::{Mapped, Pairs, TagBijection};
+use crate::parts::is_cut;
 use pump_words::Same;
 use std::test::Fail;
 use tag_intern::{InternEnd, Interner, TagTable};
+use tag_pairs::{Mapped, Pairs, TagBijection};
 
 type Table = Pairs<Interner<u32>, Interner<u32>>;
 
@@ -18,15 +19,6 @@ fn answers_as_stated(table: &mut Table, rows: &[Row]) -> bool {
         }
     }
     true
-}
-
-/// Whether the table has so many pairs that it can be cut to this length, and it is then.
-fn is_cut(table: &mut Table, len: u32) -> bool {
-    let within = len <= table.len();
-    if within {
-        table.cut(len);
-    }
-    within
 }
 
 /// What comes to a table for three.
