@@ -282,21 +282,31 @@ fn make_room(rules: &mut LruCache<Key, OutWords>, slots: &[Slot], log: &mut Log)
     ensures capacity { rules.new.cap ≡ rules.old.cap }
 {
     if log.is_full() {
-        catch_up(rules, slots, log);
+        replay(rules, slots, log);
     }
 }
 
 // Makes the list catch up with the log, which is empty then.
-#[inline(never)]
+#[inline(always)]
 fn catch_up(rules: &mut LruCache<Key, OutWords>, slots: &[Slot], log: &mut Log)
     requires { length slots.now ≡ 256 }
     ensures rules { rules.new
         ≡ lru_cache (replayed slots.now log.old.items rules.old.entries) rules.old.cap }
     ensures log { log.new.items ≡ [] }
 {
-    if log.is_empty() {
-        return;
+    if !log.is_empty() {
+        replay(rules, slots, log);
     }
+}
+
+// What `catch_up` does where anything is logged: apart, for the room that it takes on the stack.
+#[inline(never)]
+fn replay(rules: &mut LruCache<Key, OutWords>, slots: &[Slot], log: &mut Log)
+    requires { length slots.now ≡ 256 }
+    ensures rules { rules.new
+        ≡ lru_cache (replayed slots.now log.old.items rules.old.entries) rules.old.cap }
+    ensures log { log.new.items ≡ [] }
+{
     let numbers = last_first(log.as_slice());
     bring_up(rules, slots, numbers.as_slice());
     log.clear();
