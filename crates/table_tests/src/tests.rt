@@ -49,6 +49,12 @@ fn run_chosen<T: TagTable<Tag = AllTag>>(
     run_over::<_, T>(alloc, policy, image, limits)
 }
 
+/// The same over a table of parts. Few functions name all its tables: the proof of each that does so writes them out.
+#[inline(never)]
+fn run_in_parts(alloc: Global, choice: Choice, image: &Image, limits: Limits) -> Result<Run, Fail> {
+    run_chosen::<AllTable>(alloc, choice, image, limits)
+}
+
 /// Whether the image starts under the chosen policies over a table of parts, where so many tags may have words.
 fn is_started(alloc: Global, choice: Choice, image: &Image, tags: u32) -> Result<bool, Fail> {
     if tags == 0 {
@@ -75,7 +81,7 @@ fn runs_are_alike_over_tables_of_both_kinds(rt: HostRuntime) -> Result<(), Fail>
             turns: 10_000,
         };
         let whole = run_chosen::<Interner<AllTag>>(rt.alloc(), EVERY_POLICY, &image, limits)?;
-        let parts = run_chosen::<AllTable>(rt.alloc(), EVERY_POLICY, &image, limits)?;
+        let parts = run_in_parts(rt.alloc(), EVERY_POLICY, &image, limits)?;
         assert!(rt; parts.is_alike(&whole), "{cache} rules, {tags} tags");
         assert!(rt;
             parts.output.as_slice() == LETTERS,
@@ -184,7 +190,7 @@ fn is_as_told(run: &Run, row: &Row) -> bool {
 fn rows_over_tables_of_parts_are_as_told(rt: HostRuntime) -> Result<(), Fail> {
     for row in ROWS {
         let image = image_of(rt.alloc(), row.source)?;
-        let run = run_chosen::<AllTable>(rt.alloc(), row.choice, &image, row.limits)?;
+        let run = run_in_parts(rt.alloc(), row.choice, &image, row.limits)?;
         assert!(rt; is_as_told(&run, row));
     }
     Ok(())
@@ -202,7 +208,7 @@ fn workloads_over_tables_of_parts_are_as_told(rt: HostRuntime) -> Result<(), Fai
     };
     for &(blocks, turns, hits, misses) in WORKLOADS {
         let image = image_of(rt.alloc(), &write_workload(rt.alloc(), blocks)?)?;
-        let run = run_chosen::<AllTable>(rt.alloc(), EVERY_POLICY, &image, limits)?;
+        let run = run_in_parts(rt.alloc(), EVERY_POLICY, &image, limits)?;
         assert!(rt;
             run.ended == Some(TurnEnd::Stopped(Stop::Exit(0))),
             "{blocks} blocks"
