@@ -157,10 +157,13 @@ uses_by false = omega arith
 pub compartment_laws : KeepsLaws compartments IsCount
 compartment_laws = record {
   masks = λ state g x. run_masked (entry_owner x.pc x.ci) g x;
+  unpeeked = λ state shape first second none. refl;
   keeps = λ state p given. record {
     plain = refl;
     rule = λ g x. refl;
     ignores = λ g. refl;
+    peeks = refl;
+    peek = λ shape first second. refl;
     knows = λ k. refl;
     uses = λ k. refl;
     lend = λ t. refl;

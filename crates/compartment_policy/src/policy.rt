@@ -10,7 +10,8 @@ use crate::rules::{entered, is_jump, is_store, is_writer, may_write, refused};
 use crate::services::{LET_IN, LET_WRITE, SPLIT, let_other, retagged, split};
 use crate::tag::CompartmentTag;
 use policy_trait::{
-    Args, Birth, CompartmentSet, Ins, InsAt, Mask, Outs, Part, Plan, PlanEnd, Policy, Refused, Why,
+    Args, Birth, CompartmentSet, Ins, InsAt, Mask, Outs, Part, Plan, PlanEnd, Policy, Refused,
+    Shape, Why,
 };
 use pump_words::{Line, dec, write_text};
 use rv_decode::Group;
@@ -111,6 +112,19 @@ impl Policy for Compartments {
             t2: true,
             tm: !is_store(group),
         }
+    }
+
+    fn peeks(&self) -> bool {
+        false
+    }
+
+    fn peek(
+        &self,
+        _shape: Shape,
+        _first: &CompartmentTag,
+        _second: &CompartmentTag,
+    ) -> Result<(), Refused> {
+        Ok(())
     }
 
     fn knows(&self, number: u32) -> bool {

@@ -17,6 +17,8 @@ mod products;
 #[cfg(test)]
 mod programs;
 #[cfg(test)]
+mod secrets;
+#[cfg(test)]
 mod serving;
 #[cfg(test)]
 mod tainting;

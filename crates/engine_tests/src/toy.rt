@@ -1,7 +1,8 @@
 //! The toy policy, which tests share of what uses a policy.
 
 use policy_trait::{
-    Answer, Args, Birth, Ins, Mask, Outs, Part, Plan, PlanEnd, Policy, Refused, Rest, Why, Words,
+    Answer, Args, Birth, Ins, Mask, Outs, Part, Plan, PlanEnd, Policy, Refused, Rest, Shape, Why,
+    Words,
 };
 use pump_words::{Line, write_text};
 use rv_decode::Group;
@@ -50,6 +51,8 @@ impl Policy for Toy {
       plain = λ s. 5;
       rule = λ s g x. if x.t1 == 9 then Err (record { part = Heap; why = Rule g }) else Ok (record { pc = 100 - x.pc; result = 10 - x.t1 });
       ignores = λ s g. record { pc = false; ci = true; t1 = false; t2 = true; tm = true };
+      peeks = λ s. false;
+      peek = λ s shape first second. Ok tt;
       knows = λ s number. number == 40;
       uses = λ s number. 1;
       lend = λ s tag. if tag == 9 then Err Heap else Ok tt;
@@ -98,6 +101,14 @@ impl Policy for Toy {
             t2: true,
             tm: true,
         }
+    }
+
+    fn peeks(&self) -> bool {
+        false
+    }
+
+    fn peek(&self, _shape: Shape, _first: &u32, _second: &u32) -> Result<(), Refused> {
+        Ok(())
     }
 
     fn knows(&self, number: u32) -> bool {
@@ -168,10 +179,13 @@ impl Policy for Toy {
 
     ghost lawful = { record {
       masks = λ s g x. refl;
+      unpeeked = λ s shape first second none. refl;
       keeps = λ s p given. record {
         plain = refl;
         rule = λ g x. refl;
         ignores = λ g. refl;
+        peeks = refl;
+        peek = λ shape first second. refl;
         knows = λ k. refl;
         uses = λ k. refl;
         lend = λ t. refl;

@@ -28,7 +28,7 @@ use Rattle.turn_steps.proofs.LookLemmas.{looked_is_sound}
 use Rattle.engine_trait.proofs.TurnLemmas.{allowed_turn, planned_turn}
 use Rattle.engine_trait.specs.EngineLaws.{StaysMachine}
 use Rattle.engine_trait.specs.Machine.{CoreState, IsCore, IsMachine, Machine, has_no_stop, hart_at, is_ready_in, stop_at, stopping, with_hart}
-use Rattle.engine_trait.specs.Turn.{Turned, rule_answer, attempt, carried_at, core_effected, core_ended, core_served, turn_effect, is_offered, service_look, or_fault, or_unserved, turn_job, preparation, service_on, settlement, stopped_at, turn_by, turn_of}
+use Rattle.engine_trait.specs.Turn.{Turned, attempt, carried_at, core_effected, core_ended, core_served, is_offered, may_look, or_fault, or_unserved, or_violation, preparation, rule_answer, service_look, service_on, settlement, stopped_at, turn_by, turn_effect, turn_job, turn_of}
 
 -- ---- the core
 
@@ -144,9 +144,16 @@ module _ {S T : Type 0} (m : PolicyModel T S) (s : Machine S T) (h : ℕ) where
       (ap (λ l. Ok l) parts.0, subst (λ l. is_offered m s l ≡ true) parts.0 parts.1)
   prepares (Err fault) look e = absurd cc
 
+  seen_prepares : (seen : Result (Unit {0}) Stop) (found : Result Look Fault) (look : Look) → (seen >>= λ x. or_fault found >>= service_look m s) ≡ Ok look
+      → (found ≡ Ok look) × (is_offered m s look ≡ true)
+  seen_prepares (Ok x) found look e = prepares found look e
+  seen_prepares (Err why) found look e = absurd cc
+
   pub prepared_is : (look : Look) → preparation m s h ≡ Ok look → Prepares m s h look
   unfolding preparation
-  prepared_is look e = let parts = prepares (look_result (hart_at s.core h) s.core.ram) look e in record { looked_is = parts.0; offered_is = parts.1 }
+  prepared_is look e =
+      let parts = seen_prepares (or_violation (hart_at s.core h).pc (may_look m s h)) (look_result (hart_at s.core h) s.core.ram) look e in
+      record { looked_is = parts.0; offered_is = parts.1 }
 
   -- ---- a call of a policy's service that nothing refuses
 

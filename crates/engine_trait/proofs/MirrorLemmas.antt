@@ -13,16 +13,19 @@ use Rattle.tag_memory.specs.Hart.{HartState}
 use Rattle.tag_memory.specs.Maps.{hart_by, ram_by}
 use Rattle.turn_steps.specs.Feeds.{Tape}
 use Rattle.turn_steps.specs.Looks.{is_call, look_result}
+use Rattle.turn_steps.specs.Peeks.{Peek, peeked}
+use Rattle.rv_step.specs.declared.faults.Fault.{Fault}
 use Rattle.turn_steps.specs.declared.look.Look.{Look}
 use Rattle.turn_steps.specs.declared.stop.Stop.{Stop}
 use Rattle.turn_steps.specs.declared.stop.Stop.TheVariants as stop
 use Rattle.turn_steps.proofs.MapLemmas.{looked_by}
+use Rattle.turn_steps.proofs.PeekLemmas.{peeked_by}
 use Rattle.engine_trait.specs.Accounts.{IsUncached}
 use Rattle.engine_trait.specs.Machine.{CoreState, Machine, has_no_stop, hart_at, is_ready_in, stop_at}
 use Rattle.engine_trait.specs.Maps.{core_by, machine_by, turned_by}
 use Rattle.engine_trait.specs.Mirrored.{IsMirrored, StepsMirrored}
 use Rattle.engine_trait.specs.Standing.{Standing, Stepped, idle, is_ready, is_running, made_step, step}
-use Rattle.engine_trait.specs.Turn.{Turned, rule_answer, attempt, turn_effect, end_of, or_fault, or_violation, preparation, rule_inputs, service_look, settlement, turn_by, turn_of}
+use Rattle.engine_trait.specs.Turn.{Turned, attempt, end_of, may_look, or_fault, or_violation, preparation, rule_answer, rule_inputs, service_look, settlement, turn_by, turn_effect, turn_of}
 use Rattle.engine_trait.specs.declared.ends.Halt.{Halt}
 use Rattle.engine_trait.proofs.AccountLemmas.{accounted_halt}
 use Rattle.engine_trait.proofs.MapLemmas.{carried_at_by, core_effected_by, hart_at_by, rule_inputs_by}
@@ -68,10 +71,14 @@ module _ {S T : Type 0} (m : PolicyModel T S) (s : Machine S T) (none : (k : ℕ
   first_own (Ok found) look e = offered_own found look e
   first_own (Err why) look e = absurd cc
 
+  seen_own : (seen : Result (Unit {0}) Stop) (first : Result Look Stop) (look : Look) → (seen >>= λ x. first >>= service_look m s) ≡ Ok look → is_call look.group ≡ false
+  seen_own (Ok x) first look e = first_own first look e
+  seen_own (Err why) first look e = absurd cc
+
   -- a turn that comes to its rule calls no service of the policy
   pub prepared_own : (h : ℕ) (look : Look) → preparation m s h ≡ Ok look → is_call look.group ≡ false
   unfolding preparation
-  prepared_own h look e = first_own (or_fault (look_result (hart_at s.core h) s.core.ram)) look e
+  prepared_own h look e = seen_own (or_violation (hart_at s.core h).pc (may_look m s h)) (or_fault (look_result (hart_at s.core h) s.core.ram)) look e
 
 module _ {S T : Type 0} (m : PolicyModel T S) (s : Machine S T) (feed : Tape) (h : ℕ) (none : (k : ℕ) → m.knows s.policy k ≡ false) where
   abbrev KeepsPolicy : Result (Turned S T) Stop → Type 0
@@ -113,13 +120,23 @@ module _ {S T U V : Type 0} (f : T → U) (m : PolicyModel T S) (n : PolicyModel
       ap (λ (known : Bool). if not (is_call look.group) || known then Ok look else Err (stop.Fault (NoService look.service)))
       (mirrors.mirror_offers_none look.service ∙ sym (mirrors.offers_none look.service))
 
-  -- no tag decides the checks
+  -- it refuses the same looks
+  seen_by : (h : ℕ) → peeked (n.peek t) (hart_by f (hart_at s.core h)) (ram_by f s.core.ram) ≡ may_look m s h
+  seen_by h =
+      peeked_by f (n.peek t) (hart_at s.core h) s.core.ram
+      ∙ ap (λ (peek : Peek T). peeked peek (hart_at s.core h) s.core.ram) (λ j look first second. mirrors.peek look first second j)
+
+  -- what is looked at, by whether the turn may look
+  abbrev after_seen : ℕ → Result (Unit {0}) Refused → Result Look Fault → (Look → Result Look Stop) → Result Look Stop
+  after_seen pc seen found offered = or_violation pc seen >>= λ x. or_fault found >>= offered
+
+  -- no tag decides the other checks
   prepared_by : (h : ℕ) → preparation n mirror h ≡ preparation m s h
   unfolding preparation
   prepared_by h =
-      ap (λ (hart : HartState U). or_fault (look_result hart (ram_by f s.core.ram)) >>= service_look n mirror) (hart_at_by f s.core h)
-      ∙ ap (λ found. or_fault found >>= service_look n mirror) (looked_by f (hart_at s.core h) s.core.ram)
-      ∙ ap (λ (offered : Look → Result Look Stop). or_fault (look_result (hart_at s.core h) s.core.ram) >>= offered) (λ j look. offered_by look j)
+      let pc = (hart_at s.core h).pc in
+      ap (λ (hart : HartState U). after_seen hart.pc (peeked (n.peek t) hart (ram_by f s.core.ram)) (look_result hart (ram_by f s.core.ram)) (service_look n mirror)) (hart_at_by f s.core h)
+      ∙ (λ j. after_seen pc (seen_by h j) (looked_by f (hart_at s.core h) s.core.ram j) (λ look. offered_by look j))
 
   allowed_by : (h : ℕ) (look : Look) → rule_answer n mirror h look ≡ ok_by (outs_by f) (rule_answer m s h look)
   unfolding rule_answer

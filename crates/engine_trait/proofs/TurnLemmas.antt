@@ -4,6 +4,7 @@ use Rattle.std.proofs.lemmas.Bool.{le-ltb}
 use Rattle.policy_trait.specs.Model.{PolicyModel}
 use Rattle.shared_terms.specs.Steps.{◌>>=◌}
 use Rattle.policy_trait.specs.declared.rules.Outs.{Outs}
+use Rattle.policy_trait.specs.declared.rules.Refused.{Refused}
 use Rattle.monitor_calls.specs.Service.{Job}
 use Rattle.turn_steps.specs.Feeds.{Tape}
 use Rattle.rv_step.specs.declared.faults.Fault.TheVariants.{NoService}
@@ -17,18 +18,32 @@ use Rattle.turn_steps.proofs.StepLemmas.{not_call}
 use Rattle.engine_trait.specs.Events.{event_by, event_of, is_retiring, is_retirement}
 use Rattle.engine_trait.specs.EngineLaws.{is_made}
 use Rattle.engine_trait.specs.Machine.{CoreState, Machine, has_no_stop, hart_at, is_ready_in, stop_at}
-use Rattle.engine_trait.specs.Turn.{Turned, rule_answer, rule_at, attempt, carried_at, turn_effect, end_of, job_at, or_fault, or_unserved, service_look, turn_job, preparation, service_on, settlement, turn_by, turn_of}
+use Rattle.engine_trait.specs.Turn.{Turned, rule_answer, rule_at, attempt, carried_at, turn_effect, end_of, job_at, may_look, or_fault, or_unserved, or_violation, service_look, turn_job, preparation, service_on, settlement, turn_by, turn_of, violation}
 use Rattle.engine_trait.specs.declared.ends.TurnEnd.TheVariants as ends
 
 pub absent_waits : {T : Type 0} (core : CoreState T) (h : ℕ) → length core.harts ≤ h → is_ready_in core h ≡ false
 absent_waits core h past = ap (λ is_there. is_there && has_no_stop (stop_at core h)) (le-ltb h (length core.harts) past)
 
--- an instruction that is neither an ECALL nor an EBREAK comes to its rule once it is looked at
-pub step_prepared : {S T : Type 0} (m : PolicyModel T S) (s : Machine S T) (h : ℕ) (look : Look) → look_result (hart_at s.core h) s.core.ram ≡ Ok look
-    → is_system look.group ≡ false → preparation m s h ≡ Ok look
+-- a turn that may look is prepared by what it looks at
+pub seen_prepared : {S T : Type 0} (m : PolicyModel T S) (s : Machine S T) (h : ℕ) → may_look m s h ≡ Ok tt
+    → preparation m s h ≡ (or_fault (look_result (hart_at s.core h) s.core.ram) >>= service_look m s)
 unfolding preparation
-step_prepared m s h look looked plain =
-    ap (λ found. or_fault found >>= service_look m s) looked
+seen_prepared m s h seen =
+    ap (λ first. or_violation (hart_at s.core h).pc first >>= λ x. or_fault (look_result (hart_at s.core h) s.core.ram) >>= service_look m s) seen
+
+-- one that may not stops
+pub unseen_prepared : {S T : Type 0} (m : PolicyModel T S) (s : Machine S T) (h : ℕ) (refused : Refused) → may_look m s h ≡ Err refused
+    → preparation m s h ≡ Err (violation (hart_at s.core h).pc refused)
+unfolding preparation
+unseen_prepared m s h refused seen =
+    ap (λ first. or_violation (hart_at s.core h).pc first >>= λ x. or_fault (look_result (hart_at s.core h) s.core.ram) >>= service_look m s) seen
+
+-- an instruction that is neither an ECALL nor an EBREAK comes to its rule once it is looked at
+pub step_prepared : {S T : Type 0} (m : PolicyModel T S) (s : Machine S T) (h : ℕ) (look : Look) → may_look m s h ≡ Ok tt
+    → look_result (hart_at s.core h) s.core.ram ≡ Ok look → is_system look.group ≡ false → preparation m s h ≡ Ok look
+step_prepared m s h look seen looked plain =
+    seen_prepared m s h seen
+    ∙ ap (λ found. or_fault found >>= service_look m s) looked
     ∙ ap (λ (call : Bool). if not call || m.knows s.policy look.service then Ok look else Err (stop.Fault (NoService look.service))) (not_call look.group plain)
 
 -- what a service will do, where the turn comes to it

@@ -16,6 +16,7 @@ use Rattle.monitor_calls.specs.Service.{Job, service_job}
 use Rattle.turn_steps.specs.Effects.{Carried, effect_result}
 use Rattle.turn_steps.specs.Feeds.{Tape}
 use Rattle.turn_steps.specs.Looks.{inputs_on, is_call, look_result}
+use Rattle.turn_steps.specs.Peeks.{peeked}
 use Rattle.turn_steps.specs.Services.{args_on, with_answer, with_words}
 use Rattle.turn_steps.specs.declared.effects.Done.{Done}
 use Rattle.turn_steps.specs.declared.effects.Done.TheVariants as done
@@ -108,9 +109,15 @@ module _ {S T : Type 0} (m : PolicyModel T S) (s : Machine S T) where
   abbrev pub service_look : Look → Result Look Stop
   service_look look = if is_offered look then Ok look else Err (stop.Fault (NoService look.service))
 
-  -- fetch, decode, alignment and range of the access, alignment of the jump; then the service's number
+  -- whether the policy lets the hart look at what its turn looks at before the rule
+  abbrev pub may_look : ℕ → Result (Unit {0}) Refused
+  may_look h = peeked (m.peek s.policy) (hart_at s.core h) s.core.ram
+
+  -- The policy may refuse that the turn looks: at its word or its operands. Then fetch, decode, alignment and range of the access,
+  -- alignment of the jump; then the service's number.
   unfoldable pub preparation : ℕ → Result Look Stop
-  preparation h = or_fault (look_result (hart_at s.core h) s.core.ram) >>= service_look
+  preparation h =
+      or_violation (hart_at s.core h).pc (may_look h) >>= λ seen. or_fault (look_result (hart_at s.core h) s.core.ram) >>= service_look
 
   -- the rule
   unfoldable pub rule_answer : ℕ → Look → Result (Outs T) Stop

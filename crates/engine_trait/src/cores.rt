@@ -8,6 +8,7 @@ ghost use Rattle.tag_memory.specs.Ram.{IsPlace, ram_bytes};
 ghost use Rattle.turn_steps.specs.Effects.{IsSound};
 ghost use Rattle.turn_steps.specs.Feeds.{Tape};
 ghost use Rattle.turn_steps.specs.Looks.{is_call, is_system, look_result, unless_system};
+ghost use Rattle.turn_steps.specs.Peeks.{peeked};
 ghost use Rattle.turn_steps.specs.Services.{args_on};
 ghost use Rattle.engine_trait.specs.Machine.{CoreState, core_tags, fresh_core, hart_at, stop_at, stopping};
 ghost use Rattle.engine_trait.specs.Maps.{core_by};
@@ -21,8 +22,8 @@ use std::alloc::{AllocError, Global};
 use std::marker::Model;
 use tag_memory::{Hart, Ram};
 use turn_steps::{
-    Done, Feed, Look, Stop, answer_to, arguments_of, carry_out, carry_step, inputs_at, inputs_of,
-    look_ahead, step_look, write_words,
+    Done, Feed, Look, Peeks, Stop, answer_to, arguments_of, carry_out, carry_step, inputs_at,
+    inputs_of, look_ahead, peeked, step_look, write_words,
 };
 
 /// The most harts of a machine.
@@ -92,6 +93,14 @@ impl<T: Copy> Core<T> {
         // Serves the proof alone: what reads the harts knows the invariant, that there are at most as many as stops.
         let _harts = &self.harts;
         self.stops[h as usize]
+    }
+
+    /// Whether the hart's turn may look at what it looks at before its rule.
+    pub fn peeked<K: Peeks<Tag = T>>(&self, h: u32, peeks: &K) -> Result<(), Refused>
+        requires { h < length self.now.harts }
+        ensures { result ≡ peeked (K.answer peeks.now) (hart_at self.now h) self.now.ram }
+    {
+        peeked(peeks, &self.harts[h as usize], &self.ram)
     }
 
     /// What the hart is about to do, or the first of the checks that fails.

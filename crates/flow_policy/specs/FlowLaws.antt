@@ -29,10 +29,13 @@ rule_masked edges g x = word_masked (effect_of g) g (entry_label edges x.pc x.ci
 pub flow_laws : KeepsLaws flow HoldsAlways
 flow_laws = record {
   masks = rule_masked;
+  unpeeked = λ edges shape first second none. refl;
   keeps = λ edges p given. record {
     plain = refl;
     rule = λ g x. refl;
     ignores = λ g. refl;
+    peeks = refl;
+    peek = λ shape first second. refl;
     knows = λ k. refl;
     uses = λ k. refl;
     lend = λ t. refl;

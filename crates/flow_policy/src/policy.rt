@@ -8,7 +8,7 @@ ghost use Rattle.flow_policy.specs.Flow.{entry_label, flow, is_edge, label_text,
 use crate::table::{effect_of, is_data, label_of, refused};
 use crate::tag::FlowTag;
 use policy_trait::{
-    Args, Birth, Ins, InsAt, Mask, Outs, Part, Plan, PlanEnd, Policy, Refused, Why,
+    Args, Birth, Ins, InsAt, Mask, Outs, Part, Plan, PlanEnd, Policy, Refused, Shape, Why,
 };
 use pump_words::{Line, dec, write_text};
 use rv_decode::Group;
@@ -115,6 +115,14 @@ impl Policy for Flow {
 
     fn ignores(&self, group: Group) -> Mask {
         effect_of(group).mask()
+    }
+
+    fn peeks(&self) -> bool {
+        false
+    }
+
+    fn peek(&self, _shape: Shape, _first: &FlowTag, _second: &FlowTag) -> Result<(), Refused> {
+        Ok(())
     }
 
     fn knows(&self, _number: u32) -> bool {

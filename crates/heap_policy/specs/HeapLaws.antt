@@ -262,10 +262,13 @@ unused_by state number a b pc value tag = λ j. heap_plan state number (record a
 pub heap_laws : KeepsLaws heap IsHeap
 heap_laws = record {
   masks = λ state g x. rule_masked g x;
+  unpeeked = λ state shape first second none. refl;
   keeps = λ state p given. record {
     plain = refl;
     rule = λ g x. refl;
     ignores = λ g. refl;
+    peeks = refl;
+    peek = λ shape first second. refl;
     knows = λ k. refl;
     uses = λ k. refl;
     lend = λ t. refl;

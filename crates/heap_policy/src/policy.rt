@@ -11,7 +11,7 @@ use crate::table::{effect_of, is_static, is_val, refused, wiped};
 use crate::tag::{Content, HeapTag};
 use live_blocks::{Block, LiveBlocks};
 use policy_trait::{
-    Args, Birth, Ins, InsAt, Mask, Outs, Part, Plan, PlanEnd, Policy, Refused, Why, Words,
+    Args, Birth, Ins, InsAt, Mask, Outs, Part, Plan, PlanEnd, Policy, Refused, Shape, Why, Words,
 };
 use pump_words::{Line, dec, write_text};
 use rv_decode::Group;
@@ -152,6 +152,14 @@ impl Policy for Heap {
 
     fn ignores(&self, group: Group) -> Mask {
         effect_of(group).mask()
+    }
+
+    fn peeks(&self) -> bool {
+        false
+    }
+
+    fn peek(&self, _shape: Shape, _first: &HeapTag, _second: &HeapTag) -> Result<(), Refused> {
+        Ok(())
     }
 
     fn knows(&self, number: u32) -> bool {

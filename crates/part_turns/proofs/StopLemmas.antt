@@ -15,7 +15,7 @@ use Rattle.turn_steps.specs.declared.stop.Stop.{Stop}
 use Rattle.turn_steps.specs.declared.stop.Stop.TheVariants as stop
 use Rattle.engine_trait.specs.Events.{is_retiring}
 use Rattle.engine_trait.specs.Machine.{Machine, hart_at}
-use Rattle.engine_trait.specs.Turn.{rule_answer, rule_inputs, is_offered, service_look, or_fault, or_unserved, or_violation, turn_job, preparation, service_on, service_stop, violation}
+use Rattle.engine_trait.specs.Turn.{rule_answer, rule_inputs, is_offered, may_look, service_look, or_fault, or_unserved, or_violation, turn_job, preparation, service_on, service_stop, violation}
 use Rattle.engine_trait.specs.declared.ends.TurnEnd.TheVariants as ends
 
 -- a turn that stops so does not retire
@@ -42,9 +42,14 @@ module _ {S T : Type 0} (w : PolicyModel T S) (s : Machine S T) (h : ℕ) (why :
   by_check (Ok look) e = by_offer look (is_offered w s look) e
   by_check (Err fault) e = stops_as Look (stop.Fault fault) why refl e
 
+  by_look : (pc : ℕ) (seen : Result (Unit {0}) Refused) (found : Result Look Fault)
+      → (or_violation pc seen >>= λ x. or_fault found >>= service_look w s) ≡ Err why → StopsUnretired why
+  by_look pc (Ok x) found e = by_check found e
+  by_look pc (Err refused) found e = stops_as Look (violation pc refused) why refl e
+
   pub checked_stops : preparation w s h ≡ Err why → StopsUnretired why
   unfolding preparation
-  checked_stops e = by_check (look_result (hart_at s.core h) s.core.ram) e
+  checked_stops e = by_look (hart_at s.core h).pc (may_look w s h) (look_result (hart_at s.core h) s.core.ram) e
 
   pub refused_stops : (look : Look) → rule_answer w s h look ≡ Err why → StopsUnretired why
   unfolding rule_answer

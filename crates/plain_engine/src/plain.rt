@@ -11,20 +11,20 @@ ghost use Rattle.tag_memory.specs.Ram.{IsPlace, ram_bytes, ram_tag, ram_word};
 ghost use Rattle.engine_trait.specs.Accounts.{IsUncached};
 ghost use Rattle.engine_trait.specs.Machine.{IsMachine, hart_at, stop_at};
 ghost use Rattle.engine_trait.specs.Standing.{GivesUp, IsFailure, StopsOnly, Unchanged, is_ready, step};
-ghost use Rattle.engine_trait.specs.Turn.{is_offered, is_served, preparation, rule_answer, service_on, stopped_at, turn_effect, violation};
+ghost use Rattle.engine_trait.specs.Turn.{is_offered, is_served, may_look, preparation, rule_answer, service_on, stopped_at, turn_effect, violation};
 ghost use Rattle.turn_steps.specs.Looks.{is_call, is_system, look_result, unless_system};
 ghost use Rattle.plain_engine.specs.Plain.{EndsService, after_asked, after_look_up, after_turn, given_up, machine_of, standing_of};
 
 use engine_trait::{Core, Counts, Engine, Feed, Halt, Stop, TurnEnd};
 use monitor_calls::{Job, ServeEnd, serve};
-use policy_trait::{Outs, Policy, Refused};
+use policy_trait::{Outs, Policy, Refused, Shape};
 use rv_decode::Instr;
 use rv_step::Fault;
 use shared_terms::count_up;
 use std::alloc::Global;
 use std::marker::Model;
 use tag_memory::{Hart, Ram};
-use turn_steps::{Look, is_call};
+use turn_steps::{Look, Peeks, is_call};
 
 /// An engine that keeps tags as values and asks its policy at every turn. Contracts see it as a `Standing`.
 #[derive(Drop)]
@@ -36,6 +36,22 @@ pub struct Plain<P: Policy> {
     asked: u64,
     unasked: u64,
     halt: Option<Halt>,
+}
+
+/// A policy, asked by its own tags whether a turn may look at values.
+#[derive(Drop)]
+struct OwnPeeks<'a, P: Policy> {
+    policy: &'a P,
+}
+
+impl<P: Policy> Peeks for OwnPeeks<'_, P> {
+    type Tag = P::Tag;
+
+    ghost answer = { λ p. P.model.peek p.policy.now };
+
+    fn answer(&self, shape: Shape, first: &P::Tag, second: &P::Tag) -> Result<(), Refused> {
+        self.policy.peek(shape, first, second)
+    }
 }
 
 impl<P: Policy> Model for Plain<P> {
@@ -84,12 +100,30 @@ impl<P: Policy> Plain<P> {
         !is_call(look.group) || self.policy.knows(look.service)
     }
 
-    /// What hart `h` is about to do, where every check passes and it makes neither an ECALL nor an EBREAK; `None` else.
+    /// Whether the policy lets hart `h` look at what its turn looks at before the rule.
+    #[inline(always)]
+    fn peeked(&self, h: u32) -> Result<(), Refused>
+        requires { h < length self.now.machine.core.harts }
+        ensures { result ≡ may_look P.model self.now.machine h }
+    {
+        if !self.policy.peeks() {
+            return Ok(());
+        }
+        let peeks = OwnPeeks {
+            policy: &self.policy,
+        };
+        self.core.peeked(h, &peeks)
+    }
+
+    /// What hart `h` is about to do, where every check passes and it makes neither an ECALL nor an EBREAK; `None` else. The policy is one
+    /// that refuses no look.
     #[inline(always)]
     fn step_look(&self, h: u32) -> Option<Look>
-        requires { h < length self.now.machine.core.harts }
+        requires hart { h < length self.now.machine.core.harts }
+        requires free { P.model.peeks self.now.machine.policy ≡ false }
         ensures value { result ≡ unless_system
             (look_result (hart_at self.now.machine.core h) self.now.machine.core.ram) }
+        ensures seen { may_look P.model self.now.machine h ≡ Ok tt }
         ensures looked { IfSome result (λ look.
             look_result (hart_at self.now.machine.core h) self.now.machine.core.ram ≡ Ok look) }
         ensures plain { IfSome result (λ look. is_system look.group ≡ false) }
@@ -113,6 +147,9 @@ impl<P: Policy> Plain<P> {
             (λ look. IsSound (ram_bytes self.now.machine.core.ram) look.effect) }
         ensures offered { IfOk result (λ look. is_offered P.model self.now.machine look ≡ true) }
     {
+        if let Err(refused) = self.peeked(h) {
+            return Err(self.core.violation(h, refused));
+        }
         let look = match self.core.look(h) {
             Ok(look) => look,
             Err(fault) => return Err(Stop::Fault(fault)),
@@ -410,6 +447,9 @@ impl<P: Policy> Engine for Plain<P> {
     {
         // Serves the proof alone: no rules are kept.
         let _ready = self.is_ready(h);
+        if self.policy.peeks() {
+            return self.rare_turn(h, feed);
+        }
         let Some(look) = self.step_look(h) else {
             return self.rare_turn(h, feed);
         };

@@ -483,6 +483,8 @@ module _ {T U V W S R Q P : Type 0} (m0 : PolicyModel T S) (m1 : PolicyModel U R
       plain = λ s. refl;
       rule = λ s g x. four_rules _ _ _ _;
       ignores = λ s g. refl;
+      peeks = λ s. refl;
+      peek = λ s shape x y. refl;
       knows = λ s k. refl;
       uses = λ s k. refl;
       lend = λ s t. refl;

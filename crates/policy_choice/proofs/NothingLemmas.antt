@@ -30,6 +30,7 @@ mirrors_off : (s : Nothing) → Mirrors no_tag all all_off nothing s
 mirrors_off s = record {
   plain = refl;
   rule = λ g x. refl;
+  peek = λ shape first second. refl;
   offers_none = λ k. refl;
   mirror_offers_none = λ k. refl;
   start_pc = λ b. refl;

@@ -94,6 +94,10 @@ module _ {T U V W S R Q P : Type 0} (seal : PolicyModel T S) (comp : PolicyModel
     plain = flat_plain;
     rule = flat_rule;
     ignores = λ s g. both_ignore (seal.ignores s.seal g) (both_ignore (comp.ignores s.comp g) (both_ignore (flow.ignores s.flow g) (heap.ignores s.heap g)));
+    peeks = λ s. seal.peeks s.seal || (comp.peeks s.comp || (flow.peeks s.flow || heap.peeks s.heap));
+    peek = λ s shape x y.
+        seal.peek s.seal shape x.seal y.seal >>= λ _. comp.peek s.comp shape x.comp y.comp >>= λ _.
+        flow.peek s.flow shape x.flow y.flow >>= λ _. heap.peek s.heap shape x.heap y.heap;
     knows = λ s number. seal.knows s.seal number || (comp.knows s.comp number || (flow.knows s.flow number || heap.knows s.heap number));
     uses = flat_uses;
     lend = λ s tag. seal.lend s.seal tag.seal >>= λ _. comp.lend s.comp tag.comp >>= λ _. flow.lend s.flow tag.flow >>= λ _. heap.lend s.heap tag.heap;

@@ -5,6 +5,7 @@ use Rattle.policy_trait.specs.Maps.{args_by, ins_by, ok_by, outs_by, plan_by}
 use Rattle.policy_trait.specs.Model.{PolicyModel}
 use Rattle.policy_trait.specs.declared.birth.Birth.{Birth}
 use Rattle.policy_trait.specs.declared.rules.Ins.{Ins}
+use Rattle.policy_trait.specs.declared.rules.Shape.{Shape}
 use Rattle.policy_trait.specs.declared.services.Args.{Args}
 use Rattle.policy_trait.specs.declared.services.Plan.{Plan}
 
@@ -14,6 +15,8 @@ pub record IsToldAs {T U S R : Type 0} (tag : T → U) (value : S → R) (m : Po
   pub plain : (s : S) → tag (m.plain s) ≡ n.plain (value s)
   pub rule : (s : S) (g : Group) (x : Ins T) → ok_by (outs_by tag) (m.rule s g x) ≡ n.rule (value s) g (ins_by tag x)
   pub ignores : (s : S) (g : Group) → m.ignores s g ≡ n.ignores (value s) g
+  pub peeks : (s : S) → m.peeks s ≡ n.peeks (value s)
+  pub peek : (s : S) (shape : Shape) (x y : T) → m.peek s shape x y ≡ n.peek (value s) shape (tag x) (tag y)
   pub knows : (s : S) (k : ℕ) → m.knows s k ≡ n.knows (value s) k
   pub uses : (s : S) (k : ℕ) → m.uses s k ≡ n.uses (value s) k
   pub lend : (s : S) (t : T) → m.lend s t ≡ n.lend (value s) (tag t)

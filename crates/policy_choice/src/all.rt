@@ -20,7 +20,9 @@ use flow_policy::Flow;
 use heap_policy::Heap;
 use image_format::{CompartmentRows, Edge, Image, OwnedRange};
 use policy_product::Maybe;
-use policy_trait::{Args, Birth, Ins, InsAt, Mask, Outs, Part, Plan, PlanEnd, Policy, Refused};
+use policy_trait::{
+    Args, Birth, Ins, InsAt, Mask, Outs, Part, Plan, PlanEnd, Policy, Refused, Shape,
+};
 use pump_words::Line;
 use rv_decode::Group;
 use sealing_policy::Sealing;
@@ -251,6 +253,18 @@ impl Policy for Together<AllTag> {
         let last = ignored_by_both(self.flow.ignores(group), self.heap.ignores(group));
         let others = ignored_by_both(self.comp.ignores(group), last);
         ignored_by_both(self.seal.ignores(group), others)
+    }
+
+    #[inline]
+    fn peeks(&self) -> bool {
+        self.seal.peeks() || self.comp.peeks() || self.flow.peeks() || self.heap.peeks()
+    }
+
+    fn peek(&self, shape: Shape, first: &AllTag, second: &AllTag) -> Result<(), Refused> {
+        self.seal.peek(shape, &first.seal, &second.seal)?;
+        self.comp.peek(shape, &first.comp, &second.comp)?;
+        self.flow.peek(shape, &first.flow, &second.flow)?;
+        self.heap.peek(shape, &first.heap, &second.heap)
     }
 
     fn knows(&self, number: u32) -> bool {

@@ -118,6 +118,8 @@ module _ {T U S R : Type 0} (m : PolicyModel T S) (n : PolicyModel U R) where
     plain = λ s. (m.plain s.0, n.plain s.1);
     rule = λ s g x. m.rule s.0 g (ins_by left x) >>= λ first. n.rule s.1 g (ins_by right x) >>= λ second. Ok (both_outs first second);
     ignores = λ s g. both_ignore (m.ignores s.0 g) (n.ignores s.1 g);
+    peeks = λ s. m.peeks s.0 || n.peeks s.1;
+    peek = λ s shape first second. m.peek s.0 shape first.0 second.0 >>= λ seen. n.peek s.1 shape first.1 second.1;
     knows = λ s number. m.knows s.0 number || n.knows s.1 number;
     uses = λ s number. if m.knows s.0 number then m.uses s.0 number else n.uses s.1 number;
     lend = λ s tag. m.lend s.0 tag.0 >>= λ first. n.lend s.1 tag.1;

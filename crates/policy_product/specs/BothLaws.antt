@@ -14,6 +14,7 @@ use Rattle.policy_trait.specs.declared.rules.Ins.{Ins}
 use Rattle.policy_trait.specs.declared.rules.Outs.{Outs}
 use Rattle.policy_trait.specs.declared.rules.Part.{Part}
 use Rattle.policy_trait.specs.declared.rules.Refused.{Refused}
+use Rattle.policy_trait.specs.declared.rules.Shape.{Shape}
 use Rattle.policy_trait.specs.declared.services.Answer.{Answer}
 use Rattle.policy_trait.specs.declared.services.Args.{Args}
 use Rattle.policy_trait.specs.declared.services.Plan.{Plan}
@@ -250,6 +251,21 @@ module _ {T U S R : Type 0} (m : PolicyModel T S) (n : PolicyModel U R) (holds :
       ap (λ first. ruled first (n.rule s.1 g (ins_by right x))) (rule_by_key m holds laws s.0 g (ins_by left x) (ins_by left (all_masked s g x)) (left_key s g x))
       ∙ ap (ruled (m.rule s.0 g (ins_by left (all_masked s g x)))) (rule_by_key n also also_laws s.1 g (ins_by right x) (ins_by right (all_masked s g x)) (right_key s g x))
 
+  -- ---- looks
+
+  neither : (a b : Bool) → (a || b) ≡ false → (a ≡ false) × (b ≡ false)
+  neither false false none = (refl, refl)
+  neither false true none = absurd (cc none)
+  neither true b none = absurd (cc none)
+
+  -- where neither refuses any, both allow each
+  unpeeked : (s : S × R) (shape : Shape) (x y : T × U) → (m.peeks s.0 || n.peeks s.1) ≡ false → (both m n).peek s shape x y ≡ Ok tt
+  unpeeked s shape x y none =
+      let parts = neither (m.peeks s.0) (n.peeks s.1) none in
+      let first = laws.unpeeked s.0 shape x.0 y.0 parts.0 in
+      let second = also_laws.unpeeked s.1 shape x.1 y.1 parts.1 in
+      λ j. first j >>= λ seen. second j
+
   -- ---- a commit changes what services answer, and nothing else
 
   same_left : (s t : S) (r : R) → SameRules m s t → SameRules (both m n) (s, r) (t, r)
@@ -257,6 +273,8 @@ module _ {T U S R : Type 0} (m : PolicyModel T S) (n : PolicyModel U R) (holds :
     plain = ap (λ (x : T). (x, n.plain r)) same.plain;
     rule = λ g x. ap (λ first. ruled first (n.rule r g (ins_by right x))) (same.rule g (ins_by left x));
     ignores = λ g. ap (λ mask. both_ignore mask (n.ignores r g)) (same.ignores g);
+    peeks = ap (λ first. first || n.peeks r) same.peeks;
+    peek = λ shape x y. ap (λ first. first >>= λ seen. n.peek r shape x.1 y.1) (same.peek shape x.0 y.0);
     knows = λ k. ap (λ known. known || n.knows r k) (same.knows k);
     uses = λ k. ap (λ known. if known then m.uses t k else n.uses r k) (same.knows k) ∙ ap (λ (uses : ℕ). if m.knows s k then uses else n.uses r k) (same.uses k);
     lend = λ tag. ap (λ first. first >>= λ is_lent. n.lend r tag.1) (same.lend tag.0);
@@ -272,6 +290,8 @@ module _ {T U S R : Type 0} (m : PolicyModel T S) (n : PolicyModel U R) (holds :
     plain = ap (λ (y : U). (m.plain s, y)) same.plain;
     rule = λ g x. ap (ruled (m.rule s g (ins_by left x))) (same.rule g (ins_by right x));
     ignores = λ g. ap (both_ignore (m.ignores s g)) (same.ignores g);
+    peeks = ap (λ second. m.peeks s || second) same.peeks;
+    peek = λ shape x y. ap (λ second. m.peek s shape x.0 y.0 >>= λ seen. second) (same.peek shape x.1 y.1);
     knows = λ k. ap (λ known. m.knows s k || known) (same.knows k);
     uses = λ k. ap (λ (uses : ℕ). if m.knows s k then m.uses s k else uses) (same.uses k);
     lend = λ tag. ap (λ second. m.lend s tag.0 >>= λ is_lent. second) (same.lend tag.1);
@@ -422,6 +442,7 @@ module _ {T U S R : Type 0} (m : PolicyModel T S) (n : PolicyModel U R) (holds :
   pub both_laws : KeepsLaws (both m n) (BothHold holds also)
   both_laws = record {
     masks = rule_masked;
+    unpeeked = unpeeked;
     keeps = λ s p given. keeps (m.knows s.0 p.service) s p refl given;
     stays = λ s p given held. stays (m.knows s.0 p.service) s p refl given held;
     ranges = λ s k a pc p can held e. ranges (m.knows s.0 k) s k a pc p refl can held e;

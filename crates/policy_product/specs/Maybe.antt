@@ -9,6 +9,7 @@ use Rattle.policy_trait.specs.declared.rules.Mask.{Mask}
 use Rattle.policy_trait.specs.declared.rules.Outs.{Outs}
 use Rattle.policy_trait.specs.declared.rules.Part.{Part}
 use Rattle.policy_trait.specs.declared.rules.Refused.{Refused}
+use Rattle.policy_trait.specs.declared.rules.Shape.{Shape}
 use Rattle.policy_trait.specs.declared.services.Args.{Args}
 use Rattle.policy_trait.specs.declared.services.Plan.{Plan}
 use Rattle.policy_trait.specs.declared.services.PlanEnd.{PlanEnd}
@@ -50,6 +51,14 @@ module _ {T S : Type 0} (m : PolicyModel T S) where
   abbrev pub ignores_in : Option S → Group → Mask
   ignores_in None g = all_ignored
   ignores_in (Some s) g = m.ignores s g
+
+  abbrev pub peeks_in : Option S → Bool
+  peeks_in None = false
+  peeks_in (Some s) = m.peeks s
+
+  abbrev pub peek_in : Option S → Shape → Option T → Option T → Result (Unit {0}) Refused
+  peek_in None shape first second = Ok tt
+  peek_in (Some s) shape first second = m.peek s shape (read_by s first) (read_by s second)
 
   abbrev pub knows_in : Option S → ℕ → Bool
   knows_in None number = false
@@ -105,6 +114,8 @@ module _ {T S : Type 0} (m : PolicyModel T S) where
     plain = λ s. plain_in s.part;
     rule = λ s. rule_in s.part;
     ignores = λ s. ignores_in s.part;
+    peeks = λ s. peeks_in s.part;
+    peek = λ s. peek_in s.part;
     knows = λ s. knows_in s.part;
     uses = λ s. uses_in s.part;
     lend = λ s. lend_in s.part;

@@ -8,13 +8,14 @@ use Rattle.policy_trait.specs.UseLaws.{agrees_by, words_by}
 use Rattle.policy_trait.specs.Model.{CanPlan, IsGiven, PolicyModel, masked_inputs}
 use Rattle.policy_trait.specs.declared.rules.Ins.{Ins}
 use Rattle.policy_trait.specs.declared.rules.Mask.{Mask}
+use Rattle.policy_trait.specs.declared.rules.Shape.{Shape}
 use Rattle.policy_trait.specs.declared.services.Answer.{Answer}
 use Rattle.policy_trait.specs.declared.services.Args.{Args}
 use Rattle.policy_trait.specs.declared.services.Plan.{Plan}
 use Rattle.policy_trait.specs.declared.services.PlanEnd.{PlanEnd}
 use Rattle.policy_trait.specs.declared.services.Words.{Words}
 use Rattle.policy_trait.specs.Maps.{answer_by, args_by, ins_by, ok_by, outs_by, plan_by}
-use Rattle.policy_product.specs.Maybe.{HoldsIn, MaybeHolds, commit_in, ignores_in, knows_in, maybe, plain_in, plan_in, read_by, retag_in, rule_in, some_tag, tag_or, uses_in}
+use Rattle.policy_product.specs.Maybe.{HoldsIn, MaybeHolds, commit_in, ignores_in, knows_in, maybe, peek_in, peeks_in, plain_in, plan_in, read_by, retag_in, rule_in, some_tag, tag_or, uses_in}
 use Rattle.policy_product.specs.declared.maybe.Maybe.{Maybe}
 
 -- an answer put on and read again is the answer
@@ -86,11 +87,17 @@ module _ {T S : Type 0} (m : PolicyModel T S) (holds : S → Type 0) (laws : Kee
       ap (ok_by (outs_by some_tag))
       (laws.masks s g (ins_by (read_by m s) x) ∙ ap (m.rule s g) (sym (inputs_masked (m.ignores s g) (m.plain s) x)))
 
+  unpeeked : (part : Option S) (shape : Shape) (first second : Option T) → peeks_in m part ≡ false → peek_in m part shape first second ≡ Ok tt
+  unpeeked None shape first second none = refl
+  unpeeked (Some s) shape first second none = laws.unpeeked s shape (read_by m s first) (read_by m s second) none
+
   same_off : SameRules (maybe m) (record { part = None }) (record { part = None })
   same_off = record {
     plain = refl;
     rule = λ g x. refl;
     ignores = λ g. refl;
+    peeks = refl;
+    peek = λ shape first second. refl;
     knows = λ k. refl;
     uses = λ k. refl;
     lend = λ t. refl;
@@ -106,6 +113,8 @@ module _ {T S : Type 0} (m : PolicyModel T S) (holds : S → Type 0) (laws : Kee
     plain = ap some_tag same.plain;
     rule = λ g x. ap (ok_by (outs_by some_tag)) (ap (λ plain. m.rule n g (ins_by (tag_or plain) x)) same.plain ∙ same.rule g (ins_by (read_by m s) x));
     ignores = same.ignores;
+    peeks = same.peeks;
+    peek = λ shape x y. ap (λ plain. m.peek n shape (tag_or plain x) (tag_or plain y)) same.plain ∙ same.peek shape (read_by m s x) (read_by m s y);
     knows = same.knows;
     uses = same.uses;
     lend = λ t. ap (λ plain. m.lend n (tag_or plain t)) same.plain ∙ same.lend (read_by m s t);
@@ -205,6 +214,7 @@ module _ {T S : Type 0} (m : PolicyModel T S) (holds : S → Type 0) (laws : Kee
   pub maybe_laws : KeepsLaws (maybe m) (MaybeHolds holds)
   maybe_laws = record {
     masks = λ s g x. rule_masked s.part g x;
+    unpeeked = λ s shape first second none. unpeeked s.part shape first second none;
     keeps = λ s p given. keeps s.part p given;
     stays = λ s p given held. stays s.part p given held;
     ranges = λ s k a pc p can held e. ranges s.part k a pc p can held e;

@@ -11,6 +11,8 @@ nothing = record {
   plain = λ s. tt;
   rule = λ s g x. Ok (record { pc = tt; result = tt });
   ignores = λ s g. all_ignored;
+  peeks = λ s. false;
+  peek = λ s shape first second. Ok tt;
   knows = λ s number. false;
   uses = λ s number. 0;
   lend = λ s tag. Ok tt;

@@ -7,10 +7,13 @@ use Rattle.policy_product.specs.Nothing.{nothing}
 pub nothing_laws : KeepsLaws nothing (λ s. Unit {0})
 nothing_laws = record {
   masks = λ s g x. refl;
+  unpeeked = λ s shape first second none. refl;
   keeps = λ s p given. record {
     plain = refl;
     rule = λ g x. refl;
     ignores = λ g. refl;
+    peeks = refl;
+    peek = λ shape first second. refl;
     knows = λ k. refl;
     uses = λ k. refl;
     lend = λ t. refl;

@@ -5,7 +5,7 @@ ghost use Rattle.policy_product.specs.Both.{IsApart, answer_before, answer_besid
 
 use crate::others::{lend_all, rest_of};
 use policy_trait::{
-    Answer, Args, Birth, Ins, Mask, Outs, Part, Plan, PlanEnd, Policy, Refused, TagMap,
+    Answer, Args, Birth, Ins, Mask, Outs, Part, Plan, PlanEnd, Policy, Refused, Shape, TagMap,
 };
 use pump_words::{Line, write_text};
 use rv_decode::Group;
@@ -182,6 +182,20 @@ impl<P: Policy, Q: Policy> Policy for Both<P, Q> {
             t2: first.t2 && second.t2,
             tm: first.tm && second.tm,
         }
+    }
+
+    fn peeks(&self) -> bool {
+        self.left.peeks() || self.right.peeks()
+    }
+
+    fn peek(
+        &self,
+        shape: Shape,
+        first: &(P::Tag, Q::Tag),
+        second: &(P::Tag, Q::Tag),
+    ) -> Result<(), Refused> {
+        self.left.peek(shape, &first.0, &second.0)?;
+        self.right.peek(shape, &first.1, &second.1)
     }
 
     fn knows(&self, number: u32) -> bool {

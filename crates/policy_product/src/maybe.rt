@@ -4,7 +4,7 @@ ghost use Rattle.std.specs.Prelude.{◌≡◌, ◌≤◌, ◌++◌, Some, None, 
 ghost use Rattle.policy_product.specs.Maybe.{maybe, some_tag, tag_or};
 
 use policy_trait::{
-    Args, Birth, Ins, InsAt, Mask, Outs, Part, Plan, PlanEnd, Policy, Refused, TagMap,
+    Args, Birth, Ins, InsAt, Mask, Outs, Part, Plan, PlanEnd, Policy, Refused, Shape, TagMap,
 };
 use pump_words::Line;
 use rv_decode::Group;
@@ -157,6 +157,29 @@ impl<P: Policy> Policy for Maybe<P> {
                 tm: true,
             },
             Some(part) => part.ignores(group),
+        }
+    }
+
+    #[inline]
+    fn peeks(&self) -> bool {
+        match &self.part {
+            None => false,
+            Some(part) => part.peeks(),
+        }
+    }
+
+    fn peek(
+        &self,
+        shape: Shape,
+        first: &Option<P::Tag>,
+        second: &Option<P::Tag>,
+    ) -> Result<(), Refused> {
+        match &self.part {
+            None => Ok(()),
+            Some(part) => {
+                let plain = part.plain();
+                part.peek(shape, read_at(first, &plain), read_at(second, &plain))
+            }
         }
     }
 

@@ -2,7 +2,7 @@
 
 ghost use Rattle.std.specs.Prelude.{◌≡◌, Ok, Err};
 
-use policy_trait::{Args, Birth, Ins, Mask, Outs, Part, Plan, PlanEnd, Policy, Refused};
+use policy_trait::{Args, Birth, Ins, Mask, Outs, Part, Plan, PlanEnd, Policy, Refused, Shape};
 use pump_words::Line;
 use rv_decode::Group;
 use std::alloc::AllocError;
@@ -41,6 +41,14 @@ impl Policy for Nothing {
             t2: true,
             tm: true,
         }
+    }
+
+    fn peeks(&self) -> bool {
+        false
+    }
+
+    fn peek(&self, _shape: Shape, _first: &(), _second: &()) -> Result<(), Refused> {
+        Ok(())
     }
 
     fn knows(&self, _number: u32) -> bool {

@@ -7,6 +7,7 @@ use Rattle.policy_trait.specs.declared.rules.Mask.{Mask}
 use Rattle.policy_trait.specs.declared.rules.Outs.{Outs}
 use Rattle.policy_trait.specs.declared.rules.Part.{Part}
 use Rattle.policy_trait.specs.declared.rules.Refused.{Refused}
+use Rattle.policy_trait.specs.declared.rules.Shape.{Shape}
 use Rattle.policy_trait.specs.declared.services.Args.{Args}
 use Rattle.policy_trait.specs.declared.services.Plan.{Plan}
 use Rattle.policy_trait.specs.declared.services.PlanEnd.{PlanEnd}
@@ -15,6 +16,9 @@ pub record PolicyModel (T S : Type 0) : Type 0 where
   pub plain : S → T
   pub rule : S → Group → Ins T → Result (Outs T) Refused
   pub ignores : S → Group → Mask
+  -- the looks that come before a rule: whether any is refused, and which are
+  pub peeks : S → Bool
+  pub peek : S → Shape → T → T → Result (Unit {0}) Refused
   -- the services: which there are, how many arguments each uses, what each will do
   pub knows : S → ℕ → Bool
   pub uses : S → ℕ → ℕ

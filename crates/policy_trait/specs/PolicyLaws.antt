@@ -1,10 +1,11 @@
 -- The laws that every policy keeps.
-use Rattle.std.specs.Prelude.{◌≡◌, ℕ, ◌+◌, ◌*◌, ◌%◌, ◌^◌, ◌<◌, ◌≤◌, Option, Ok, IsTrue}
+use Rattle.std.specs.Prelude.{◌≡◌, ℕ, ◌+◌, ◌*◌, ◌%◌, ◌^◌, ◌<◌, ◌≤◌, false, Option, Ok, IsTrue}
 use Rattle.std.specs.Option.{ForSome}
 use Rattle.rv_decode.specs.declared.groups.Group.{Group}
 use Rattle.policy_trait.specs.Model.{CanPlan, IsGiven, PolicyModel, masked_inputs}
 use Rattle.policy_trait.specs.declared.birth.Birth.{Birth}
 use Rattle.policy_trait.specs.declared.rules.Ins.{Ins}
+use Rattle.policy_trait.specs.declared.rules.Shape.{Shape}
 use Rattle.policy_trait.specs.declared.services.Answer.{Answer}
 use Rattle.policy_trait.specs.declared.services.Args.{Args}
 use Rattle.policy_trait.specs.declared.services.Plan.{Plan}
@@ -22,6 +23,8 @@ pub record SameRules {T S : Type 0} (m : PolicyModel T S) (s n : S) : Type 0 whe
   pub plain : m.plain n ≡ m.plain s
   pub rule : (g : Group) (x : Ins T) → m.rule n g x ≡ m.rule s g x
   pub ignores : (g : Group) → m.ignores n g ≡ m.ignores s g
+  pub peeks : m.peeks n ≡ m.peeks s
+  pub peek : (shape : Shape) (first second : T) → m.peek n shape first second ≡ m.peek s shape first second
   pub knows : (k : ℕ) → m.knows n k ≡ m.knows s k
   pub uses : (k : ℕ) → m.uses n k ≡ m.uses s k
   pub lend : (t : T) → m.lend n t ≡ m.lend s t
@@ -59,6 +62,8 @@ HasWord answer = answer.value < 2 ^ 32
 pub record KeepsLaws {T S : Type 0} (m : PolicyModel T S) (holds : S → Type 0) : Type 0 where
   -- masked inputs change no answer, refusals included
   pub masks : (s : S) (g : Group) (x : Ins T) → m.rule s g x ≡ m.rule s g (masked_inputs (m.ignores s g) (m.plain s) x)
+  -- a policy that refuses no look allows each
+  pub unpeeked : (s : S) (shape : Shape) (first second : T) → m.peeks s ≡ false → m.peek s shape first second ≡ Ok tt
   -- a commit changes what plan, retag, listed and later commits answer, and nothing else
   pub keeps : (s : S) (p : Plan T) → IsGiven m s p → SameRules m s (m.commit s p)
   -- and leaves the policy's invariant

@@ -15,6 +15,6 @@ mod sets;
 pub use birth::Birth;
 pub use maps::TagMap;
 pub use policy::Policy;
-pub use rules::{Ins, InsAt, Mask, Outs, Part, Refused, Why};
+pub use rules::{Ins, InsAt, Mask, Outs, Part, Refused, Shape, Why};
 pub use services::{Answer, Args, Plan, PlanEnd, Rest, Words};
 pub use sets::CompartmentSet;

@@ -4,7 +4,7 @@ ghost use Rattle.std.specs.Prelude.{◌≡◌, ◌+◌, ◌≤◌, ◌++◌, ℕ
 ghost use Rattle.arrayvec.specs.ArrayVec.{array_vec_len};
 
 use crate::birth::Birth;
-use crate::rules::{Ins, InsAt, Mask, Outs, Part, Refused};
+use crate::rules::{Ins, InsAt, Mask, Outs, Part, Refused, Shape};
 use crate::services::{Args, Plan, PlanEnd};
 use pump_words::{Line, Same};
 use rv_decode::Group;
@@ -49,6 +49,15 @@ pub trait Policy: Drop {
     /// Which inputs the rule of a group ignores.
     fn ignores(&self, group: Group) -> Mask
         ensures { result ≡ model.ignores self.now group };
+
+    /// Whether the policy refuses any look that comes before a rule.
+    fn peeks(&self) -> bool
+        ensures { result ≡ model.peeks self.now };
+
+    /// Whether a turn may look so at values with these tags before its rule is asked. A look at one value has the plain tag as its
+    /// second.
+    fn peek(&self, shape: Shape, first: &Self::Tag, second: &Self::Tag) -> Result<(), Refused>
+        ensures { result ≡ model.peek self.now shape first.now second.now };
 
     /// Whether the policy offers the service of this number.
     fn knows(&self, number: u32) -> bool

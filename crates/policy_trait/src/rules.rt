@@ -99,7 +99,25 @@ pub struct Mask {
     pub tm: bool,
 }
 
-/// Who refuses: one of the four policies that can be chosen, in canonical order, or an author's own.
+/// How a turn looks at values before its rule is asked. A check that fails tells something of the values that it looks at, so a policy is
+/// asked for each look.
+#[derive(Clone, Copy, PartialEq, Eq)]
+pub enum Shape {
+    /// The word at the pc is decoded.
+    Word,
+    /// The address of a load is checked.
+    Load,
+    /// The address of a store is checked.
+    Store,
+    /// The target of a jump by register is checked.
+    Jump,
+    /// The operands of a branch are compared.
+    Branch,
+    /// The number of the service that an ECALL makes is read.
+    Call,
+}
+
+/// Who refuses: one of the policies that can be chosen, in canonical order, or an author's own.
 #[derive(Clone, Copy, PartialEq, Eq)]
 pub enum Part {
     /// Dynamic sealing.
@@ -110,7 +128,9 @@ pub enum Part {
     Flow,
     /// Heap memory safety.
     Heap,
-    /// An author's own policy, none of the four.
+    /// Secrecy.
+    Secret,
+    /// An author's own policy, none of these.
     Own,
 }
 
@@ -133,6 +153,8 @@ pub enum Why {
     Lend,
     /// Another policy does not consent to a word's zeroing.
     Consent,
+    /// A look that comes before the rule would tell what may not be told.
+    Peek,
 }
 
 /// A refusal: which policy, and why.

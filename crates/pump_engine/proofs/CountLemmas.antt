@@ -11,17 +11,19 @@ use Rattle.rv_step.specs.declared.faults.Fault.TheVariants.{NoService}
 use Rattle.tag_memory.specs.Hart.{HartState}
 use Rattle.tag_memory.specs.Maps.{ram_by}
 use Rattle.turn_steps.specs.Looks.{is_system, look_result}
+use Rattle.turn_steps.specs.Peeks.{peek_by, peeked}
 use Rattle.turn_steps.specs.declared.look.Look.{Look}
 use Rattle.turn_steps.specs.declared.stop.Stop.TheVariants as stop
 use Rattle.turn_steps.proofs.StepLemmas.{not_call}
 use Rattle.turn_steps.proofs.MapLemmas.{looked_by}
+use Rattle.turn_steps.proofs.PeekLemmas.{peeked_by}
 use Rattle.engine_trait.specs.Accounts.{Account, Key, key_of, look_counted, looked_up, rule_counted, rule_kept}
 use Rattle.engine_trait.specs.Machine.{hart_at, is_ready_in}
 use Rattle.engine_trait.specs.Standing.{is_ready, is_running}
-use Rattle.engine_trait.specs.Turn.{is_offered, or_fault, or_violation, preparation, rule_answer, rule_at, service_look}
+use Rattle.engine_trait.specs.Turn.{is_offered, may_look, or_fault, or_violation, preparation, rule_answer, rule_at, service_look, violation}
 use Rattle.engine_trait.proofs.MapLemmas.{hart_at_by, rule_inputs_by}
 use Rattle.engine_trait.proofs.MirrorLemmas.{ready_by}
-use Rattle.engine_trait.proofs.TurnLemmas.{rule_looked}
+use Rattle.engine_trait.proofs.TurnLemmas.{rule_looked, seen_prepared, unseen_prepared}
 use Rattle.pump_engine.specs.Pump.{PumpState, account_by_words, decode, machine_by_words, standing_by_words}
 use Rattle.pump_engine.specs.Steps.{answer_in, key_in, looked_in, ruled_in, ruling_in}
 use Rattle.pump_engine.proofs.StepLemmas.{look_counted_at, rule_counted_at}
@@ -43,25 +45,39 @@ module _ {S T : Type 0} (m : PolicyModel T S) (p : PumpState S T) where
   pub ready_by_words : (h : ℕ) → is_ready (standing_by_words m p) h ≡ (is_running p.halt && is_ready_in p.core h)
   ready_by_words h = ap (λ ready. is_running p.halt && ready) (ready_by (decode m p) p.core h)
 
-  -- ---- the checks, which no tag decides
+  -- ---- whether the turn may look, asked by the words
 
-  pub prepared_by_words : (h : ℕ) (found : Result Look Fault) → look_result (hart_at p.core h) p.core.ram ≡ found
+  pub seen_by_words : (h : ℕ) → peeked (peek_by (decode m p) (m.peek p.policy)) (hart_at p.core h) p.core.ram ≡ may_look m (machine_by_words m p) h
+  seen_by_words h =
+      sym (ap (λ (hart : HartState T). peeked (m.peek p.policy) hart (ram_by (decode m p) p.core.ram)) (hart_at_by (decode m p) p.core h)
+      ∙ peeked_by (decode m p) (m.peek p.policy) (hart_at p.core h) p.core.ram)
+
+  -- the stop of a turn that may not
+  pub unseen_by_words : (h : ℕ) (refused : Refused) → may_look m (machine_by_words m p) h ≡ Err refused
+      → preparation m (machine_by_words m p) h ≡ Err (violation (hart_at p.core h).pc refused)
+  unseen_by_words h refused seen =
+      unseen_prepared m (machine_by_words m p) h refused seen
+      ∙ ap (λ (hart : HartState T). Err (violation hart.pc refused)) (hart_at_by (decode m p) p.core h)
+
+  -- ---- the other checks, which no tag decides
+
+  pub prepared_by_words : (h : ℕ) (found : Result Look Fault) → may_look m (machine_by_words m p) h ≡ Ok tt → look_result (hart_at p.core h) p.core.ram ≡ found
       → preparation m (machine_by_words m p) h ≡ (or_fault found >>= service_look m (machine_by_words m p))
-  unfolding preparation
-  prepared_by_words h found looked =
-      ap (λ (hart : HartState T). or_fault (look_result hart (ram_by (decode m p) p.core.ram)) >>= service_look m (machine_by_words m p)) (hart_at_by (decode m p) p.core h)
+  prepared_by_words h found seen looked =
+      seen_prepared m (machine_by_words m p) h seen
+      ∙ ap (λ (hart : HartState T). or_fault (look_result hart (ram_by (decode m p) p.core.ram)) >>= service_look m (machine_by_words m p)) (hart_at_by (decode m p) p.core h)
       ∙ ap (λ look. or_fault look >>= service_look m (machine_by_words m p)) (looked_by (decode m p) (hart_at p.core h) p.core.ram ∙ looked)
 
-  pub offered_by_words : (h : ℕ) (look : Look) (offered : Bool) → look_result (hart_at p.core h) p.core.ram ≡ Ok look → is_offered m (machine_by_words m p) look ≡ offered
+  pub offered_by_words : (h : ℕ) (look : Look) (offered : Bool) → may_look m (machine_by_words m p) h ≡ Ok tt → look_result (hart_at p.core h) p.core.ram ≡ Ok look → is_offered m (machine_by_words m p) look ≡ offered
       → preparation m (machine_by_words m p) h ≡ (if offered then Ok look else Err (stop.Fault (NoService look.service)))
-  offered_by_words h look offered looked is =
-      prepared_by_words h (Ok look) looked ∙ ap (λ test. if test then Ok look else Err (stop.Fault (NoService look.service))) is
+  offered_by_words h look offered seen looked is =
+      prepared_by_words h (Ok look) seen looked ∙ ap (λ test. if test then Ok look else Err (stop.Fault (NoService look.service))) is
 
   -- an instruction that is neither an ECALL nor an EBREAK comes to its rule once it is looked at
-  pub step_by_words : (h : ℕ) (look : Look) → look_result (hart_at p.core h) p.core.ram ≡ Ok look → is_system look.group ≡ false
+  pub step_by_words : (h : ℕ) (look : Look) → may_look m (machine_by_words m p) h ≡ Ok tt → look_result (hart_at p.core h) p.core.ram ≡ Ok look → is_system look.group ≡ false
       → preparation m (machine_by_words m p) h ≡ Ok look
-  step_by_words h look looked plain =
-      offered_by_words h look true looked (ap (λ (call : Bool). not call || m.knows p.policy look.service) (not_call look.group plain))
+  step_by_words h look seen looked plain =
+      offered_by_words h look true seen looked (ap (λ (call : Bool). not call || m.knows p.policy look.service) (not_call look.group plain))
 
   -- ---- the rule
 

@@ -13,7 +13,7 @@ ghost use Rattle.turn_steps.specs.declared.look.Look.{Look as AnyLook};
 ghost use Rattle.engine_trait.specs.Accounts.{is_kept, is_over, seeing, written_tags};
 ghost use Rattle.engine_trait.specs.Machine.{IsMachine, hart_at, stop_at};
 ghost use Rattle.engine_trait.specs.Standing.{GivesUp, IsFailure, StopsOnly, Unchanged, is_ready, step};
-ghost use Rattle.engine_trait.specs.Turn.{carried_at, end_of, is_offered, preparation};
+ghost use Rattle.engine_trait.specs.Turn.{carried_at, end_of, is_offered, may_look, preparation, violation};
 ghost use Rattle.miss_handler.specs.Asked.{AreOutWords};
 ghost use Rattle.pump_engine.specs.Pump.{IsPump, account_by_words, machine_by_words, standing_by_words};
 ghost use Rattle.pump_engine.specs.Steps.{Allows, CarriesOut, EndsService, HasParts, IsSwept, Settles, TriesOut, Unanswered, Unruled};
@@ -22,7 +22,7 @@ ghost use Rattle.pump_engine.specs.Steps.{after_effect, after_halt, after_stop, 
 use engine_trait::{Core, Counts, Engine, Feed, Halt, Stop, TurnEnd};
 use miss_handler::{AskEnd, Asking, Masks, ask, settle};
 use monitor_calls::{Job, ServeEnd, serve};
-use policy_trait::{Args, Policy, TagMap};
+use policy_trait::{Args, Policy, Refused, Shape, TagMap};
 use rule_cache::{OutWords, RuleStore};
 use rv_step::Fault;
 use shared_terms::count_up;
@@ -30,7 +30,7 @@ use std::alloc::{AllocError, Global};
 use std::marker::Model;
 use tag_intern::{Decoder, InternEnd, TagTable, remade, renumbering};
 use tag_memory::{Hart, Ram};
-use turn_steps::{Look, is_call};
+use turn_steps::{Look, Peeks, is_call};
 use word_service::{Decoded, intern_job};
 
 /// An engine whose tags are words of a table, and which asks its policy for a rule only where the rule is not kept.
@@ -48,6 +48,29 @@ pub struct Pump<P: Policy, T: TagTable<Tag = P::Tag>, C: RuleStore> {
     turns: u64,
     sweeps: u64,
     halt: Option<Halt>,
+}
+
+/// A policy, asked by the words of its tags whether a turn may look at values.
+#[derive(Drop)]
+struct WordPeeks<'a, P: Policy, T: TagTable<Tag = P::Tag>> {
+    policy: &'a P,
+    decoder: Decoder<'a, T>,
+}
+
+impl<P: Policy, T: TagTable<Tag = P::Tag>> Peeks for WordPeeks<'_, P, T> {
+    ghost use Rattle.tag_intern.specs.Words.{tag_at};
+    ghost use Rattle.turn_steps.specs.Peeks.{peek_by};
+
+    type Tag = u32;
+
+    ghost answer = { λ p. peek_by (tag_at p.decoder.plain (T.state p.decoder.tags.now).tags)
+        (P.model.peek p.policy.now) };
+
+    fn answer(&self, shape: Shape, first: &u32, second: &u32) -> Result<(), Refused> {
+        let first = self.decoder.image(*first);
+        let second = self.decoder.image(*second);
+        self.policy.peek(shape, &first, &second)
+    }
 }
 
 /// What a policy's service is asked with, in the tags that words stand for.
@@ -128,12 +151,39 @@ impl<P: Policy, T: TagTable<Tag = P::Tag>, C: RuleStore> Pump<P, T, C> {
         !is_call(look.group) || self.policy.knows(look.service)
     }
 
-    /// What hart `h` is about to do, where every check passes and it makes neither an ECALL nor an EBREAK; `None` else.
+    /// Whether the policy lets hart `h` look at what its turn looks at before the rule. A policy that refuses no look isn't asked.
+    #[inline(always)]
+    fn peeked(&self, h: u32) -> Result<(), Refused>
+        requires { h < length self.now.core.harts }
+        ensures { result ≡ may_look P.model (machine_by_words P.model self.now) h }
+    {
+        if !self.policy.peeks() {
+            return Ok(());
+        }
+        self.words_peeked(h)
+    }
+
+    /// The same, asked by the words of the tags.
+    fn words_peeked(&self, h: u32) -> Result<(), Refused>
+        requires { h < length self.now.core.harts }
+        ensures { result ≡ may_look P.model (machine_by_words P.model self.now) h }
+    {
+        let peeks = WordPeeks {
+            policy: &self.policy,
+            decoder: self.decoder(),
+        };
+        self.core.peeked(h, &peeks)
+    }
+
+    /// What hart `h` is about to do, where every check passes and it makes neither an ECALL nor an EBREAK; `None` else. The policy is one
+    /// that refuses no look.
     #[inline(always)]
     fn step_look(&self, h: u32) -> Option<Look>
-        requires { h < length self.now.core.harts }
+        requires hart { h < length self.now.core.harts }
+        requires free { P.model.peeks self.now.policy ≡ false }
         ensures value { result
             ≡ unless_system (look_result (hart_at self.now.core h) self.now.core.ram) }
+        ensures seen { may_look P.model (machine_by_words P.model self.now) h ≡ Ok tt }
         ensures looked { IfSome result
             (λ look. look_result (hart_at self.now.core h) self.now.core.ram ≡ Ok look) }
         ensures plain { IfSome result (λ look. is_system look.group ≡ false) }
@@ -143,6 +193,16 @@ impl<P: Policy, T: TagTable<Tag = P::Tag>, C: RuleStore> Pump<P, T, C> {
             (λ look. IsSound (ram_bytes self.now.core.ram) look.effect) }
     {
         self.core.step_look(h)
+    }
+
+    /// How hart `h` stops where the policy refused a look.
+    #[cold]
+    #[inline(never)]
+    fn violation(&self, h: u32, refused: Refused) -> Stop
+        requires { h < length self.now.core.harts }
+        ensures { result ≡ violation (hart_at self.now.core h).pc refused }
+    {
+        self.core.violation(h, refused)
     }
 
     /// The checks of hart `h`'s turn, which no tag decides.
@@ -157,6 +217,9 @@ impl<P: Policy, T: TagTable<Tag = P::Tag>, C: RuleStore> Pump<P, T, C> {
         ensures offered { IfOk result
             (λ look. is_offered P.model (machine_by_words P.model self.now) look ≡ true) }
     {
+        if let Err(refused) = self.peeked(h) {
+            return Err(self.violation(h, refused));
+        }
         let look = match self.core.look(h) {
             Ok(look) => look,
             Err(fault) => return Err(Stop::Fault(fault)),
@@ -663,6 +726,9 @@ impl<P: Policy, T: TagTable<Tag = P::Tag>, C: RuleStore> Engine for Pump<P, T, C
     {
         // Serves the proof alone: no more tags have words than may.
         let _ready = self.is_ready(h);
+        if self.policy.peeks() {
+            return self.rare_turn(h, feed);
+        }
         let Some(look) = self.step_look(h) else {
             return self.rare_turn(h, feed);
         };

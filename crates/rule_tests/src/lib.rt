@@ -14,6 +14,8 @@ mod raising;
 mod refusals;
 #[cfg(test)]
 mod sealing;
+#[cfg(test)]
+mod secrecy;
 mod steps;
 #[cfg(test)]
 mod tags;

@@ -9,6 +9,7 @@ use Rattle.monitor_calls.specs.Service.{service_job}
 use Rattle.turn_steps.specs.Effects.{effect_result}
 use Rattle.turn_steps.specs.Feeds.{tape_of}
 use Rattle.turn_steps.specs.Looks.{look_result}
+use Rattle.turn_steps.specs.Peeks.{peeked}
 use Rattle.rv_decode.specs.Decoding.{instr_of_word}
 use Rattle.tag_loader.specs.Births.{birth_of}
 use Rattle.tag_loader.specs.Start.{memory_of, start_harts, start_machine, start_ram, start_tags}
@@ -41,29 +42,29 @@ is_safe = run_is_safe all_four image (tape_of []) (map turn harts) is_image
 
 -- every turn retires
 pub all_retire : map is_retirement events ≡ replicate 31 true
-unfolding event_of turn_of attempt preparation rule_answer turn_job service_on job_at core_served core_effected carried_at service_job effect_result look_result instr_of_word birth_of memory_of start_harts start_machine start_ram start_tags first_fit
+unfolding event_of turn_of attempt preparation peeked rule_answer turn_job service_on job_at core_served core_effected carried_at service_job effect_result look_result instr_of_word birth_of memory_of start_harts start_machine start_ram start_tags first_fit
 all_retire = refl
 
 pub keys_are : key_book (events_by seal_lens events) ≡ keys
-unfolding key_book event_of turn_of attempt preparation rule_answer turn_job service_on job_at core_served core_effected carried_at service_job effect_result look_result instr_of_word birth_of memory_of start_harts start_machine start_ram start_tags first_fit
+unfolding key_book event_of turn_of attempt preparation peeked rule_answer turn_job service_on job_at core_served core_effected carried_at service_job effect_result look_result instr_of_word birth_of memory_of start_harts start_machine start_ram start_tags first_fit
 keys_are = refl
 
 pub shared_is : owner_book (birth_of image) (events_by comp_lens events) 56 ≡ shared
-unfolding owner_book event_of turn_of attempt preparation rule_answer turn_job service_on job_at core_served core_effected carried_at service_job effect_result look_result instr_of_word birth_of memory_of start_harts start_machine start_ram start_tags first_fit
+unfolding owner_book event_of turn_of attempt preparation peeked rule_answer turn_job service_on job_at core_served core_effected carried_at service_job effect_result look_result instr_of_word birth_of memory_of start_harts start_machine start_ram start_tags first_fit
 shared_is = refl
 
 pub walk_is : walk_of 1 (events_by flow_lens events) ≡ second_walk
-unfolding walk_of event_of turn_of attempt preparation rule_answer turn_job service_on job_at core_served core_effected carried_at service_job effect_result look_result instr_of_word birth_of memory_of start_harts start_machine start_ram start_tags first_fit
+unfolding walk_of event_of turn_of attempt preparation peeked rule_answer turn_job service_on job_at core_served core_effected carried_at service_job effect_result look_result instr_of_word birth_of memory_of start_harts start_machine start_ram start_tags first_fit
 walk_is = refl
 
 pub jump_is : slice_get (walk_of 0 (events_by flow_lens events)) 22 ≡ Some jump
-unfolding walk_of event_of turn_of attempt preparation rule_answer turn_job service_on job_at core_served core_effected carried_at service_job effect_result look_result instr_of_word birth_of memory_of start_harts start_machine start_ram start_tags first_fit
+unfolding walk_of event_of turn_of attempt preparation peeked rule_answer turn_job service_on job_at core_served core_effected carried_at service_job effect_result look_result instr_of_word birth_of memory_of start_harts start_machine start_ram start_tags first_fit
 jump_is = refl
 
 pub landing_is : slice_get (walk_of 0 (events_by flow_lens events)) 23 ≡ Some landing
-unfolding walk_of event_of turn_of attempt preparation rule_answer turn_job service_on job_at core_served core_effected carried_at service_job effect_result look_result instr_of_word birth_of memory_of start_harts start_machine start_ram start_tags first_fit
+unfolding walk_of event_of turn_of attempt preparation peeked rule_answer turn_job service_on job_at core_served core_effected carried_at service_job effect_result look_result instr_of_word birth_of memory_of start_harts start_machine start_ram start_tags first_fit
 landing_is = refl
 
 pub blocks_are : block_book (events_by heap_lens events) ≡ blocks
-unfolding block_book event_of turn_of attempt preparation rule_answer turn_job service_on job_at core_served core_effected carried_at service_job effect_result look_result instr_of_word birth_of memory_of start_harts start_machine start_ram start_tags first_fit
+unfolding block_book event_of turn_of attempt preparation peeked rule_answer turn_job service_on job_at core_served core_effected carried_at service_job effect_result look_result instr_of_word birth_of memory_of start_harts start_machine start_ram start_tags first_fit
 blocks_are = refl

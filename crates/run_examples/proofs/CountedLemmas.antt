@@ -3,6 +3,7 @@ use Rattle.std.proofs.Common.{◌≡◌, true, false, [], None, Some, ap, map, r
 use Rattle.turn_steps.specs.Effects.{effect_result}
 use Rattle.turn_steps.specs.Feeds.{tape_of}
 use Rattle.turn_steps.specs.Looks.{look_result}
+use Rattle.turn_steps.specs.Peeks.{peeked}
 use Rattle.rv_decode.specs.Decoding.{instr_of_word}
 use Rattle.live_blocks.specs.Space.{first_fit}
 use Rattle.monitor_calls.specs.Service.{service_job}
@@ -23,28 +24,28 @@ use Rattle.run_examples.specs.Example.{events, harts}
 
 -- sixteen words are enough without a sweep
 end_within : is_over (end_unswept 16) ≡ false
-unfolding unswept_after look_counted turn_of attempt preparation rule_answer turn_job service_on job_at core_served core_effected carried_at service_job effect_result look_result instr_of_word birth_of memory_of start_harts start_machine start_ram start_tags first_fit
+unfolding unswept_after look_counted turn_of attempt preparation peeked rule_answer turn_job service_on job_at core_served core_effected carried_at service_job effect_result look_result instr_of_word birth_of memory_of start_harts start_machine start_ram start_tags first_fit
 end_within = refl
 
 pub is_never_over : IsNeverOver all_eq all (start_standing 16) (tape_of []) (map turn harts)
 is_never_over = never_over all_eq all (start_standing 16) (tape_of []) (map turn harts) end_within
 
 pub counts_are : counts_of (engine_run 16).account ≡ counted 31 18 13 0
-unfolding step account_after_turn rule_counted service_counted look_counted event_of turn_of attempt preparation rule_at rule_answer turn_job service_on job_at core_served core_effected carried_at service_job effect_result look_result instr_of_word birth_of memory_of start_harts start_machine start_ram start_tags first_fit
+unfolding step account_after_turn rule_counted service_counted look_counted event_of turn_of attempt preparation peeked rule_at rule_answer turn_job service_on job_at core_served core_effected carried_at service_job effect_result look_result instr_of_word birth_of memory_of start_harts start_machine start_ram start_tags first_fit
 counts_are = refl
 
 -- and fifteen are not
 pub one_less : is_over (end_unswept 15) ≡ true
-unfolding unswept_after look_counted turn_of attempt preparation rule_answer turn_job service_on job_at core_served core_effected carried_at service_job effect_result look_result instr_of_word birth_of memory_of start_harts start_machine start_ram start_tags first_fit
+unfolding unswept_after look_counted turn_of attempt preparation peeked rule_answer turn_job service_on job_at core_served core_effected carried_at service_job effect_result look_result instr_of_word birth_of memory_of start_harts start_machine start_ram start_tags first_fit
 one_less = refl
 
 -- thirteen are, with sweeps
 pub swept_counts : counts_of (engine_run 13).account ≡ counted 31 15 16 2
-unfolding step account_after_turn rule_counted service_counted look_counted event_of turn_of attempt preparation rule_at rule_answer turn_job service_on job_at core_served core_effected carried_at service_job effect_result look_result instr_of_word birth_of memory_of start_harts start_machine start_ram start_tags first_fit
+unfolding step account_after_turn rule_counted service_counted look_counted event_of turn_of attempt preparation peeked rule_at rule_answer turn_job service_on job_at core_served core_effected carried_at service_job effect_result look_result instr_of_word birth_of memory_of start_harts start_machine start_ram start_tags first_fit
 swept_counts = refl
 
 swept_runs : (engine_run 13).account.halt ≡ None
-unfolding step account_after_turn rule_counted service_counted look_counted event_of turn_of attempt preparation rule_at rule_answer turn_job service_on job_at core_served core_effected carried_at service_job effect_result look_result instr_of_word birth_of memory_of start_harts start_machine start_ram start_tags first_fit
+unfolding step account_after_turn rule_counted service_counted look_counted event_of turn_of attempt preparation peeked rule_at rule_answer turn_job service_on job_at core_served core_effected carried_at service_job effect_result look_result instr_of_word birth_of memory_of start_harts start_machine start_ram start_tags first_fit
 swept_runs = refl
 
 pub swept_events : (engine_run 13).trace.events ≡ events
@@ -52,9 +53,9 @@ swept_events = ap (λ (trace : Trace AllState AllTag). trace.events) (along_mach
 
 -- and twelve are not
 pub out_counts : counts_of (engine_run 12).account ≡ counted 13 9 5 2
-unfolding step account_after_turn rule_counted service_counted look_counted event_of turn_of attempt preparation rule_at rule_answer turn_job service_on job_at core_served core_effected carried_at service_job effect_result look_result instr_of_word birth_of memory_of start_harts start_machine start_ram start_tags first_fit
+unfolding step account_after_turn rule_counted service_counted look_counted event_of turn_of attempt preparation peeked rule_at rule_answer turn_job service_on job_at core_served core_effected carried_at service_job effect_result look_result instr_of_word birth_of memory_of start_harts start_machine start_ram start_tags first_fit
 out_counts = refl
 
 pub out_halt : (engine_run 12).account.halt ≡ Some halt.TagNumbers
-unfolding step account_after_turn rule_counted service_counted look_counted event_of turn_of attempt preparation rule_at rule_answer turn_job service_on job_at core_served core_effected carried_at service_job effect_result look_result instr_of_word birth_of memory_of start_harts start_machine start_ram start_tags first_fit
+unfolding step account_after_turn rule_counted service_counted look_counted event_of turn_of attempt preparation peeked rule_at rule_answer turn_job service_on job_at core_served core_effected carried_at service_job effect_result look_result instr_of_word birth_of memory_of start_harts start_machine start_ram start_tags first_fit
 out_halt = refl

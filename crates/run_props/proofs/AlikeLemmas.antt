@@ -3,6 +3,7 @@ use Rattle.std.proofs.Common.{◌≡◌, ◌⊎◌, inl, inr, ℕ, zero, suc, �
 use Rattle.std.specs.List.{AllByRecursion}
 use Rattle.policy_trait.specs.Model.{PolicyModel}
 use Rattle.policy_trait.specs.declared.rules.Ins.{Ins}
+use Rattle.policy_trait.specs.declared.rules.Shape.{Shape}
 use Rattle.policy_trait.specs.declared.rules.Outs.{Outs}
 use Rattle.policy_trait.specs.declared.services.Args.{Args}
 use Rattle.policy_trait.specs.declared.services.Plan.{Plan}
@@ -16,6 +17,7 @@ use Rattle.monitor_calls.specs.Service.{Job, job_of, new_tags, new_word, retagge
 use Rattle.tag_memory.specs.Ram.{ram_tag, ram_word}
 use Rattle.turn_steps.specs.Feeds.{Tape, with_fed}
 use Rattle.turn_steps.specs.Looks.{is_call, look_result}
+use Rattle.turn_steps.specs.Peeks.{peeked}
 use Rattle.turn_steps.specs.Services.{args_on}
 use Rattle.turn_steps.specs.declared.look.Look.{Look}
 use Rattle.turn_steps.specs.declared.stop.Stop.{Stop}
@@ -35,6 +37,7 @@ IsSameOrSpent service number first second = ((number ≡ service) × (first ≡ 
 -- what a turn asks of a policy has the same answers under both values, but that the service may be spent under the first
 pub record AnswersAlike {S T : Type 0} (m : PolicyModel T S) (service : ℕ) (s t : S) : Type 0 where
   pub rule : (g : Group) (x : Ins T) → m.rule t g x ≡ m.rule s g x
+  pub peek : (shape : Shape) (first second : T) → m.peek t shape first second ≡ m.peek s shape first second
   pub knows : (number : ℕ) → m.knows t number ≡ m.knows s number
   pub plan : (number : ℕ) (a : Args T) (pc : T) → IsSameOrSpent service number (m.plan s number a pc) (m.plan t number a pc)
   pub retag : (p : Plan T) (old : T) → m.retag t p old ≡ m.retag s p old
@@ -66,7 +69,9 @@ module _ {S T : Type 0} (m : PolicyModel T S) (service : ℕ) (Alike : S → S �
 
     prepared_alike : (h : ℕ) → preparation m second h ≡ preparation m first h
     unfolding preparation
-    prepared_alike h = ap (λ (offered : Look → Result Look Stop). or_fault (look_result (hart_at core h) core.ram) >>= offered) (λ j look. looked_alike look j)
+    prepared_alike h = λ j.
+        or_violation (hart_at core h).pc (peeked (λ shape x y. all_answers.peek shape x y j) (hart_at core h) core.ram) >>= λ seen.
+        or_fault (look_result (hart_at core h) core.ram) >>= λ look. looked_alike look j
 
     ruled_alike : (h : ℕ) (look : Look) → rule_answer m second h look ≡ rule_answer m first h look
     unfolding rule_answer

@@ -144,9 +144,10 @@ module _ (limit : ℕ) (seal : Maybe ℕ) (rest : Maybe (List (ℕ × ℕ)) × M
         (same_by number beside own wide_own (others_same (args_by right a) pc.1)))
 
   answers_at : (part : Option CompartmentState) → LimitFits limit part → AnswersAlike all split_service (state_with part) (with_limit limit (state_with part))
-  answers_at None fits = record { rule = λ g x. refl; knows = λ number. refl; plan = λ number a pc. inr refl; retag = λ p old. refl }
+  answers_at None fits = record { rule = λ g x. refl; peek = λ shape x y. refl; knows = λ number. refl; plan = λ number a pc. inr refl; retag = λ p old. refl }
   answers_at (Some state) fits = record {
     rule = λ g x. refl;
+    peek = λ shape x y. refl;
     knows = λ number. refl;
     plan = λ number a pc. all_same state fits number a pc;
     retag = λ p old. refl;

@@ -1,4 +1,5 @@
 pub mod Attacks
+pub mod Beside
 pub mod Ends
 pub mod EngineRuns
 pub mod Invariant

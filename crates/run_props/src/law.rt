@@ -1,6 +1,6 @@
 //! Laws on runs.
 
-ghost use Rattle.std.specs.Prelude.{◌≡◌, ℕ, ◌+◌, List, [], All, map, None, Some, false, true};
+ghost use Rattle.std.specs.Prelude.{◌≡◌, ◌≤◌, ℕ, ◌+◌, List, [], All, map, None, Some, false, true};
 ghost use Rattle.image_format.specs.Conditions.{IsImage};
 ghost use Rattle.image_format.specs.Migrated.{migrated};
 ghost use Rattle.image_format.specs.Picture.{Picture};
@@ -34,6 +34,7 @@ ghost use Rattle.flow_runs.specs.FlowInvariant.{FlowInvariant};
 ghost use Rattle.heap_runs.specs.BlockBook.{block_book};
 ghost use Rattle.heap_runs.specs.HeapInvariant.{HeapInvariant};
 ghost use Rattle.run_props.specs.Attacks.{GoesAstray, MissesBlock, Trespasses, UnsealsWithoutKey, WouldZero};
+ghost use Rattle.run_props.specs.Beside.{beside, beside_start, seen_by_four};
 ghost use Rattle.run_props.specs.Ends.{IsStopped};
 ghost use Rattle.run_props.specs.Invariant.{MeetsInvariant};
 ghost use Rattle.run_props.specs.Migration.{IsUnspent, widened_start};
@@ -91,6 +92,14 @@ pub fn run_law()
     ensures { (basis : Basis) (g : Picture) (feed : Tape) (items : List Item) → IsImage g
         → IsSafe basis g
         (run_along all (start_machine all (choice_state basis g) g) feed items).events }
+{}
+
+/// Whatever policy stands beside the four, asked last, each run of an image keeps what is said of each chosen one of the four.
+pub fn beside_law<Q: Policy>()
+    ensures { (basis : Basis) (g : Picture) (own : Q) (feed : Tape) (items : List Item) → IsImage g
+        → Q.holds own → Q.model.room own ≤ g.ram
+        → IsSafe basis g (seen_by_four
+        (run_along (beside Q.model) (beside_start Q.model basis g own) feed items).events) }
 {}
 
 /// In each state that a run comes to, the tags say of the places what the books say of the events: it is one of which the

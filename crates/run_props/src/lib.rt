@@ -7,7 +7,7 @@
 mod law;
 
 pub use law::{
-    comp_attack_law, comp_law, engine_law, flow_attack_law, flow_law, heap_attack_law, heap_law,
-    invariant_law, migration_law, parts_law, run_law, seal_attack_law, seal_law, sweep_law,
-    zeroing_law,
+    beside_law, comp_attack_law, comp_law, engine_law, flow_attack_law, flow_law, heap_attack_law,
+    heap_law, invariant_law, migration_law, parts_law, run_law, seal_attack_law, seal_law,
+    sweep_law, zeroing_law,
 };

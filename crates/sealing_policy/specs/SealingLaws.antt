@@ -164,10 +164,13 @@ uses_by false = omega arith
 pub sealing_laws : KeepsLaws sealing HasFewKeys
 sealing_laws = record {
   masks = λ keys g x. rule_masked g x;
+  unpeeked = λ keys shape first second none. refl;
   keeps = λ keys p given. record {
     plain = refl;
     rule = λ g x. refl;
     ignores = λ g. refl;
+    peeks = refl;
+    peek = λ shape first second. refl;
     knows = λ k. refl;
     uses = λ k. refl;
     lend = λ t. refl;

@@ -10,7 +10,7 @@ use crate::services::{MAKE_KEY, SEAL, UNSEAL, answer, seal, unseal};
 use crate::table::{is_data, refused, row_of};
 use crate::tag::SealTag;
 use policy_trait::{
-    Args, Birth, Ins, InsAt, Mask, Outs, Part, Plan, PlanEnd, Policy, Refused, Rest, Why,
+    Args, Birth, Ins, InsAt, Mask, Outs, Part, Plan, PlanEnd, Policy, Refused, Rest, Shape, Why,
 };
 use pump_words::{Line, dec, write_text};
 use rv_decode::Group;
@@ -91,6 +91,14 @@ impl Policy for Sealing {
 
     fn ignores(&self, group: Group) -> Mask {
         row_of(group).mask()
+    }
+
+    fn peeks(&self) -> bool {
+        false
+    }
+
+    fn peek(&self, _shape: Shape, _first: &SealTag, _second: &SealTag) -> Result<(), Refused> {
+        Ok(())
     }
 
     fn knows(&self, number: u32) -> bool {

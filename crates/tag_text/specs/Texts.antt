@@ -7,7 +7,7 @@ use Rattle.rv_decode.specs.declared.groups.Group.TheVariants as group
 use Rattle.rv_step.specs.declared.faults.Fault.{Fault}
 use Rattle.rv_step.specs.declared.faults.Fault.TheVariants.{Fetch, Illegal, LoadAlign, StoreAlign, LoadRange, StoreRange, JumpAlign, NoService, Spent}
 use Rattle.policy_trait.specs.declared.rules.Part.{Part}
-use Rattle.policy_trait.specs.declared.rules.Part.TheVariants.{Seal, Comp, Flow, Heap, Own}
+use Rattle.policy_trait.specs.declared.rules.Part.TheVariants.{Seal, Comp, Flow, Heap, Secret, Own}
 use Rattle.policy_trait.specs.declared.rules.Why.{Why}
 use Rattle.policy_trait.specs.declared.rules.Why.TheVariants as why
 use Rattle.turn_steps.specs.declared.stop.Stop.{Stop}
@@ -47,6 +47,7 @@ part_text Seal = codes "seal"
 part_text Comp = codes "comp"
 part_text Flow = codes "flow"
 part_text Heap = codes "heap"
+part_text Secret = codes "secret"
 part_text Own = codes "own"
 
 -- why a policy refused
@@ -59,6 +60,7 @@ why_text why.WrongKey = codes "wrongkey"
 why_text why.NotLive = codes "notlive"
 why_text why.Lend = codes "lend"
 why_text why.Consent = codes "consent"
+why_text why.Peek = codes "peek"
 
 -- addresses and words are eight hexadecimal digits in upper case, numbers of services decimal
 abbrev pub fault_text : Fault → List ℕ

@@ -101,15 +101,16 @@ pub fn write_number(line: &mut Line, text: &[u8], number: u64)
 
 /// Appends a policy's name.
 fn write_part(line: &mut Line, part: Part)
-    requires { array_vec_len line.old + 4 ≤ 512 }
+    requires { array_vec_len line.old + 6 ≤ 512 }
     ensures text { line.new.items ≡ line.old.items ++ part_text part }
-    ensures short { array_vec_len line.new ≤ array_vec_len line.old + 4 }
+    ensures short { array_vec_len line.new ≤ array_vec_len line.old + 6 }
 {
     match part {
         Part::Seal => write_text(line, b"seal"),
         Part::Comp => write_text(line, b"comp"),
         Part::Flow => write_text(line, b"flow"),
         Part::Heap => write_text(line, b"heap"),
+        Part::Secret => write_text(line, b"secret"),
         Part::Own => write_text(line, b"own"),
     }
 }
@@ -133,6 +134,7 @@ fn write_why(line: &mut Line, why: Why)
         Why::NotLive => write_text(line, b"notlive"),
         Why::Lend => write_text(line, b"lend"),
         Why::Consent => write_text(line, b"consent"),
+        Why::Peek => write_text(line, b"peek"),
     }
 }
 

@@ -39,10 +39,13 @@ rule_masked = elim [
 pub taint_laws : KeepsLaws taint HoldsAlways
 taint_laws = record {
   masks = λ policy g x. rule_masked g x;
+  unpeeked = λ policy shape first second none. refl;
   keeps = λ policy p given. record {
     plain = refl;
     rule = λ g x. refl;
     ignores = λ g. refl;
+    peeks = refl;
+    peek = λ shape first second. refl;
     knows = λ k. refl;
     uses = λ k. refl;
     lend = λ t. refl;

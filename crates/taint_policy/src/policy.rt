@@ -5,7 +5,9 @@ ghost use Rattle.taint_policy.specs.Taint.{taint};
 
 use crate::table::{refusal, row_of};
 use crate::tag::TaintTag;
-use policy_trait::{Args, Birth, Ins, Mask, Outs, Part, Plan, PlanEnd, Policy, Refused, Why};
+use policy_trait::{
+    Args, Birth, Ins, Mask, Outs, Part, Plan, PlanEnd, Policy, Refused, Shape, Why,
+};
 use pump_words::{Line, write_text};
 use rv_decode::Group;
 use std::alloc::AllocError;
@@ -47,6 +49,14 @@ impl Policy for Taint {
 
     fn ignores(&self, group: Group) -> Mask {
         row_of(group).mask()
+    }
+
+    fn peeks(&self) -> bool {
+        false
+    }
+
+    fn peek(&self, _shape: Shape, _first: &TaintTag, _second: &TaintTag) -> Result<(), Refused> {
+        Ok(())
     }
 
     fn knows(&self, _number: u32) -> bool {

@@ -2,6 +2,7 @@ pub mod InstrLemmas
 pub mod KeptLemmas
 pub mod LookLemmas
 pub mod MapLemmas
+pub mod PeekLemmas
 pub mod PlaceLemmas
 pub mod RowLemmas
 pub mod StepLemmas

@@ -20,6 +20,7 @@ ghost use Rattle.turn_steps.specs.Effects.{IsCarriedOf, IsSound, effect_result, 
 ghost use Rattle.turn_steps.specs.Feeds.{Tape};
 ghost use Rattle.turn_steps.specs.Looks.{inputs_at, inputs_on, look_result};
 ghost use Rattle.turn_steps.specs.Maps.{carry_by};
+ghost use Rattle.turn_steps.specs.Peeks.{Peek, peek_by, peeked};
 ghost use Rattle.turn_steps.specs.Services.{WritesRow, with_answer, with_words};
 ghost use Rattle.turn_steps.specs.Values.{GivesWords, HartHasWords, IsWord, LeavesWords, RamHasWords};
 ghost use Rattle.turn_steps.specs.declared.look.Look.{Look};
@@ -72,10 +73,13 @@ pub fn values_law<T: Copy>()
         → All (λ word. IsWord word.1) words → RamHasWords ram → RamHasWords (with_words ram words) }
 {}
 
-/// A change of each tag leaves what is looked at, and goes through what the rule is asked with and through the effect.
+/// A change of each tag leaves what is looked at, and goes through what whoever may refuse a look is asked with, through what the rule is
+/// asked with and through the effect.
 pub fn map_law<T: Copy, U: Copy>()
     ensures looked { (f : T → U) (hart : HartState T) (ram : RamState T)
         → look_result (hart_by f hart) (ram_by f ram) ≡ look_result hart ram }
+    ensures peeked { (f : T → U) (peek : Peek U) (hart : HartState T) (ram : RamState T)
+        → peeked peek (hart_by f hart) (ram_by f ram) ≡ peeked (peek_by f peek) hart ram }
     ensures asked { (f : T → U) (hart : HartState T) (ram : RamState T) (places : Places)
         (access : Access) → inputs_on (hart_by f hart) (ram_by f ram) places access
         ≡ ins_by f (inputs_on hart ram places access) }

@@ -69,6 +69,11 @@ const REFUSALS: &[(Part, Why, &[u8])] = &[
         b"stop 3 violation heap notlive pc 0000001C\n",
     ),
     (
+        Part::Secret,
+        Why::Peek,
+        b"stop 3 violation secret peek pc 0000001C\n",
+    ),
+    (
         Part::Own,
         Why::Lend,
         b"stop 3 violation own lend pc 0000001C\n",

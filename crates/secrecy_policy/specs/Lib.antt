@@ -1,0 +1,3 @@
+pub mod Secrecy
+pub mod SecrecyLaws
+pub mod TextLaws

@@ -1,0 +1,3 @@
+mod AccountLemmas
+mod HiddenLemmas
+mod StartLemmas

@@ -1,0 +1,11 @@
+pub mod AccountLemmas
+pub mod BothLemmas
+pub mod CarryLemmas
+pub mod EffectLemmas
+pub mod LookLemmas
+pub mod RoundsLemmas
+pub mod RunLemmas
+pub mod SecrecyLemmas
+pub mod ServiceLemmas
+pub mod TurnLemmas
+pub mod ValueLemmas

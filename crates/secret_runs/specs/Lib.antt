@@ -1,0 +1,5 @@
+pub mod Alike
+pub mod Hides
+pub mod Outlines
+pub mod Pairs
+pub mod Same
