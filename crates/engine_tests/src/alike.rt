@@ -142,8 +142,18 @@ fn run_both(
     cache: u32,
 ) -> Result<Result<(bool, bool), &'static str>, Fail> {
     let mut plain = start_under(alloc, Sealing::new(), image)?;
+    run_beside(alloc, &mut plain, image, cache)
+}
+
+/// Runs the image beside this engine on one that keeps `cache` rules, as `run_alike` does.
+fn run_beside<E: Engine<P = Sealing>>(
+    alloc: Global,
+    plain: &mut E,
+    image: &Image,
+    cache: u32,
+) -> Result<Result<(bool, bool), &'static str>, Fail> {
     let mut kept = keeping(alloc, Sealing::new(), image, cache, 65_536)?;
-    Ok(run_alike(alloc, &mut plain, &mut kept))
+    Ok(run_alike(alloc, plain, &mut kept))
 }
 
 #[test]

@@ -103,6 +103,32 @@ const ROWS: &[Row] = &[
     ((0, 1, 1), Ok((4, 5)), 7, 7),
 ];
 
+/// The place of the first question that is answered otherwise, or leaves others tags or another count of askings.
+fn first_wrong<T: TagTable<Tag = u32>, C: RuleStore, R: Rules<Tag = u32> + Drop>(
+    desk: &mut Desk<T, C, R>,
+    policy: &Toy,
+) -> Option<usize> {
+    for (at, row) in ROWS.iter().enumerate() {
+        if !is_answered(desk, policy, row) {
+            return Some(at);
+        }
+    }
+    None
+}
+
+/// Whether a question is answered so, and leaves so many tags and askings.
+fn is_answered<T: TagTable<Tag = u32>, C: RuleStore, R: Rules<Tag = u32> + Drop>(
+    desk: &mut Desk<T, C, R>,
+    policy: &Toy,
+    &(words, answer, len, asked): &Row,
+) -> bool {
+    let answer = answer.map(|(pc, written)| OutWords {
+        pc,
+        result: written,
+    });
+    desk.ask(words) == Some(answer) && desk.tags.len() == len && policy.asked.get() == asked
+}
+
 #[test]
 fn questions_in_order(rt: HostRuntime) -> Result<(), Fail> {
     let policy = Toy::new(3);
@@ -111,15 +137,7 @@ fn questions_in_order(rt: HostRuntime) -> Result<(), Fail> {
     for (tag, word) in [(7, 1), (9, 2), (8, 3)] {
         assert!(rt; desk.number(tag) == Some(word));
     }
-    for (at, &(words, answer, len, asked)) in ROWS.iter().enumerate() {
-        let answer = answer.map(|(pc, written)| OutWords {
-            pc,
-            result: written,
-        });
-        assert!(rt; desk.ask(words) == Some(answer), "question {at}");
-        assert_eq!(rt; desk.tags.len(), len, "question {at}");
-        assert_eq!(rt; policy.asked.get(), asked, "question {at}");
-    }
+    assert_eq!(rt; first_wrong(&mut desk, &policy), None);
     assert_eq!(rt; desk.store.hits(), 3);
     assert_eq!(rt; desk.store.misses(), 7);
     Ok(())

@@ -1,8 +1,11 @@
 //! What engines count, and how often their policy is asked.
 
+ghost use Rattle.std.specs.Prelude.{◌≤◌};
+
 use crate::images::{image_of, keeping, turn_of};
 use crate::toy::Toy;
 use engine_trait::{Counts, Engine, Feed};
+use image_format::Image;
 use std::alloc::Global;
 use std::test::Fail;
 use tag_loader::start_under;
@@ -61,9 +64,10 @@ const COUNT_ROWS: &[CountRow] = &[
 ];
 
 /// The counts after so many turns of hart 0, and how often the policy was asked.
-fn counts_after<E: Engine<P = Toy>>(engine: &mut E, feed: &mut Feed, turns: u32) -> (Counts, u64) {
+fn counts_after<E: Engine<P = Toy>>(alloc: Global, engine: &mut E, turns: u32) -> (Counts, u64) {
+    let mut feed = Feed::new(alloc);
     for _ in 0..turns {
-        turn_of(engine, feed, 0);
+        turn_of(engine, &mut feed, 0);
     }
     (engine.counts(), engine.policy().asked.get())
 }
@@ -74,13 +78,27 @@ fn counts_of(alloc: Global, row: &CountRow) -> Result<(Counts, u64), Fail> {
     if image.ram() < 12 {
         return Err("no room")?;
     }
-    let mut feed = Feed::new(alloc);
     if row.cache == 0 {
-        let mut engine = start_under(alloc, Toy::new(0), &image)?;
-        return Ok(counts_after(&mut engine, &mut feed, row.turns));
+        counts_asked(alloc, &image, row.turns)
+    } else {
+        counts_kept(alloc, &image, row.cache, row.turns)
     }
-    let mut engine = keeping(alloc, Toy::new(0), &image, row.cache, 8)?;
-    Ok(counts_after(&mut engine, &mut feed, row.turns))
+}
+
+/// The same of an image on the engine without kept rules.
+fn counts_asked(alloc: Global, image: &Image, turns: u32) -> Result<(Counts, u64), Fail>
+    requires { 12 ≤ image.now.ram }
+{
+    let mut engine = start_under(alloc, Toy::new(0), image)?;
+    Ok(counts_after(alloc, &mut engine, turns))
+}
+
+/// The same on the engine that keeps `cache` rules.
+fn counts_kept(alloc: Global, image: &Image, cache: u32, turns: u32) -> Result<(Counts, u64), Fail>
+    requires { 12 ≤ image.now.ram }
+{
+    let mut engine = keeping(alloc, Toy::new(0), image, cache, 8)?;
+    Ok(counts_after(alloc, &mut engine, turns))
 }
 
 #[test]

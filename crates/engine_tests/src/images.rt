@@ -46,8 +46,10 @@ pub(crate) fn keeping<P: Policy>(
     if cache == 0 || limit == 0 {
         return Err("no room")?;
     }
-    let started = start_cached(alloc, policy, image, 1, cache, limit);
-    Ok(started.ok().ok_or("no engine")?)
+    let Ok(engine) = start_cached(alloc, policy, image, 1, cache, limit) else {
+        return Err(Fail::from("no engine"));
+    };
+    Ok(engine)
 }
 
 /// A turn of that hart, `None` where there is none.

@@ -11,6 +11,8 @@ mod births;
 #[cfg(test)]
 mod counts;
 #[cfg(test)]
+mod ends;
+#[cfg(test)]
 mod images;
 #[cfg(test)]
 mod products;

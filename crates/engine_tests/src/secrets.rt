@@ -1,18 +1,15 @@
 //! The policy of secrecy under both engines, alone and beside sealing: programs that would tell a secret byte are stopped where they
 //! would, and whatever the byte is, they stop alike.
 
-ghost use Rattle.std.specs.Prelude.{◌≡◌};
-
-use crate::images::{image_of, keeping, turn_of};
-use engine_trait::{Engine, Feed, Stop};
+use crate::ends::{End, end_under};
+use engine_trait::{Feed, Stop};
 use policy_product::Both;
-use policy_trait::{Part, Policy, Why};
+use policy_trait::{Part, Why};
 use rv_decode::Group;
 use sealing_policy::Sealing;
 use secrecy_policy::Secrecy;
 use std::alloc::Global;
 use std::test::Fail;
-use tag_loader::start_under;
 
 /// A program of one hart, how many turns it has, and how it stops then.
 struct SecretRow {
@@ -66,49 +63,33 @@ const SECRET_ROWS: &[SecretRow] = &[
     },
 ];
 
-/// The pc and the stop of hart 0 after so many turns of it.
-fn end_after<E: Engine>(alloc: Global, engine: &mut E, turns: u32) -> Option<(u32, Option<Stop>)> {
+/// Where the row's program ends that this byte is answered, on an engine that keeps `cache` rules.
+fn end_of(alloc: Global, byte: u8, cache: u32, row: &SecretRow) -> Result<End, Fail> {
+    let policy = Secrecy::new(alloc, &[byte])?;
     let mut feed = Feed::new(alloc);
-    for _ in 0..turns {
-        turn_of(engine, &mut feed, 0);
-    }
-    if engine.harts() == 0 {
-        return None;
-    }
-    Some((engine.pc(0), engine.stop(0)))
+    end_under(alloc, policy, cache, row.words, &mut feed, row.turns)
 }
 
-/// The same of the row's program under this policy, on an engine that keeps `cache` rules (0: the engine is that without
-/// kept rules).
-#[inline(never)]
-fn end_under<P: Policy>(
-    alloc: Global,
-    policy: P,
-    cache: u32,
-    row: &SecretRow,
-) -> Result<Option<(u32, Option<Stop>)>, Fail>
-    requires { P.model.room policy ≡ 0 }
-{
-    let image = image_of(alloc, 256, &[0], row.words)?;
-    if cache == 0 {
-        let mut engine = start_under(alloc, policy, &image)?;
-        return Ok(end_after(alloc, &mut engine, row.turns));
-    }
-    let mut engine = keeping(alloc, policy, &image, cache, 65_536)?;
-    Ok(end_after(alloc, &mut engine, row.turns))
+/// The same beside sealing, on an engine that keeps 8 rules.
+fn end_beside_sealing(alloc: Global, byte: u8, row: &SecretRow) -> Result<End, Fail> {
+    let policy = Both::new(Sealing::new(), Secrecy::new(alloc, &[byte])?);
+    let mut feed = Feed::new(alloc);
+    end_under(alloc, policy, 8, row.words, &mut feed, row.turns)
+}
+
+/// Whether that is the row's stop.
+fn is_stop_of(end: End, row: &SecretRow) -> bool {
+    end.is_some_and(|(_, stop)| stop == Some(row.stop))
 }
 
 #[test]
 fn no_secret_is_told(rt: HostRuntime) -> Result<(), Fail> {
     for (at, row) in SECRET_ROWS.iter().enumerate() {
         for cache in [0, 8] {
-            let one = end_under(rt.alloc(), Secrecy::new(rt.alloc(), &[1])?, cache, row)?;
-            let four = end_under(rt.alloc(), Secrecy::new(rt.alloc(), &[4])?, cache, row)?;
+            let one = end_of(rt.alloc(), 1, cache, row)?;
+            let four = end_of(rt.alloc(), 4, cache, row)?;
             assert!(rt; one == four, "row {at}, cache {cache}");
-            assert!(rt;
-                one.is_some_and(|(_, stop)| stop == Some(row.stop)),
-                "row {at}"
-            );
+            assert!(rt; is_stop_of(one, row), "row {at}");
         }
     }
     Ok(())
@@ -118,12 +99,8 @@ fn no_secret_is_told(rt: HostRuntime) -> Result<(), Fail> {
 fn no_secret_is_told_beside_sealing(rt: HostRuntime) -> Result<(), Fail> {
     for (at, row) in SECRET_ROWS.iter().enumerate() {
         for byte in [1, 4] {
-            let policy = Both::new(Sealing::new(), Secrecy::new(rt.alloc(), &[byte])?);
-            let end = end_under(rt.alloc(), policy, 8, row)?;
-            assert!(rt;
-                end.is_some_and(|(_, stop)| stop == Some(row.stop)),
-                "row {at}"
-            );
+            let end = end_beside_sealing(rt.alloc(), byte, row)?;
+            assert!(rt; is_stop_of(end, row), "row {at}");
         }
     }
     Ok(())

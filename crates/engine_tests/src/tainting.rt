@@ -1,16 +1,13 @@
 //! The policy of taint under both engines, alone and beside sealing.
 
-ghost use Rattle.std.specs.Prelude.{◌≡◌};
-
-use crate::images::{image_of, keeping, turn_of};
-use engine_trait::{Engine, Feed, Stop};
+use crate::ends::{End, end_under};
+use engine_trait::{Feed, Stop};
 use policy_product::Both;
-use policy_trait::{Part, Policy, Why};
+use policy_trait::{Part, Why};
 use rv_decode::Group;
 use sealing_policy::Sealing;
 use std::alloc::Global;
 use std::test::Fail;
-use tag_loader::start_under;
 use taint_policy::Taint;
 
 /// A program of one hart, the byte that it can get, how many turns it has, its pc then, and the group that taint refuses
@@ -111,47 +108,24 @@ fn end_of(row: &TaintRow) -> (u32, Option<Stop>) {
     (row.pc, stop)
 }
 
-/// The pc and the stop of hart 0 after so many turns of it.
-fn end_after<E: Engine>(
-    engine: &mut E,
-    feed: &mut Feed,
-    turns: u32,
-) -> Option<(u32, Option<Stop>)> {
-    for _ in 0..turns {
-        turn_of(engine, feed, 0);
-    }
-    if engine.harts() == 0 {
-        return None;
-    }
-    Some((engine.pc(0), engine.stop(0)))
+/// Where the row's program ends under taint, on an engine that keeps `cache` rules.
+fn end_under_taint(alloc: Global, cache: u32, row: &TaintRow) -> Result<End, Fail> {
+    let mut feed = Feed::of(vec![in alloc; row.byte]?);
+    end_under(alloc, Taint, cache, row.words, &mut feed, row.turns)
 }
 
-/// The same of the row's program under this policy, on an engine that keeps `cache` rules (0: the engine is that without
-/// kept rules).
-#[inline(never)]
-fn end_under<P: Policy>(
-    alloc: Global,
-    policy: P,
-    cache: u32,
-    row: &TaintRow,
-) -> Result<Option<(u32, Option<Stop>)>, Fail>
-    requires { P.model.room policy ≡ 0 }
-{
-    let image = image_of(alloc, 256, &[0], row.words)?;
+/// The same beside sealing.
+fn end_beside_sealing(alloc: Global, cache: u32, row: &TaintRow) -> Result<End, Fail> {
+    let policy = Both::new(Sealing::new(), Taint);
     let mut feed = Feed::of(vec![in alloc; row.byte]?);
-    if cache == 0 {
-        let mut engine = start_under(alloc, policy, &image)?;
-        return Ok(end_after(&mut engine, &mut feed, row.turns));
-    }
-    let mut engine = keeping(alloc, policy, &image, cache, 65_536)?;
-    Ok(end_after(&mut engine, &mut feed, row.turns))
+    end_under(alloc, policy, cache, row.words, &mut feed, row.turns)
 }
 
 #[test]
 fn no_turn_goes_by_input(rt: HostRuntime) -> Result<(), Fail> {
     for (at, row) in TAINT_ROWS.iter().enumerate() {
         for cache in [0, 8] {
-            let end = end_under(rt.alloc(), Taint, cache, row)?;
+            let end = end_under_taint(rt.alloc(), cache, row)?;
             assert!(rt; end == Some(end_of(row)), "row {at}, cache {cache}");
         }
     }
@@ -162,7 +136,7 @@ fn no_turn_goes_by_input(rt: HostRuntime) -> Result<(), Fail> {
 fn no_turn_goes_by_input_beside_sealing(rt: HostRuntime) -> Result<(), Fail> {
     for (at, row) in TAINT_ROWS.iter().enumerate() {
         for cache in [0, 8] {
-            let end = end_under(rt.alloc(), Both::new(Sealing::new(), Taint), cache, row)?;
+            let end = end_beside_sealing(rt.alloc(), cache, row)?;
             assert!(rt; end == Some(end_of(row)), "row {at}, cache {cache}");
         }
     }

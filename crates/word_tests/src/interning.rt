@@ -1,5 +1,6 @@
 //! Words by hand, as tags come, are refused, are cut off, and are given again after a sweep.
 
+use std::alloc::{AllocError, Global};
 use std::test::Fail;
 use tag_intern::{InternEnd, Interner, TagTable, remade, renumbering};
 
@@ -10,6 +11,7 @@ enum Call {
     WordOf(u32, Option<u32>),
     TagOr(u32, u32),
     Len(u32),
+    Limit(u32),
     Cut(u32),
 }
 
@@ -48,10 +50,18 @@ const CALLS: &[Call] = &[
 #[test]
 fn words_of_tags(rt: HostRuntime) -> Result<(), Fail> {
     let mut table: Interner<u32> = Interner::made(rt.alloc(), 3)?;
-    for (at, &call) in CALLS.iter().enumerate() {
-        assert!(rt; answers_as_stated(&mut table, call), "call {at}");
-    }
+    assert_eq!(rt; first_wrong(&mut table, CALLS), None);
     Ok(())
+}
+
+/// The place of the first call that does not answer what it states.
+fn first_wrong<T: TagTable<Tag = u32>>(table: &mut T, calls: &[Call]) -> Option<usize> {
+    for (at, &call) in calls.iter().enumerate() {
+        if !answers_as_stated(table, call) {
+            return Some(at);
+        }
+    }
+    None
 }
 
 /// Whether a call answers what it states.
@@ -61,6 +71,7 @@ fn answers_as_stated<T: TagTable<Tag = u32>>(table: &mut T, call: Call) -> bool 
         Call::WordOf(tag, word) => table.word_of(&tag) == word,
         Call::TagOr(word, tag) => table.tag_or(word, OTHER) == tag,
         Call::Len(len) => table.len() == len,
+        Call::Limit(limit) => table.limit() == limit,
         Call::Cut(len) => {
             let within = len <= table.len();
             if within {
@@ -77,22 +88,50 @@ const PLAIN: u32 = 7;
 /// The words that stand somewhere: those of 4 and of the plain tag, and one that no tag has.
 const LIVE: &[u32] = &[2, 0, 2, 5];
 
+/// The calls on a table for three tags before it is swept.
+const BEFORE: &[Call] = &[
+    Call::Intern(PLAIN, Ok(0)),
+    Call::Intern(9, Ok(1)),
+    Call::Intern(4, Ok(2)),
+    Call::Intern(9, Ok(1)),
+    Call::Intern(6, Err(InternEnd::Full)),
+];
+
+/// The calls on the table that is left then.
+const AFTER: &[Call] = &[
+    Call::Len(2),
+    Call::Limit(3),
+    Call::WordOf(PLAIN, Some(0)),
+    Call::WordOf(4, Some(1)),
+];
+
 #[test]
 fn words_come_back(rt: HostRuntime) -> Result<(), Fail> {
     let mut old: Interner<u32> = Interner::made(rt.alloc(), 3)?;
-    for (tag, word) in [(PLAIN, 0), (9, 1), (4, 2), (9, 1)] {
-        assert!(rt; old.intern(tag) == Ok(word), "tag {tag}");
-    }
-    assert!(rt; old.intern(6) == Err(InternEnd::Full));
-    let Ok(mut new) = remade(rt.alloc(), &old, PLAIN, LIVE) else {
+    assert_eq!(rt; first_wrong(&mut old, BEFORE), None);
+    assert!(rt; is_swept(rt.alloc(), &old)?);
+    Ok(())
+}
+
+/// Whether a sweep leaves the tags of the live words, and gives the word of another to the next tag that comes.
+fn is_swept<T: TagTable<Tag = u32>>(alloc: Global, old: &T) -> Result<bool, Fail> {
+    let Ok(mut new) = remade(alloc, old, PLAIN, LIVE) else {
         return Err(Fail::from("no memory"));
     };
-    assert!(rt; new.len() == 2 && new.limit() == 3);
-    assert!(rt; new.word_of(&PLAIN) == Some(0));
-    assert!(rt; new.word_of(&4) == Some(1));
-    let numbers = renumbering(rt.alloc(), &old, &new, PLAIN)?;
+    Ok(
+        first_wrong(&mut new, AFTER).is_none()
+            && is_renumbered(alloc, old, &new)?
+            && new.intern(6) == Ok(2),
+    )
+}
+
+/// Whether the words of the old table have these in the new one.
+fn is_renumbered<T: TagTable<Tag = u32>>(
+    alloc: Global,
+    old: &T,
+    new: &T,
+) -> Result<bool, AllocError> {
+    let numbers = renumbering(alloc, old, new, PLAIN)?;
     // 9 stands nowhere, so that its word is another's
-    assert!(rt; numbers.as_slice() == [0, 0, 1].as_slice());
-    assert!(rt; new.intern(6) == Ok(2));
-    Ok(())
+    Ok(numbers.as_slice() == [0, 0, 1].as_slice())
 }

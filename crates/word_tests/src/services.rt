@@ -115,11 +115,9 @@ const SEEN: &[(u32, Option<(u32, u32)>)] = &[
 
 #[test]
 fn jobs_in_words(rt: HostRuntime) -> Result<(), Fail> {
-    for (at, &row) in ROWS.iter().enumerate() {
+    for (at, row) in ROWS.iter().enumerate() {
         let mut table = table_of(rt.alloc())?;
-        let job = job_of(rt.alloc(), &row)?;
-        let written = intern_job(rt.alloc(), &mut table, &job);
-        assert!(rt; is_written(&written, &row.written), "row {at}");
+        assert!(rt; is_interned(rt.alloc(), &mut table, row)?, "row {at}");
         assert!(rt; has_tags(&table, row.tags), "tags of row {at}");
     }
     Ok(())
@@ -128,15 +126,29 @@ fn jobs_in_words(rt: HostRuntime) -> Result<(), Fail> {
 #[test]
 fn memory_of_words(rt: HostRuntime) -> Result<(), Fail> {
     let table = table_of(rt.alloc())?;
-    let words = [11, 12, 13].to_vec(rt.alloc())?;
-    let tags = Pages::new(rt.alloc(), 3, 0)?
-        .extended(1, 1)?
-        .extended(2, 0)?;
-    let ram = Ram::from_parts(words, tags.extended(3, 2)?, 0);
-    for &(address, seen) in SEEN {
-        assert!(rt; seen_at(&ram, &table, address) == seen, "at {address}");
-    }
+    assert_eq!(rt; first_unseen(rt.alloc(), &table)?, None);
     Ok(())
+}
+
+/// The first address at which a service sees something else.
+fn first_unseen<T: TagTable<Tag = u32>>(
+    alloc: Global,
+    table: &T,
+) -> Result<Option<u32>, AllocError> {
+    let ram = ram_of(alloc)?;
+    for &(address, seen) in SEEN {
+        if seen_at(&ram, table, address) != seen {
+            return Ok(Some(address));
+        }
+    }
+    Ok(None)
+}
+
+/// Memory of the words 11, 12 and 13, whose tags have the words 1, 0 and 2.
+fn ram_of(alloc: Global) -> Result<Ram<u32>, AllocError> {
+    let words = [11, 12, 13].to_vec(alloc)?;
+    let tags = Pages::new(alloc, 3, 0)?.extended(1, 1)?.extended(2, 0)?;
+    Ok(Ram::from_parts(words, tags.extended(3, 2)?, 0))
 }
 
 /// A table for four tags, where 70 and 50 have words.
@@ -162,6 +174,17 @@ fn job_of(alloc: Global, row: &Row) -> Result<Job<u32>, AllocError> {
     Ok(Job { plan, words })
 }
 
+/// Whether the job of a row is written in words as the row says.
+fn is_interned<T: TagTable<Tag = u32>>(
+    alloc: Global,
+    table: &mut T,
+    row: &Row,
+) -> Result<bool, AllocError> {
+    let job = job_of(alloc, row)?;
+    let written = intern_job(alloc, table, &job);
+    Ok(is_written(&written, &row.written))
+}
+
 /// Whether a job is written as expected.
 fn is_written(written: &Result<WordJob, InternEnd>, expected: &Result<Written, InternEnd>) -> bool {
     match (written, expected) {
@@ -175,8 +198,12 @@ fn is_written(written: &Result<WordJob, InternEnd>, expected: &Result<Written, I
 
 /// Whether these tags have words, in this order, and no others.
 fn has_tags<T: TagTable<Tag = u32>>(table: &T, tags: &[u32]) -> bool {
+    for (word, tag) in tags.iter().enumerate() {
+        if table.word_of(tag) != u32::try_from(word).ok() {
+            return false;
+        }
+    }
     table.len() as usize == tags.len()
-        && tags.iter().enumerate().all(|(word, tag)| table.word_of(tag) == u32::try_from(word).ok())
 }
 
 /// What a service sees at an address, where 5 is the plain tag.
