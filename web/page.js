@@ -422,7 +422,7 @@ function heldInAddress() {
   try {
     const letters = location.hash.slice(1).replace(/-/g, "+").replace(/_/g, "/");
     const held = JSON.parse(new TextDecoder().decode(Uint8Array.from(atob(letters), (letter) => letter.charCodeAt(0))));
-    const isWhole = isText(held.s, 1 << 20) && isText(held.i, 1 << 16) && isList(held.p, 4) && isList(held.c, 256);
+    const isWhole = isText(held.s, 1 << 20) && isText(held.i, 1 << 16) && isList(held.p, 5) && isList(held.c, 256);
     return isWhole ? held : null;
   } catch {
     return null;

@@ -6,6 +6,7 @@ const POLICIES = {
   comp: { name: "compartments", page: "compartments.md", rules: "rules" },
   flow: { name: "control-flow integrity", page: "control-flow.md", rules: "rules" },
   heap: { name: "heap safety", page: "heap.md", rules: "rules" },
+  secret: { name: "secrecy", page: "secrecy.md", rules: "rules" },
 };
 
 const FAULTS = {
@@ -21,6 +22,7 @@ const FAULTS = {
 };
 
 const REFUSALS = {
+  peek: "the machine would look at a secret value, and a check that fails tells something of it",
   args: "its service was called with arguments that it doesn't take",
   range: "its service was called with words that don't lie within memory",
   notowner: "its service was called for words that the caller doesn't own",
@@ -49,6 +51,7 @@ function violationOf(hart, [part, why, , place]) {
   const group = why.match(/^rule\((\w+)\)$/);
   const reason = group ? `its row for the group ${group[1]} doesn't allow what this instruction asks` : (REFUSALS[why] ?? why);
   const text = `The policy ${policy.name} refused the instruction at ${place} of hart ${hart}: ${reason}.`;
+  if (why === "peek") return { text, page: `../docs/policies/${policy.page}#looks`, link: "Its table of looks" };
   const page = `../docs/policies/${policy.page}#${group ? policy.rules : "services"}`;
   return { text, page, link: group ? "Its table of rules" : "Its table of services" };
 }

@@ -14,17 +14,17 @@ use Rattle.policy_choice.specs.declared.basis.Basis.{Basis}
 abbrev pub all_off : AllState
 all_off = (record { part = None }, (record { part = None }, (record { part = None }, record { part = None })))
 
-off_if : (seal comp flow on_heap : Bool) (counts : CompartmentState) (edges : List (ℕ × ℕ)) (region : HeapState)
-    → (not seal && not comp && not flow && not on_heap) ≡ true
+off_if : (seal comp flow on_heap hidden : Bool) (counts : CompartmentState) (edges : List (ℕ × ℕ)) (region : HeapState)
+    → (not seal && not comp && not flow && not on_heap && not hidden) ≡ true
     → (part_if seal 0, (part_if comp counts, (part_if flow edges, part_if on_heap region))) ≡ all_off
-off_if false false false false counts edges region none = refl
-off_if true comp flow on_heap counts edges region none = absurd (cc none)
-off_if false true flow on_heap counts edges region none = absurd (cc none)
-off_if false false true on_heap counts edges region none = absurd (cc none)
-off_if false false false true counts edges region none = absurd (cc none)
+off_if false false false false hidden counts edges region none = refl
+off_if true comp flow on_heap hidden counts edges region none = absurd (cc none)
+off_if false true flow on_heap hidden counts edges region none = absurd (cc none)
+off_if false false true on_heap hidden counts edges region none = absurd (cc none)
+off_if false false false true hidden counts edges region none = absurd (cc none)
 
 pub none_is_off : (basis : Basis) (g : Picture) → is_none basis.choice ≡ true → choice_state basis g ≡ all_off
-none_is_off basis g none = off_if basis.choice.seal basis.choice.comp basis.choice.flow basis.choice.heap _ _ _ none
+none_is_off basis g none = off_if basis.choice.seal basis.choice.comp basis.choice.flow basis.choice.heap basis.choice.secret _ _ _ none
 
 mirrors_off : (s : Nothing) → Mirrors no_tag all all_off nothing s
 mirrors_off s = record {

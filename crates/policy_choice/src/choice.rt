@@ -15,6 +15,8 @@ pub struct Choice {
     pub flow: bool,
     /// Whether heap safety is.
     pub heap: bool,
+    /// Whether secrecy is.
+    pub secret: bool,
 }
 
 impl Choice {
@@ -27,6 +29,7 @@ impl Choice {
             comp: false,
             flow: false,
             heap: false,
+            secret: false,
         }
     }
 
@@ -34,7 +37,7 @@ impl Choice {
     pub fn is_none(self) -> bool
         ensures { result ≡ is_none self }
     {
-        !self.seal && !self.comp && !self.flow && !self.heap
+        !self.seal && !self.comp && !self.flow && !self.heap && !self.secret
     }
 }
 
@@ -51,7 +54,11 @@ fn times_named(list: &[u8], name: &[u8]) -> usize
 fn is_name(name: &[u8]) -> bool
     ensures { result ≡ is_name name.now }
 {
-    matches!(name, b"seal" | b"comp" | b"flow" | b"heap")
+    name == b"seal".as_slice()
+        || name == b"comp".as_slice()
+        || name == b"flow".as_slice()
+        || name == b"heap".as_slice()
+        || name == b"secret".as_slice()
 }
 
 /// Whether each part of the text between commas is the name of a policy.
@@ -61,8 +68,8 @@ fn are_names(list: &[u8]) -> bool
     list.split(|byte| *byte == b',').all(|part| is_name(part))
 }
 
-/// The choice that a text names: `none` is no policy. Any other is a list of the names `seal`, `comp`, `flow` and `heap` with
-/// commas between, in any order, none twice. `None` for any other text.
+/// The choice that a text names: `none` is no policy. Any other is a list of the names `seal`, `comp`, `flow`, `heap` and
+/// `secret` with commas between, in any order, none twice. `None` for any other text.
 pub fn read_choice(text: &[u8]) -> Option<Choice>
     ensures { result ≡ choice_of text.now }
 {
@@ -73,7 +80,8 @@ pub fn read_choice(text: &[u8]) -> Option<Choice>
     let comp = times_named(text, b"comp");
     let flow = times_named(text, b"flow");
     let heap = times_named(text, b"heap");
-    if !are_names(text) || seal > 1 || comp > 1 || flow > 1 || heap > 1 {
+    let secret = times_named(text, b"secret");
+    if !are_names(text) || seal > 1 || comp > 1 || flow > 1 || heap > 1 || secret > 1 {
         return None;
     }
     Some(Choice {
@@ -81,5 +89,6 @@ pub fn read_choice(text: &[u8]) -> Option<Choice>
         comp: comp == 1,
         flow: flow == 1,
         heap: heap == 1,
+        secret: secret == 1,
     })
 }

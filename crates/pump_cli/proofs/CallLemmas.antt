@@ -7,9 +7,10 @@ use Rattle.shared_terms.specs.Counts.{next_count}
 use Rattle.host_io.specs.Environment.{NoFault, Environment, WriteFault}
 use Rattle.image_format.specs.Picture.{Picture}
 use Rattle.image_format.specs.Spelling.{spelling}
+use Rattle.policy_choice.specs.declared.choice.Choice.{Choice}
 use Rattle.pump_line.specs.Request.{ElfTask, SaveTask}
 use Rattle.pump_line.specs.Task.{Task, disassemble, elf, load, run, save, shell}
-use Rattle.pump_cli.specs.Calls.{CallsMade, EndsAs, EndsTaken, FaultBy, FileCall, HeldAfter, IsReadAs, Load, MakesAll, Save, calls_of, calls_of_task, counted_by, held_after, with_call}
+use Rattle.pump_cli.specs.Calls.{CallsMade, EndsAs, EndsTaken, FaultBy, FileCall, HeldAfter, IsReadAs, Load, MakesAll, Save, calls_of, calls_of_task, counted_by, held_after, with_call, secret_calls}
 use Rattle.pump_cli.specs.Codes.{ReadsAll, status_of_refusal}
 use Rattle.pump_cli.specs.Facts.{AtMost, SessionFacts}
 use Rattle.pump_cli.specs.Program.{outcome_of_picture, outcome_of_saving}
@@ -64,8 +65,10 @@ count_after_load (load task) before = before
 
 -- the calls behind the first of these
 abbrev pub behind_load : Task → Result Picture Refusal → List FileCall
-behind_load (run task) read = []
-behind_load (shell task) read = []
+behind_load (run task) (Ok picture) = secret_calls task.choice task.secret
+behind_load (run task) (Err refusal) = []
+behind_load (shell task) (Ok picture) = secret_calls task.choice task.secret
+behind_load (shell task) (Err refusal) = []
 behind_load (save task) (Ok picture) = Save task.image (spelling picture) ∷ []
 behind_load (save task) (Err refusal) = []
 behind_load (elf task) (Ok picture) = Load task.tags ∷ Save task.image (spelling picture) ∷ []
@@ -76,8 +79,12 @@ behind_load (load task) read = []
 -- its call comes first
 pub load_first : (task : Task) (name : List ℕ) (read : Result Picture Refusal) → first_file task ≡ Some name
     → Load name ∷ behind_load task read ≡ calls_of_task task read
-load_first (run task) name read is = let same : task.image ≡ name = cc in ap (λ (file : List ℕ). Load file ∷ []) (sym same)
-load_first (shell task) name read is = let same : task.image ≡ name = cc in ap (λ (file : List ℕ). Load file ∷ []) (sym same)
+load_first (run task) name (Ok picture) is =
+    let same : task.image ≡ name = cc in ap (λ (file : List ℕ). Load file ∷ secret_calls task.choice task.secret) (sym same)
+load_first (run task) name (Err refusal) is = let same : task.image ≡ name = cc in ap (λ (file : List ℕ). Load file ∷ []) (sym same)
+load_first (shell task) name (Ok picture) is =
+    let same : task.image ≡ name = cc in ap (λ (file : List ℕ). Load file ∷ secret_calls task.choice task.secret) (sym same)
+load_first (shell task) name (Err refusal) is = let same : task.image ≡ name = cc in ap (λ (file : List ℕ). Load file ∷ []) (sym same)
 load_first (save task) name (Ok picture) is =
     let same : task.source ≡ name = cc in ap (λ (file : List ℕ). Load file ∷ Save task.image (spelling picture) ∷ []) (sym same)
 load_first (save task) name (Err refusal) is = let same : task.source ≡ name = cc in ap (λ (file : List ℕ). Load file ∷ []) (sym same)
@@ -121,6 +128,29 @@ refused_held (save task) refusal tells held = refl
 refused_held (elf task) refusal tells held = refl
 refused_held (disassemble task) refusal tells held = refl
 refused_held (load task) refusal tells held = refl
+
+-- ---- the load of a secret file
+
+abbrev secret_if : Bool → List ℕ → List FileCall
+secret_if chosen name = if chosen then Load name ∷ [] else []
+
+-- nothing stands behind it
+pub secret_ends_calls : (choice : Choice) (name : Option (List ℕ)) → secret_calls choice name ++ [] ≡ secret_calls choice name
+secret_ends_calls choice None = refl
+secret_ends_calls choice (Some name) = by choice.secret
+  where
+    by : (chosen : Bool) → secret_if chosen name ++ [] ≡ secret_if chosen name
+    by true = refl
+    by false = refl
+
+-- it changes nothing
+pub secret_keeps : (choice : Choice) (name : Option (List ℕ)) (tells : Bool) (names : List ℕ → Option (List ℕ)) → names ≡ held_after tells (secret_calls choice name) names
+secret_keeps choice None tells names = refl
+secret_keeps choice (Some name) tells names = by choice.secret
+  where
+    by : (chosen : Bool) → names ≡ held_after tells (secret_if chosen name) names
+    by true = refl
+    by false = refl
 
 -- ---- what was called
 
@@ -171,6 +201,28 @@ module _ {I : Type 0} (status : Status) (before after : Environment I) where
       unsaved = λ memory. held;
     }
 
+    -- so were all of them, which change nothing
+    pub loads_called : (task : Task) (read : Result Picture Refusal) (calls : List FileCall) → calls ++ [] ≡ calls_of_task task read → calls ≡ calls_of_task task read
+        → ((tells : Bool) (names : List ℕ → Option (List ℕ)) → names ≡ held_after tells calls names)
+        → IfSome (content_of task before.held) (λ content. content_read task content ≡ read) → (MakesAll status → EndsAs (Some task) read status)
+        → after.calls ≡ counted_by calls before.calls → FaultBy None status before.faults after.faults → Called (Some task) status before after
+    loads_called task read calls parts all keeps is_read ends counted faults = record {
+      calls = record {
+        read = read;
+        is_read = other_way task (content_of task before.held) read is_read;
+        ends = ends;
+        done = calls;
+        broken = None;
+        rest = [];
+        parts = parts;
+        counted = counted;
+        all = λ made. all;
+      };
+      faults = faults;
+      held = λ name failed. still name ∙ ap (λ (now : List ℕ → Option (List ℕ)). now name) (keeps before.tells before.held);
+      unsaved = λ memory. held;
+    }
+
     -- the content is refused
     pub refused_called : (task : Task) (refusal : Refusal) → IfSome (content_of task before.held) (λ content. content_read task content ≡ Err refusal)
         → (MakesAll status → (status ≡ status_of_refusal refusal) ⊎ (status ≡ statuses.PutFailed)) → after.calls ≡ count_after_load task before.calls
@@ -192,15 +244,15 @@ module _ {I : Type 0} (status : Status) (before after : Environment I) where
       unsaved = λ memory. held;
     }
 
-    -- a load behind these calls, which change nothing, failed, or memory ran out in it
-    pub load_broken : (task : Task) (done : List FileCall) (name : List ℕ) (rest : List FileCall)
-        → done ++ Load name ∷ rest ≡ calls_of_task task (read_told task (content_of task before.held))
+    -- a load behind these calls, which change nothing, failed, or memory ran out in it, where the content is read as this
+    read_broken : (task : Task) (read : Result Picture Refusal) → IsReadAs (Some task) before.held read → (done : List FileCall) (name : List ℕ) (rest : List FileCall)
+        → done ++ Load name ∷ rest ≡ calls_of_task task read
         → ((tells : Bool) (names : List ℕ → Option (List ℕ)) → names ≡ held_after tells done names) → (MakesAll status → ⊥)
         → after.calls ≡ next_count (counted_by done before.calls) → FaultBy (Some (Load name)) status before.faults after.faults → Called (Some task) status before after
-    load_broken task done name rest parts keeps not_all counted faults = record {
+    read_broken task read is_read done name rest parts keeps not_all counted faults = record {
       calls = record {
-        read = read_told task (content_of task before.held);
-        is_read = told_is_read task (content_of task before.held);
+        read = read;
+        is_read = is_read;
         ends = λ all. absurd (not_all all);
         done = done;
         broken = Some (Load name);
@@ -213,6 +265,19 @@ module _ {I : Type 0} (status : Status) (before after : Environment I) where
       held = λ name failed. still name ∙ ap (λ (now : List ℕ → Option (List ℕ)). now name) (keeps before.tells before.held);
       unsaved = λ memory. held;
     }
+
+    pub load_broken : (task : Task) (done : List FileCall) (name : List ℕ) (rest : List FileCall)
+        → done ++ Load name ∷ rest ≡ calls_of_task task (read_told task (content_of task before.held))
+        → ((tells : Bool) (names : List ℕ → Option (List ℕ)) → names ≡ held_after tells done names) → (MakesAll status → ⊥)
+        → after.calls ≡ next_count (counted_by done before.calls) → FaultBy (Some (Load name)) status before.faults after.faults → Called (Some task) status before after
+    load_broken task = read_broken task (read_told task (content_of task before.held)) (told_is_read task (content_of task before.held))
+
+    -- that of a secret file, behind that of an image which was taken
+    pub secret_broken : (task : Task) (picture : Picture) → IfSome (content_of task before.held) (λ content. content_read task content ≡ Ok picture)
+        → (image name : List ℕ) → Load image ∷ Load name ∷ [] ≡ calls_of_task task (Ok picture) → (MakesAll status → ⊥)
+        → after.calls ≡ next_count (next_count before.calls) → FaultBy (Some (Load name)) status before.faults after.faults → Called (Some task) status before after
+    secret_broken task picture taken image name parts =
+        read_broken task (Ok picture) (other_way task (content_of task before.held) (Ok picture) taken) (Load image ∷ []) name [] parts (λ tells names. refl)
 
 -- memory ran out behind these calls, which change nothing
 pub unmade_called : {I : Type 0} (task : Task) (before after : Environment I) → after.held ≡ before.held → (done rest : List FileCall)
@@ -259,7 +324,7 @@ pub record Saves {I : Type 0} (task : Task) (picture : Picture) (before after : 
   pub keeps_save : (tells : Bool) (names : List ℕ → Option (List ℕ))
       → held_after tells (Save name (spelling picture) ∷ []) names ≡ held_after tells (loads ++ Save name (spelling picture) ∷ []) names
   pub done : EndsTaken (Some task) statuses.Done
-  pub due : (input : Option (List ℕ)) → outcome_of_picture task picture input ≡ Some outcome_of_saving
+  pub due : (content : ContentOf task) (input : Option (List ℕ)) → outcome_of_picture task content picture input ≡ Some outcome_of_saving
   pub session : (status : Status) → SessionFacts task status before after
   pub unread : (status : Status) → ReadsAll task status → ⊥
 
@@ -275,7 +340,7 @@ module _ {I : Type 0} (picture : Picture) (before after : Environment I) where
     keeps = λ tells names. refl;
     keeps_save = λ tells names. refl;
     done = refl;
-    due = λ input. refl;
+    due = λ content input. refl;
     session = λ status. tt;
     unread = λ status all. all;
   }
@@ -291,7 +356,7 @@ module _ {I : Type 0} (picture : Picture) (before after : Environment I) where
     keeps = λ tells names. refl;
     keeps_save = λ tells names. refl;
     done = refl;
-    due = λ input. refl;
+    due = λ content input. refl;
     session = λ status. tt;
     unread = λ status all. all;
   }

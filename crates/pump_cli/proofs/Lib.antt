@@ -7,6 +7,7 @@ pub mod ElfLemmas
 pub mod ElfWayLemmas
 pub mod EndLemmas
 pub mod GatheringLemmas
+mod HiddenLemmas
 pub mod ListLemmas
 pub mod LoadLemmas
 pub mod LoadWayLemmas
@@ -17,6 +18,7 @@ mod OneTagRunLemmas
 pub mod RunWayLemmas
 pub mod SafeRunLemmas
 pub mod SaveWayLemmas
+pub mod SecretWayLemmas
 pub mod SessionLemmas
 mod SessionRunLemmas
 pub mod ShellWayLemmas

@@ -94,7 +94,7 @@ listed_back words task picture bytes held input are_bytes asks told read = recor
   is_due =
       ap (λ (asked : Option Task). outcome_of_words asked held input) asks
       ∙ ap (λ (content : Option (List ℕ)). outcome_of_content (disassemble task) content input) told
-      ∙ ap (λ (image : Result Picture Refusal). outcome_of_image (disassemble task) image input) read;
+      ∙ ap (λ (image : Result Picture Refusal). outcome_of_image (disassemble task) bytes image input) read;
   lines = picture_lines picture (file_is_image bytes picture are_bytes read);
   done = refl;
 }

@@ -90,4 +90,4 @@ pub load_due : (words : List (List ℕ)) (held : List ℕ → Option (List ℕ))
 unfolding program
 load_due words held input task is =
     ap (λ (asked : Option Task). outcome_of_words asked held input) is
-    ∙ ap (λ (read : Result Picture Refusal). outcome_of_image (load task) read input) (workload_read task.count (words_few words task is))
+    ∙ ap (λ (read : Result Picture Refusal). outcome_of_image (load task) (source_of_workload task.count) read input) (workload_read task.count (words_few words task is))

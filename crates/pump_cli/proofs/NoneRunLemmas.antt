@@ -18,32 +18,32 @@ use Rattle.rounds.specs.Course.{rounds}
 use Rattle.rounds.specs.Same.{ShowsSame}
 use Rattle.pump_loader.specs.PlainLoads.{start_of}
 use Rattle.cache_size.specs.declared.size.CacheSize.{CacheSize}
-use Rattle.pump_loader.specs.Loads.{cached_start_of}
+use Rattle.engine_trait.specs.Standing.{Standing}
 use Rattle.tag_loader.specs.Start.{start_hart, start_harts, start_machine, start_tag, start_tags}
-use Rattle.word_loader.specs.CachedStart.{first_tags, pc_tags}
+use Rattle.word_loader.specs.CachedStart.{cached_standing, first_tags, pc_tags}
 use Rattle.pump_cli.proofs.OneTagLemmas.{HasOneTag, with_plain}
 use Rattle.pump_cli.proofs.OneTagRunLemmas.{beside_same}
 
 -- ---- the choice of none
 
-one_tag_if : (seal comp flow on_heap : Bool) (counts : CompartmentState) (edges : List (ℕ × ℕ)) (region : HeapState)
-    → (not seal && not comp && not flow && not on_heap) ≡ true
+one_tag_if : (seal comp flow on_heap hidden : Bool) (counts : CompartmentState) (edges : List (ℕ × ℕ)) (region : HeapState)
+    → (not seal && not comp && not flow && not on_heap && not hidden) ≡ true
     → HasOneTag all_eq all (part_if seal 0, (part_if comp counts, (part_if flow edges, part_if on_heap region)))
-one_tag_if false false false false counts edges region none = record {
+one_tag_if false false false false hidden counts edges region none = record {
   same = refl;
   rule = λ g x. refl;
   offers_none = λ k. refl;
   start_pc = λ b. refl;
   start_word = λ b. refl;
 }
-one_tag_if true comp flow on_heap counts edges region none = absurd (cc none)
-one_tag_if false true flow on_heap counts edges region none = absurd (cc none)
-one_tag_if false false true on_heap counts edges region none = absurd (cc none)
-one_tag_if false false false true counts edges region none = absurd (cc none)
+one_tag_if true comp flow on_heap hidden counts edges region none = absurd (cc none)
+one_tag_if false true flow on_heap hidden counts edges region none = absurd (cc none)
+one_tag_if false false true on_heap hidden counts edges region none = absurd (cc none)
+one_tag_if false false false true hidden counts edges region none = absurd (cc none)
 
 -- its policy has one tag
 none_has_one : (basis : Basis) (g : Picture) → is_none basis.choice ≡ true → HasOneTag all_eq all (choice_state basis g)
-none_has_one basis g none = one_tag_if basis.choice.seal basis.choice.comp basis.choice.flow basis.choice.heap _ _ _ none
+none_has_one basis g none = one_tag_if basis.choice.seal basis.choice.comp basis.choice.flow basis.choice.heap basis.choice.secret _ _ _ none
 
 -- ---- the start
 
@@ -85,9 +85,13 @@ none_shows basis g s a turns from feed none policy seen some_tags runs =
       uncached = record { ways = refl; table = refl; sets = refl };
     })
 
+-- the image's start under the four, with so much room
+abbrev pub four_cached : Basis → CacheSize → ℕ → Picture → Standing AllState AllTag
+four_cached basis cache tags g = cached_standing all_eq all (choice_state basis g) g cache.sets cache.ways tags
+
 -- an engine that keeps rules, from the image's start, shows the same as one that keeps none
 pub none_runs : (basis : Basis) (cache : CacheSize) (tags : ℕ) (g : Picture) (turns from : ℕ) (feed : Tape) → is_none basis.choice ≡ true → 1 ≤ tags
-    → ShowsSame (rounds all_eq all turns from (cached_start_of basis cache tags g) feed) (rounds all_eq all turns from (start_of basis g) feed)
+    → ShowsSame (rounds all_eq all turns from (four_cached basis cache tags g) feed) (rounds all_eq all turns from (start_of basis g) feed)
 unfolding start_machine
 none_runs basis cache tags g turns from feed none some_tags =
-    none_shows basis g (start_machine all (choice_state basis g) g) (cached_start_of basis cache tags g).account turns from feed none refl (none_start basis g none) some_tags refl
+    none_shows basis g (start_machine all (choice_state basis g) g) (four_cached basis cache tags g).account turns from feed none refl (none_start basis g none) some_tags refl

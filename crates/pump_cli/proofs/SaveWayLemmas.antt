@@ -79,7 +79,7 @@ module _ {I : Type 0} (task : Task) (picture : Picture) (before after : Environm
   saved result is file others memory done rose read calls at_most input_faults puts taken input left =
       let ends = saving_ends result done rose in
       answers _ (Some task) result before after
-      (due_by_saving (λ outcome. Does outcome before.taken after.taken result) task (content_of task before.held) before.left picture (saves.due before.left) is (saving_does result done taken))
+      (due_by_saving (λ outcome. Does outcome before.taken after.taken result) task (content_of task before.held) before.left picture (λ content. saves.due content before.left) is (saving_does result done taken))
       (saving_called result is done file others memory (λ not_memory. calls (saving_no_memory result not_memory)) at_most rose read input_faults puts)
       (λ words. absurd (saving_words (status_in result) ends words)) (λ silent. taken) (λ refused. ap (λ (now : Taken). now.out) taken)
       (facts_saving task (status_in result) before after ends (saves.session (status_in result)) (saves.unread (status_in result)) input left)

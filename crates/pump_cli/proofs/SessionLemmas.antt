@@ -9,7 +9,8 @@ use Rattle.host_io.proofs.PieceLemmas.{prefix_of_more_puts, puts_then_all, puts_
 use Rattle.shell_turns.specs.Cuts.{PutsOut}
 use Rattle.shell_script.specs.Shell.{ShellFaults}
 use Rattle.pump_shell.specs.Ends.{SessionCause}
-use Rattle.pump_shell.specs.Told.{RepliesSoFarOf, Told, start_of_setup, told_of}
+use Rattle.pump_shell.specs.Told.{RepliesSoFarOf, Told, told_of, is_over_of}
+use Rattle.pump_cli.specs.Runs.{whole_of_shell}
 use Rattle.pump_shell.specs.declared.ends.SessionCut.{SessionCut}
 use Rattle.pump_shell.specs.declared.ends.SessionCut.TheVariants as session_cut
 use Rattle.pump_shell.specs.declared.ends.SessionEnd.{SessionEnd}
@@ -64,26 +65,26 @@ module _ (told : Told) (old new err_old err_new : Option (List ℕ)) where
 abbrev setup_on : ShellTask → Basis → Setup
 setup_on task basis = record { basis = basis; cache = task.cache; tags = task.tags }
 
-pub over_is : (task : ShellTask) (basis : Basis) (picture : Picture) → basis ≡ basis_of task.choice
-    → is_over (start_of_setup (setup_on task basis) picture).account ≡ is_over_at_start task picture
-over_is task basis picture is = ap (λ (on : Basis). is_over (start_of_setup (setup_on task on) picture).account) is
+pub over_is : (task : ShellTask) (basis : Basis) (secret : List ℕ) (picture : Picture) → basis ≡ basis_of task.choice
+    → is_over_of (setup_on task basis) secret picture ≡ is_over_at_start task secret picture
+over_is task basis secret picture is = ap (λ (on : Basis). is_over_of (setup_on task on) secret picture) is
 
-module _ (task : ShellTask) (basis : Basis) (basis_is : basis ≡ basis_of task.choice) (picture : Picture) (left old new : Option (List ℕ)) where
+module _ (task : ShellTask) (basis : Basis) (basis_is : basis ≡ basis_of task.choice) (secret : List ℕ) (picture : Picture) (left old new : Option (List ℕ)) where
   abbrev told_with : List ℕ → Told
-  told_with bytes = told_of (setup_on task basis) picture 16777216 bytes
+  told_with bytes = told_of (setup_on task basis) secret picture 16777216 bytes
 
-  told_is : (bytes : List ℕ) → told_with bytes ≡ told_of (setup_of task) picture 16777216 bytes
-  told_is bytes = ap (λ (on : Basis). told_of (setup_on task on) picture 16777216 bytes) basis_is
+  told_is : (bytes : List ℕ) → told_with bytes ≡ told_of (setup_of task) secret picture 16777216 bytes
+  told_is bytes = ap (λ (on : Basis). told_of (setup_on task on) secret picture 16777216 bytes) basis_is
 
   pub session_ended : (err_old err_new : Option (List ℕ)) (end : SessionEnd) (result : Result Status Cut)
       → IfSome left (λ bytes. end ≡ (told_with bytes).end) → IfSome left (λ bytes. PutsOut old new (told_with bytes).pieces (session_ok end))
       → ((out : Option (List ℕ)) → Does (outcome_of_end end) (sinks out err_old) (sinks out err_new) result)
-      → IfSome left (λ bytes. Does (outcome_of_lines task picture bytes) (sinks old err_old) (sinks new err_new) result)
+      → IfSome left (λ bytes. Does (outcome_of_lines task secret picture bytes) (sinks old err_old) (sinks new err_new) result)
   unfolding outcome_of_lines input_limit PutsOut
   session_ended err_old err_new end result is puts last = by left is puts
     where
       by : (known : Option (List ℕ)) → IfSome known (λ bytes. end ≡ (told_with bytes).end) → IfSome known (λ bytes. PutsOut old new (told_with bytes).pieces (session_ok end))
-          → IfSome known (λ bytes. Does (outcome_of_lines task picture bytes) (sinks old err_old) (sinks new err_new) result)
+          → IfSome known (λ bytes. Does (outcome_of_lines task secret picture bytes) (sinks old err_old) (sinks new err_new) result)
       by None is puts = tt
       by (Some bytes) is puts =
           subst (λ (told : Told). Does (outcome_of_told told) (sinks old err_old) (sinks new err_new) result) (told_is bytes)
@@ -92,12 +93,12 @@ module _ (task : ShellTask) (basis : Basis) (basis_is : basis ≡ basis_of task.
 
   pub session_broken : (other : Option (List ℕ)) (end : SessionCut) (cut : Cut)
       → IfSome left (λ bytes. PutsOut old new (told_with bytes).pieces (session_err end))
-      → IfSome left (λ bytes. Does (outcome_of_lines task picture bytes) (sinks old other) (sinks new other) (Err cut))
+      → IfSome left (λ bytes. Does (outcome_of_lines task secret picture bytes) (sinks old other) (sinks new other) (Err cut))
   unfolding outcome_of_lines input_limit PutsOut
   session_broken other end cut puts = by left puts
     where
       by : (known : Option (List ℕ)) → IfSome known (λ bytes. PutsOut old new (told_with bytes).pieces (session_err end))
-          → IfSome known (λ bytes. Does (outcome_of_lines task picture bytes) (sinks old other) (sinks new other) (Err cut))
+          → IfSome known (λ bytes. Does (outcome_of_lines task secret picture bytes) (sinks old other) (sinks new other) (Err cut))
       by None puts = tt
       by (Some bytes) puts =
           subst (λ (told : Told). Does (outcome_of_told told) (sinks old other) (sinks new other) (Err cut)) (told_is bytes)
@@ -108,21 +109,21 @@ module _ (task : ShellTask) (basis : Basis) (basis_is : basis ≡ basis_of task.
 
   -- one that ended with its input has read it to its end
   pub session_closed : (closed : Type 0) (end : SessionEnd) → IfSome left (λ bytes. end ≡ (told_with bytes).end) → (end ≡ session_end.InputEnd → closed)
-      → IfSome left (λ bytes. (told_of (setup_of task) picture input_limit bytes).end ≡ session_end.InputEnd → closed)
+      → IfSome left (λ bytes. (told_of (setup_of task) secret picture input_limit bytes).end ≡ session_end.InputEnd → closed)
   unfolding input_limit
   session_closed closed end is closes = by left is
     where
       by : (known : Option (List ℕ)) → IfSome known (λ bytes. end ≡ (told_with bytes).end)
-          → IfSome known (λ bytes. (told_of (setup_of task) picture 16777216 bytes).end ≡ session_end.InputEnd → closed)
+          → IfSome known (λ bytes. (told_of (setup_of task) secret picture 16777216 bytes).end ≡ session_end.InputEnd → closed)
       by None is = tt
       by (Some bytes) is = λ ended. closes (is ∙ ap (λ (told : Told). told.end) (told_is bytes) ∙ ended)
 
   -- a read of the input failed
-  pub session_replied : (left_now other : Option (List ℕ)) → RepliesSoFarOf (setup_on task basis) picture 16777216 left left_now old new
-      → RepliedBefore task picture left left_now (sinks old other) (sinks new other)
+  pub session_replied : (left_now other : Option (List ℕ)) → RepliesSoFarOf (setup_on task basis) secret picture 16777216 left left_now old new
+      → RepliedBefore (whole_of_shell task secret picture) task picture left left_now (sinks old other) (sinks new other)
   unfolding input_limit PutsOut
   session_replied left_now other replied =
-      let so_far = subst (λ (on : Basis). RepliesSoFarOf (setup_on task on) picture 16777216 left left_now old new) basis_is replied in
+      let so_far = subst (λ (on : Basis). RepliesSoFarOf (setup_on task on) secret picture 16777216 left left_now old new) basis_is replied in
       record {
         read = so_far.read;
         moved = so_far.moved;

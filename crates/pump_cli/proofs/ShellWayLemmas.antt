@@ -1,27 +1,27 @@
 -- The answer of `shell` where its lines are executed.
-use Rattle.std.proofs.Common.{◌≡◌, ◌+◌, true, Some, None, Result, Ok, Err, IfOk, OnOk, IfSome, IsTrue, refl, ap, subst, inr}
+use Rattle.std.proofs.Common.{◌≡◌, ℕ, ◌+◌, true, List, Option, Some, None, Result, Ok, Err, IfOk, OnOk, IfSome, IsTrue, refl, ap, subst}
 use Rattle.shared_terms.specs.Counts.{next_count}
 use Rattle.host_io.specs.Prefixes.{LosesPrefix}
 use Rattle.host_io.specs.Environment.{NoFault, Environment}
-use Rattle.host_io.proofs.PrefixLemmas.{if_some_all, if_some_each}
 use Rattle.image_format.specs.Picture.{Picture}
 use Rattle.pump_shell.specs.Told.{told_of}
 use Rattle.pump_shell.specs.declared.ends.SessionEnd.TheVariants as session_end
 use Rattle.pump_line.specs.Task.{ShellTask, shell}
-use Rattle.pump_cli.specs.Calls.{FaultBy}
+use Rattle.pump_cli.specs.Calls.{FaultBy, counted_by, secret_calls}
 use Rattle.pump_cli.specs.Codes.{IsBeforeInput, IsOfRefusal, IsOfSession, IsSilent, status_of_cut}
 use Rattle.pump_cli.specs.Early.{SessionFaultBy}
 use Rattle.pump_cli.specs.Facts.{Does, IsLongInput, Executed, RepliedBefore, status_in}
 use Rattle.pump_cli.specs.Program.{is_over_at_start, outcome_of_lines, outcome_of_no_start, setup_of}
-use Rattle.pump_cli.specs.Reading.{image_read, input_limit}
+use Rattle.pump_cli.specs.Reading.{image_read, input_limit, secret_held, secret_read}
+use Rattle.pump_cli.specs.Runs.{whole_of_shell}
 use Rattle.pump_cli.specs.Theorem.{HeadlineOf}
 use Rattle.pump_cli.specs.declared.cut.Cut.{Cut}
 use Rattle.pump_cli.specs.declared.cut.Cut.TheVariants as cut
 use Rattle.pump_cli.specs.declared.status.Status.{Status}
 use Rattle.pump_cli.specs.declared.status.Status.TheVariants as statuses
 use Rattle.pump_cli.proofs.AnswerLemmas.{answers}
-use Rattle.pump_cli.proofs.CallLemmas.{load_called}
-use Rattle.pump_cli.proofs.TaskLemmas.{NoRefusal, causes_long, due_by_lines, facts_asked, some_session}
+use Rattle.pump_cli.proofs.SecretWayLemmas.{shell_starts, start_called}
+use Rattle.pump_cli.proofs.TaskLemmas.{NoRefusal, causes_long, due_by_lines, facts_asked, some_session, start_input, start_taken}
 use Rattle.pump_cli.proofs.SideLemmas.{cut_not}
 use Rattle.pump_cli.proofs.WayLemmas.{early}
 
@@ -141,8 +141,8 @@ module _ {I : Type 0} (task : ShellTask) (before after : Environment I) where
   session_fault (Err cut.PutFailed) read write fault kind = record { read = read; write = write; input = fault.0; puts = fault.1 }
   session_fault (Err cut.Memory) read write fault kind = λ i. record { read = read i; write = write i; input = fault.0 i; puts = fault.1 i }
 
-  abbrev Replied : Picture → Type 0
-  Replied picture = RepliedBefore task picture before.left after.left before.taken after.taken
+  abbrev Replied : List ℕ → Picture → Type 0
+  Replied secret picture = RepliedBefore (whole_of_shell task secret picture) task picture before.left after.left before.taken after.taken
 
   -- only a cut at the input is told by its status
   input_cut : (why : Cut) → status_of_cut why ≡ statuses.InputFailed → why ≡ cut.InputFailed
@@ -153,11 +153,11 @@ module _ {I : Type 0} (task : ShellTask) (before after : Environment I) where
   input_cut cut.Memory e = absurd (let h : statuses.Memory ≡ statuses.InputFailed = e in cc)
 
   -- what the definition says of its start, of its lines and of its end
-  executed_facts : (picture : Picture) (result : Result Status Cut) → IfOk result IsOfSession → (result ≡ Ok statuses.TagsOut → is_over_at_start task picture ≡ true)
-      → (is_over_at_start task picture ≡ true → after.input ≡ before.input)
-      → OnOk result (IfSome before.left (λ input. (told_of (setup_of task) picture input_limit input).end ≡ session_end.InputEnd → IsTrue after.closed))
-      → (result ≡ Err cut.InputFailed → Replied picture) → Executed task picture (status_in result) before after
-  executed_facts picture (Ok status) kind out unread closed replied = record {
+  executed_facts : (secret : List ℕ) (picture : Picture) (result : Result Status Cut) → IfOk result IsOfSession → (result ≡ Ok statuses.TagsOut → is_over_at_start task secret picture ≡ true)
+      → (is_over_at_start task secret picture ≡ true → after.input ≡ before.input)
+      → OnOk result (IfSome before.left (λ input. (told_of (setup_of task) secret picture input_limit input).end ≡ session_end.InputEnd → IsTrue after.closed))
+      → (result ≡ Err cut.InputFailed → Replied secret picture) → Executed task secret picture (status_in result) before after
+  executed_facts secret picture (Ok status) kind out unread closed replied = record {
     tags_out = λ e. out (ap ended e);
     unread = unread;
     whole = λ done. closed;
@@ -166,7 +166,7 @@ module _ {I : Type 0} (task : ShellTask) (before after : Environment I) where
     where
       ended : Status → Result Status Cut
       ended s = Ok s
-  executed_facts picture (Err broken) kind out unread closed replied = record {
+  executed_facts secret picture (Err broken) kind out unread closed replied = record {
     tags_out = λ e. absurd (cut_not broken statuses.TagsOut e tt);
     unread = unread;
     whole = λ e. absurd (cut_not broken statuses.Done e tt);
@@ -176,25 +176,28 @@ module _ {I : Type 0} (task : ShellTask) (before after : Environment I) where
       cut_short : Cut → Result Status Cut
       cut_short why = Err why
 
+  abbrev kept : Option (List ℕ)
+  kept = secret_held task.choice task.secret before.held
+
   -- the lines are executed
-  pub executed : (picture : Picture) (result : Result Status Cut) → IfSome (before.held task.image) (λ bytes. image_read bytes ≡ Ok picture)
-      → IfSome before.left (λ lines. Does (outcome_of_lines task picture lines) before.taken after.taken result)
+  pub executed : (picture : Picture) (secret : List ℕ) (result : Result Status Cut) → IfSome (before.held task.image) (λ bytes. image_read bytes ≡ Ok picture)
+      → IfSome kept (λ bytes. secret_read bytes ≡ Ok secret) → IfSome before.left (λ lines. Does (outcome_of_lines task secret picture lines) before.taken after.taken result)
       → after.faults.read ≡ before.faults.read → after.faults.write ≡ before.faults.write
       → SessionFaultBy before.faults.input after.faults.input before.faults.puts after.faults.puts result
       → IfOk result IsOfSession → (result ≡ Ok statuses.TooLong → IfSome before.left IsLongInput)
-      → (result ≡ Ok statuses.TagsOut → is_over_at_start task picture ≡ true)
-      → (is_over_at_start task picture ≡ true → Does outcome_of_no_start before.taken after.taken result)
-      → (is_over_at_start task picture ≡ true → after.input ≡ before.input)
-      → OnOk result (IfSome before.left (λ input. (told_of (setup_of task) picture input_limit input).end ≡ session_end.InputEnd → IsTrue after.closed))
-      → LosesPrefix before.left after.left (input_limit + 4096) → (result ≡ Err cut.InputFailed → Replied picture)
-      → after.held ≡ before.held → after.calls ≡ next_count before.calls → HeadlineOf (shell task) (status_in result) before after
-  executed picture result is does read write fault kind long out no_start unread closed moved replied held calls =
+      → (result ≡ Ok statuses.TagsOut → is_over_at_start task secret picture ≡ true)
+      → (is_over_at_start task secret picture ≡ true → Does outcome_of_no_start before.taken after.taken result)
+      → (is_over_at_start task secret picture ≡ true → after.input ≡ before.input)
+      → OnOk result (IfSome before.left (λ input. (told_of (setup_of task) secret picture input_limit input).end ≡ session_end.InputEnd → IsTrue after.closed))
+      → LosesPrefix before.left after.left (input_limit + 4096) → (result ≡ Err cut.InputFailed → Replied secret picture)
+      → after.held ≡ before.held → after.calls ≡ counted_by (secret_calls task.choice task.secret) (next_count before.calls) → HeadlineOf (shell task) (status_in result) before after
+  executed picture secret result is kept_is does read write fault kind long out no_start unread closed moved replied held calls =
       let side : OfSession task before after (status_in result) = session_side result fault kind long (λ e. unread (out e)) in
       answers _ (Some (shell task)) result before after
-      (due_by_lines (λ outcome. Does outcome before.taken after.taken result) task (before.held task.image) before.left picture is does no_start)
-      (load_called (status_in result) before after held (shell task) (Ok picture) task.image refl is (λ all. tt) calls (session_fault result read write fault kind))
+      (due_by_lines (λ outcome. Does outcome before.taken after.taken result) task (before.held task.image) kept before.left picture secret is kept_is does no_start)
+      (start_called (shell task) before after (shell_starts before task) picture is held calls (status_in result) (session_fault result read write fault kind))
       (λ words. absurd (side.words words)) (λ silent. absurd (side.silent silent)) (λ refused. absurd (side.refusal refused))
       (facts_asked (shell task) (status_in result) before after
-      (causes_long (shell task) (status_in result) before side.none (λ e. if_some_all (before.held task.image) _ (λ bytes. if_some_each before.left _ _ (λ lines past. inr past) (side.long e))))
-      (some_session task picture (status_in result) before after is (executed_facts picture result kind out unread closed replied))
-      picture is moved side.unread (λ all. absurd all))
+      (causes_long (shell task) (status_in result) before side.none (λ e. start_input (before.held task.image) kept before.left (side.long e)))
+      (some_session task secret picture (status_in result) before after is kept_is (executed_facts secret picture result kind out unread closed replied))
+      picture (start_taken (before.held task.image) kept picture is) moved side.unread (λ all. absurd all))

@@ -1,5 +1,5 @@
 -- What is due at the end of a task, why something is refused, and what is done to file and input.
-use Rattle.std.proofs.Common.{◌≡◌, ℕ, ◌+◌, ◌<◌, ◌⊎◌, nat_le, if◌then◌else◌, Bool, true, false, List, [], length, Option, Some, None, Result, Ok, Err, IfSome, IsErr, IsTrue, refl, sym, subst, arith, inl, inr, ap}
+use Rattle.std.proofs.Common.{◌≡◌, ℕ, ◌+◌, ◌<◌, ◌⊎◌, nat_le, if◌then◌else◌, Bool, true, false, List, [], length, Option, Some, None, Result, Ok, Err, IfSome, IsErr, IsTrue, option_map, refl, sym, subst, arith, inl, inr, ap}
 use Rattle.std.proofs.lemmas.Bool.Decides.{nat_tests}
 use Rattle.std.specs.Io.KnownBytes.{prepend_known}
 use Rattle.host_io.specs.Prefixes.{LosesPrefix}
@@ -19,13 +19,13 @@ use Rattle.pump_line.specs.Task.{LoadTask, RunTask, ShellTask, Task, disassemble
 use Rattle.pump_cli.specs.Codes.{IsBeforeInput, ReadsAll}
 use Rattle.pump_cli.specs.Endings.{Outcome}
 use Rattle.host_io.proofs.PrefixLemmas.{if_some_each}
-use Rattle.pump_cli.specs.Facts.{Causes, FileFacts, HasNoElf, HasNoImage, HasNoSource, HasNoTags, IsLongFile, IsLongInput, IsTooLong, Executed, ExecutedIn, SessionFacts}
-use Rattle.pump_cli.specs.Program.{is_over_at_start, outcome_of_content, outcome_of_fed, outcome_of_image, outcome_of_lines, outcome_of_listing, outcome_of_load, outcome_of_no_start, outcome_of_picture, outcome_of_run, outcome_of_saving, refusal_outcome}
+use Rattle.pump_cli.specs.Facts.{Causes, FileFacts, HasNoElf, HasNoImage, HasNoSource, HasNoTags, IsLongFile, IsLongInput, IsLongStart, IsTooLong, Executed, ExecutedIn, ExecutedWith, SessionFacts}
+use Rattle.pump_cli.specs.Program.{after_secret, is_over_at_start, outcome_of_content, outcome_of_fed, outcome_of_image, outcome_of_input, outcome_of_lines, outcome_of_listing, outcome_of_load, outcome_of_no_start, outcome_of_picture, outcome_of_run, outcome_of_saving, outcome_of_session, refusal_outcome, with_secret}
 use Rattle.shared_terms.specs.Steps.{◌>>=◌, result_view}
 use Rattle.image_format.specs.Migrated.{migrated}
 use Rattle.pump_line.specs.declared.task.Making.{Making}
 use Rattle.pump_line.specs.declared.task.Making.TheVariants.{Assemble, Migrate}
-use Rattle.pump_cli.specs.Reading.{ContentOf, ElfFiles, both_taken, content_of, content_read, elf_or_refusal, elf_read, elf_taken, file_as, file_limit, image_or_refusal, image_read, input_limit, input_read, made_read, source_or_refusal, source_read, tags_or_refusal, tags_taken, within_limit}
+use Rattle.pump_cli.specs.Reading.{ContentOf, ElfFiles, StartFiles, both_taken, content_of, content_read, elf_or_refusal, elf_read, elf_taken, file_as, file_limit, image_or_refusal, image_read, input_limit, input_read, made_read, secret_held, secret_read, source_or_refusal, source_read, tags_or_refusal, tags_taken, within_limit}
 use Rattle.pump_cli.specs.declared.refusal.Refusal.{Refusal}
 use Rattle.pump_cli.specs.declared.refusal.Refusal.TheVariants as refusals
 use Rattle.pump_cli.specs.declared.status.Status.{Status}
@@ -33,61 +33,102 @@ use Rattle.pump_cli.specs.declared.status.Status.TheVariants as statuses
 
 -- ---- what is due
 
+-- what `run` and `shell` start from, where their image's file is told and the secret bytes are
+abbrev pub start_from : Option (List ℕ) → Option (List ℕ) → Option StartFiles
+start_from told kept = option_map (λ bytes. record { image = bytes; secret = kept }) told
+
 module _ (P : Outcome → Type 0) where
   pub due_by_file : (task : Task) (held : Option (ContentOf task)) (input : Option (List ℕ)) (refusal : Refusal) → IfSome held (λ content. content_read task content ≡ Err refusal)
       → P (refusal_outcome refusal) → IfSome (outcome_of_content task held input) P
   due_by_file task None input refusal is refused = tt
   due_by_file task (Some content) input refusal is refused =
-      subst (λ (read : Result Picture Refusal). IfSome (outcome_of_image task read input) P) (sym is) refused
+      subst (λ (read : Result Picture Refusal). IfSome (outcome_of_image task content read input) P) (sym is) refused
 
-  pub due_by_input : (task : RunTask) (held input : Option (List ℕ)) (picture : Picture) (refusal : Refusal) → IfSome held (λ bytes. image_read bytes ≡ Ok picture)
-      → IfSome input (λ all. input_read all ≡ Err refusal) → P (refusal_outcome refusal) → IfSome (outcome_of_content (run task) held input) P
-  due_by_input task None input picture refusal is long refused = tt
-  due_by_input task (Some bytes) None picture refusal is long refused =
-      subst (λ (read : Result Picture Refusal). IfSome (outcome_of_image (run task) read None) P) (sym is) tt
-  due_by_input task (Some bytes) (Some all) picture refusal is long refused_is =
-      subst (λ (read : Result Picture Refusal). IfSome (outcome_of_image (run task) read (Some all)) P) (sym is)
-      (subst (λ (fed : Result (List ℕ) Refusal). P (outcome_of_fed task picture fed)) (sym long) refused_is)
+  -- the secret bytes are refused
+  no_secret : (go : List ℕ → Option Outcome) (kept : Option (List ℕ)) (refusal : Refusal) → IfSome kept (λ bytes. secret_read bytes ≡ Err refusal)
+      → P (refusal_outcome refusal) → IfSome (after_secret go kept) P
+  no_secret go None refusal is refused = tt
+  no_secret go (Some bytes) refusal is refused = subst (λ (read : Result (List ℕ) Refusal). IfSome (with_secret go read) P) (sym is) refused
 
-  pub due_by_run : (task : RunTask) (held input : Option (List ℕ)) (picture : Picture) (fed : List ℕ) → IfSome held (λ bytes. image_read bytes ≡ Ok picture)
-      → IfSome input (λ all. input_read all ≡ Ok fed) → P (outcome_of_run task picture fed) → IfSome (outcome_of_content (run task) held input) P
-  due_by_run task None input picture fed is taken ran = tt
-  due_by_run task (Some bytes) None picture fed is taken ran =
-      subst (λ (read : Result Picture Refusal). IfSome (outcome_of_image (run task) read None) P) (sym is) tt
-  due_by_run task (Some bytes) (Some all) picture fed is taken ran =
-      subst (λ (read : Result Picture Refusal). IfSome (outcome_of_image (run task) read (Some all)) P) (sym is)
-      (subst (λ (read : Result (List ℕ) Refusal). P (outcome_of_fed task picture read)) (sym taken) ran)
+  -- they are taken
+  on_secret : (go : List ℕ → Option Outcome) (kept : Option (List ℕ)) (secret : List ℕ) → IfSome kept (λ bytes. secret_read bytes ≡ Ok secret)
+      → IfSome (go secret) P → IfSome (after_secret go kept) P
+  on_secret go None secret is due = tt
+  on_secret go (Some bytes) secret is due = subst (λ (read : Result (List ℕ) Refusal). IfSome (with_secret go read) P) (sym is) due
+
+  module _ (task : RunTask) (told kept input : Option (List ℕ)) (picture : Picture) where
+    -- the image is taken
+    run_due : (known : Option (List ℕ)) → IfSome known (λ bytes. image_read bytes ≡ Ok picture)
+        → IfSome (after_secret (λ secret. outcome_of_input task secret picture input) kept) P → IfSome (outcome_of_content (run task) (start_from known kept) input) P
+    run_due None is due = tt
+    run_due (Some bytes) is due =
+        subst (λ (read : Result Picture Refusal). IfSome (outcome_of_image (run task) (record { image = bytes; secret = kept }) read input) P) (sym is) due
+
+    pub due_by_run_secret : (refusal : Refusal) → IfSome told (λ bytes. image_read bytes ≡ Ok picture) → IfSome kept (λ bytes. secret_read bytes ≡ Err refusal)
+        → P (refusal_outcome refusal) → IfSome (outcome_of_content (run task) (start_from told kept) input) P
+    due_by_run_secret refusal is long refused = run_due told is (no_secret (λ secret. outcome_of_input task secret picture input) kept refusal long refused)
+
+    module _ (secret : List ℕ) (is : IfSome told (λ bytes. image_read bytes ≡ Ok picture)) (kept_is : IfSome kept (λ bytes. secret_read bytes ≡ Ok secret)) where
+      -- the secret bytes are, too
+      input_due : (read : Result (List ℕ) Refusal) → IfSome input (λ all. input_read all ≡ read) → P (outcome_of_fed task secret picture read)
+          → IfSome (outcome_of_content (run task) (start_from told kept) input) P
+      input_due read given due = run_due told is (on_secret (λ bytes. outcome_of_input task bytes picture input) kept secret kept_is (by input given))
+        where
+          by : (known : Option (List ℕ)) → IfSome known (λ all. input_read all ≡ read) → IfSome (outcome_of_input task secret picture known) P
+          by None is_read = tt
+          by (Some all) is_read = subst (λ (fed : Result (List ℕ) Refusal). P (outcome_of_fed task secret picture fed)) (sym is_read) due
+
+      pub due_by_input : (refusal : Refusal) → IfSome input (λ all. input_read all ≡ Err refusal) → P (refusal_outcome refusal)
+          → IfSome (outcome_of_content (run task) (start_from told kept) input) P
+      due_by_input refusal = input_due (Err refusal)
+
+      pub due_by_run : (fed : List ℕ) → IfSome input (λ all. input_read all ≡ Ok fed) → P (outcome_of_run task secret picture fed)
+          → IfSome (outcome_of_content (run task) (start_from told kept) input) P
+      due_by_run fed = input_due (Ok fed)
 
   by_start : (over : Bool) → (over ≡ true → P outcome_of_no_start) → IfSome (if over then Some outcome_of_no_start else None) P
   by_start true ended = ended refl
   by_start false ended = tt
 
-  pub due_by_lines : (task : ShellTask) (held input : Option (List ℕ)) (picture : Picture) → IfSome held (λ bytes. image_read bytes ≡ Ok picture)
-      → IfSome input (λ bytes. P (outcome_of_lines task picture bytes)) → (is_over_at_start task picture ≡ true → P outcome_of_no_start)
-      → IfSome (outcome_of_content (shell task) held input) P
-  due_by_lines task None input picture is executed ended = tt
-  due_by_lines task (Some bytes) None picture is executed ended =
-      subst (λ (read : Result Picture Refusal). IfSome (outcome_of_image (shell task) read None) P) (sym is) (by_start (is_over_at_start task picture) ended)
-  due_by_lines task (Some bytes) (Some lines) picture is executed ended =
-      subst (λ (read : Result Picture Refusal). IfSome (outcome_of_image (shell task) read (Some lines)) P) (sym is) executed
+  module _ (task : ShellTask) (told kept input : Option (List ℕ)) (picture : Picture) where
+    shell_due : (known : Option (List ℕ)) → IfSome known (λ bytes. image_read bytes ≡ Ok picture)
+        → IfSome (after_secret (λ secret. outcome_of_session task secret picture input) kept) P → IfSome (outcome_of_content (shell task) (start_from known kept) input) P
+    shell_due None is due = tt
+    shell_due (Some bytes) is due =
+        subst (λ (read : Result Picture Refusal). IfSome (outcome_of_image (shell task) (record { image = bytes; secret = kept }) read input) P) (sym is) due
+
+    pub due_by_shell_secret : (refusal : Refusal) → IfSome told (λ bytes. image_read bytes ≡ Ok picture) → IfSome kept (λ bytes. secret_read bytes ≡ Err refusal)
+        → P (refusal_outcome refusal) → IfSome (outcome_of_content (shell task) (start_from told kept) input) P
+    due_by_shell_secret refusal is long refused = shell_due told is (no_secret (λ secret. outcome_of_session task secret picture input) kept refusal long refused)
+
+    pub due_by_lines : (secret : List ℕ) → IfSome told (λ bytes. image_read bytes ≡ Ok picture) → IfSome kept (λ bytes. secret_read bytes ≡ Ok secret)
+        → IfSome input (λ bytes. P (outcome_of_lines task secret picture bytes)) → (is_over_at_start task secret picture ≡ true → P outcome_of_no_start)
+        → IfSome (outcome_of_content (shell task) (start_from told kept) input) P
+    due_by_lines secret is kept_is executed ended =
+        shell_due told is (on_secret (λ bytes. outcome_of_session task bytes picture input) kept secret kept_is (by input executed))
+      where
+        by : (known : Option (List ℕ)) → IfSome known (λ bytes. P (outcome_of_lines task secret picture bytes)) → IfSome (outcome_of_session task secret picture known) P
+        by None lines = by_start (is_over_at_start task secret picture) ended
+        by (Some bytes) lines = lines
 
   -- an image is made and saved
-  pub due_by_saving : (task : Task) (held : Option (ContentOf task)) (input : Option (List ℕ)) (picture : Picture) → outcome_of_picture task picture input ≡ Some outcome_of_saving
+  pub due_by_saving : (task : Task) (held : Option (ContentOf task)) (input : Option (List ℕ)) (picture : Picture) → ((content : ContentOf task) → outcome_of_picture task content picture input ≡ Some outcome_of_saving)
       → IfSome held (λ content. content_read task content ≡ Ok picture) → P outcome_of_saving → IfSome (outcome_of_content task held input) P
   due_by_saving task None input picture due is saved = tt
   due_by_saving task (Some content) input picture due is saved =
-      subst (λ (read : Result Picture Refusal). IfSome (outcome_of_image task read input) P) (sym is) (subst (λ (outcome : Option Outcome). IfSome outcome P) (sym due) saved)
+      subst (λ (read : Result Picture Refusal). IfSome (outcome_of_image task content read input) P) (sym is)
+      (subst (λ (outcome : Option Outcome). IfSome outcome P) (sym (due content)) saved)
 
   pub due_by_listing : (task : DisassembleTask) (held input : Option (List ℕ)) (picture : Picture) → IfSome held (λ bytes. image_read bytes ≡ Ok picture)
       → P (outcome_of_listing picture) → IfSome (outcome_of_content (disassemble task) held input) P
   due_by_listing task None input picture is listed = tt
   due_by_listing task (Some bytes) input picture is listed =
-      subst (λ (read : Result Picture Refusal). IfSome (outcome_of_image (disassemble task) read input) P) (sym is) listed
+      subst (λ (read : Result Picture Refusal). IfSome (outcome_of_image (disassemble task) bytes read input) P) (sym is) listed
 
   pub due_by_work : (task : LoadTask) (input : Option (List ℕ)) (picture : Picture) → source_read (source_of_workload task.count) ≡ Ok picture
       → P (outcome_of_load task picture) → IfSome (outcome_of_content (load task) (Some (source_of_workload task.count)) input) P
   due_by_work task input picture is worked =
-      subst (λ (read : Result Picture Refusal). IfSome (outcome_of_image (load task) read input) P) (sym is) worked
+      subst (λ (read : Result Picture Refusal). IfSome (outcome_of_image (load task) (source_of_workload task.count) read input) P) (sym is) worked
 
 -- ---- why something was refused
 
@@ -221,10 +262,10 @@ elf_files_why task files left =
 -- why a content is refused
 pub why_refused : (task : Task) (content : ContentOf task) (left : Option (List ℕ)) (refusal : Refusal) → content_read task content ≡ Err refusal
     → RefusedFor task content left refusal
-why_refused (run task) bytes left refusal is =
-    image_why (RefusedFor (run task) bytes left) bytes (λ long. each left _ (λ input. inl long)) (λ error bad. bad) refusal is
-why_refused (shell task) bytes left refusal is =
-    image_why (RefusedFor (shell task) bytes left) bytes (λ long. each left _ (λ input. inl long)) (λ error bad. bad) refusal is
+why_refused (run task) files left refusal is =
+    image_why (RefusedFor (run task) files left) files.image (λ long. each files.secret _ (λ secret. each left _ (λ input. inl long))) (λ error bad. bad) refusal is
+why_refused (shell task) files left refusal is =
+    image_why (RefusedFor (shell task) files left) files.image (λ long. each files.secret _ (λ secret. each left _ (λ input. inl long))) (λ error bad. bad) refusal is
 why_refused (save task) bytes left refusal is = made_why task bytes left task.making refusal is
 why_refused (elf task) files left refusal is = elf_files_why task files left refusal is
 why_refused (disassemble task) bytes left refusal is = image_why (RefusedFor (disassemble task) bytes left) bytes (λ long. long) (λ error bad. bad) refusal is
@@ -237,6 +278,46 @@ long_input bytes is = by_length (nat_le (length bytes) input_limit) (λ past. gr
     by_length : (fits : Bool) → (fits ≡ false → input_limit < length bytes) → (if fits then Ok bytes else Err refusals.TooLong) ≡ Err refusals.TooLong → input_limit < length bytes
     by_length true past e = absurd (let h : Ok bytes ≡ Err refusals.TooLong = e in cc)
     by_length false past e = past refl
+
+pub long_secret : (bytes : List ℕ) → secret_read bytes ≡ Err refusals.TooLong → IsLongFile bytes
+unfolding secret_read
+long_secret bytes is = by_length (nat_le (length bytes) file_limit) (λ past. grind (arith, nat_tests)) is
+  where
+    by_length : (fits : Bool) → (fits ≡ false → file_limit < length bytes) → (if fits then Ok bytes else Err refusals.TooLong) ≡ Err refusals.TooLong → file_limit < length bytes
+    by_length true past e = absurd (let h : Ok bytes ≡ Err refusals.TooLong = e in cc)
+    by_length false past e = past refl
+
+-- ---- what a run and a session start from
+
+module _ (told kept : Option (List ℕ)) where
+  -- what holds whatever the image's file has
+  pub each_start : (Q : StartFiles → Type 0) → ((bytes : List ℕ) → Q (record { image = bytes; secret = kept })) → IfSome (start_from told kept) Q
+  each_start Q all = by told
+    where
+      by : (known : Option (List ℕ)) → IfSome (start_from known kept) Q
+      by None = tt
+      by (Some bytes) = all bytes
+
+  -- the image's file is read as this
+  pub start_read : (read : Result Picture Refusal) → IfSome told (λ bytes. image_read bytes ≡ read) → IfSome (start_from told kept) (λ files. image_read files.image ≡ read)
+  start_read read is = by told is
+    where
+      by : (known : Option (List ℕ)) → IfSome known (λ bytes. image_read bytes ≡ read) → IfSome (start_from known kept) (λ files. image_read files.image ≡ read)
+      by None is_read = tt
+      by (Some bytes) is_read = is_read
+
+  pub start_taken : (picture : Picture) → IfSome told (λ bytes. image_read bytes ≡ Ok picture) → IfSome (start_from told kept) (λ files. image_read files.image ≡ Ok picture)
+  start_taken picture = start_read (Ok picture)
+
+  -- the secret file is too long
+  pub start_long : (left : Option (List ℕ)) → IfSome kept (λ bytes. secret_read bytes ≡ Err refusals.TooLong) → IfSome (start_from told kept) (λ files. IsLongStart files left)
+  start_long left long =
+      each_start (λ files. IsLongStart files left) (λ bytes. if_some_each kept _ _ (λ secret is. each left _ (λ input. inr (inl (long_secret secret is)))) long)
+
+  -- the input is
+  pub start_input : (left : Option (List ℕ)) → IfSome left IsLongInput → IfSome (start_from told kept) (λ files. IsLongStart files left)
+  start_input left long =
+      each_start (λ files. IsLongStart files left) (λ bytes. each kept _ (λ secret. if_some_each left _ _ (λ input past. inr (inr past)) long))
 
 -- ---- what was done to the file and to the input
 
@@ -291,35 +372,52 @@ of_memory task before =
 -- ---- sessions
 
 -- a session that did not come to its end, nor to a read that failed, did not read the input either
-unexecuted : {I : Type 0} (task : ShellTask) (read : Result Picture Refusal) (status : Status) (before after : Environment I)
-    → (status ≡ statuses.TagsOut → ⊥) → (status ≡ statuses.Done → ⊥) → (status ≡ statuses.InputFailed → ⊥) → after.input ≡ before.input
-    → ExecutedIn task read status before after
-unexecuted task (Ok picture) status before after not_out not_done not_input input = record {
-  tags_out = λ out. absurd (not_out out);
-  unread = λ over. input;
-  whole = λ done. absurd (not_done done);
-  replied = λ failed. absurd (not_input failed);
-}
-unexecuted task (Err refusal) status before after not_out not_done not_input input = tt
+module _ {I : Type 0} (task : ShellTask) (status : Status) (before after : Environment I) (not_out : status ≡ statuses.TagsOut → ⊥)
+    (not_done : status ≡ statuses.Done → ⊥) (not_input : status ≡ statuses.InputFailed → ⊥) (input : after.input ≡ before.input) where
+  unexecuted_with : (picture : Picture) (kept : Result (List ℕ) Refusal) → ExecutedWith task picture kept status before after
+  unexecuted_with picture (Ok secret) = record {
+    tags_out = λ out. absurd (not_out out);
+    unread = λ over. input;
+    whole = λ done. absurd (not_done done);
+    replied = λ failed. absurd (not_input failed);
+  }
+  unexecuted_with picture (Err refusal) = tt
+
+  unexecuted : (bytes : List ℕ) (read : Result Picture Refusal) → ExecutedIn task bytes read status before after
+  unexecuted bytes (Ok picture) = unexecuted_with picture (secret_read bytes)
+  unexecuted bytes (Err refusal) = tt
 
 pub no_session : {I : Type 0} (task : Task) (status : Status) (before after : Environment I)
     → (status ≡ statuses.TagsOut → ⊥) → (status ≡ statuses.Done → ⊥) → (status ≡ statuses.InputFailed → ⊥) → after.input ≡ before.input
     → SessionFacts task status before after
 no_session (run task) status before after not_out not_done not_input input = tt
 no_session (shell task) status before after not_out not_done not_input input =
-    each (before.held task.image) _ (λ bytes. unexecuted task (image_read bytes) status before after not_out not_done not_input input)
+    each (content_of (shell task) before.held) _
+    (λ files. each files.secret _ (λ bytes. unexecuted task status before after not_out not_done not_input input bytes (image_read files.image)))
 no_session (save task) status before after not_out not_done not_input input = tt
 no_session (elf task) status before after not_out not_done not_input input = tt
 no_session (disassemble task) status before after not_out not_done not_input input = tt
 no_session (load task) status before after not_out not_done not_input input = tt
 
--- one whose image was taken
-pub some_session : {I : Type 0} (task : ShellTask) (picture : Picture) (status : Status) (before after : Environment I)
-    → IfSome (before.held task.image) (λ bytes. image_read bytes ≡ Ok picture) → Executed task picture status before after
-    → SessionFacts (shell task) status before after
-some_session task picture status before after taken executed =
-    if_some_each (before.held task.image) _ _
-    (λ bytes is. subst (λ (read : Result Picture Refusal). ExecutedIn task read status before after) (sym is) executed) taken
+-- one whose image and secret bytes were taken
+module _ {I : Type 0} (task : ShellTask) (secret : List ℕ) (picture : Picture) (status : Status) (before after : Environment I) where
+  session_with : (kept : Option (List ℕ)) (image : List ℕ) → image_read image ≡ Ok picture → IfSome kept (λ bytes. secret_read bytes ≡ Ok secret)
+      → Executed task secret picture status before after → IfSome kept (λ bytes. ExecutedIn task bytes (image_read image) status before after)
+  session_with kept image is kept_is executed =
+      if_some_each kept _ _
+      (λ bytes is_read. subst (λ (read : Result Picture Refusal). ExecutedIn task bytes read status before after) (sym is)
+      (subst (λ (read : Result (List ℕ) Refusal). ExecutedWith task picture read status before after) (sym is_read) executed)) kept_is
+
+  session_told : (told kept : Option (List ℕ)) → IfSome told (λ bytes. image_read bytes ≡ Ok picture) → IfSome kept (λ bytes. secret_read bytes ≡ Ok secret)
+      → Executed task secret picture status before after
+      → IfSome (start_from told kept) (λ files. IfSome files.secret (λ bytes. ExecutedIn task bytes (image_read files.image) status before after))
+  session_told None kept is kept_is executed = tt
+  session_told (Some image) kept is kept_is executed = session_with kept image is kept_is executed
+
+  pub some_session : IfSome (before.held task.image) (λ bytes. image_read bytes ≡ Ok picture)
+      → IfSome (secret_held task.choice task.secret before.held) (λ bytes. secret_read bytes ≡ Ok secret)
+      → Executed task secret picture status before after → SessionFacts (shell task) status before after
+  some_session = session_told (before.held task.image) (secret_held task.choice task.secret before.held)
 
 -- ---- what is done to the input
 

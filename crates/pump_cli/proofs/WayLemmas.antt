@@ -82,7 +82,7 @@ module _ {I : Type 0} (task : Task) (before after : Environment I) where
 
   -- a load is cut short
   module _ (name : List ℕ) where
-    file_fault : (cut : Cut) → LoadCutBy before.faults.read after.faults.read name cut
+    pub file_fault : (cut : Cut) → LoadCutBy before.faults.read after.faults.read name cut
         → after.faults.write ≡ before.faults.write → after.faults.puts ≡ before.faults.puts → after.faults.input ≡ before.faults.input
         → FaultBy (Some (Load name)) (status_of_cut cut) before.faults after.faults
     file_fault cut.ReadFailed rose write puts input = record { read = rose; write = write; input = input; puts = puts }
@@ -91,7 +91,7 @@ module _ {I : Type 0} (task : Task) (before after : Environment I) where
     file_fault cut.PutFailed rose write puts input = absurd rose
     file_fault cut.Memory rose write puts input = λ i. record { read = rose i; write = write i; input = input i; puts = puts i }
 
-    file_not_all : (cut : Cut) → LoadCutBy before.faults.read after.faults.read name cut → MakesAll (status_of_cut cut) → ⊥
+    pub file_not_all : (cut : Cut) → LoadCutBy before.faults.read after.faults.read name cut → MakesAll (status_of_cut cut) → ⊥
     file_not_all cut.ReadFailed rose all = all
     file_not_all cut.WriteFailed rose all = all
     file_not_all cut.InputFailed rose all = rose

@@ -8,7 +8,7 @@ use Rattle.host_io.specs.declared.traits.sink.PutEnd.{PutEnd}
 use Rattle.host_io.specs.declared.traits.sink.PutEnd.TheVariants as put_end
 use Rattle.host_io.proofs.PieceLemmas.{put_on_out}
 use Rattle.image_format.specs.Picture.{Picture}
-use Rattle.policy_choice.specs.All.{AllState, AllTag, all, all_eq}
+use Rattle.policy_choice.specs.All.{AllState, AllTag, all, all_eq, choice_state}
 use Rattle.policy_choice.specs.declared.basis.Basis.{Basis}
 use Rattle.policy_trait.specs.Model.{PolicyModel}
 use Rattle.turn_steps.specs.Feeds.{tape_of}
@@ -16,7 +16,7 @@ use Rattle.engine_trait.specs.Accounts.{counts_of, is_over}
 use Rattle.engine_trait.specs.Standing.{Standing}
 use Rattle.engine_trait.specs.declared.ends.Counts.{Counts}
 use Rattle.rounds.specs.Course.{Course, hart_stops, rounds}
-use Rattle.pump_loader.specs.ChosenLoads.{chosen_start_of}
+use Rattle.pump_loader.specs.ChosenLoads.{start_with}
 use Rattle.pump_line.specs.Task.{LoadTask}
 use Rattle.pump_cli.specs.Codes.{IsOfRun, code_of}
 use Rattle.pump_cli.specs.Cuts.{cut_of_put}
@@ -93,8 +93,9 @@ module _ (task : LoadTask) (picture : Picture) where
   work_from start = outcome_of_work task.count (rounds all_eq all (10 * task.count + 4) 0 (standing_at_start start) (tape_of []))
 
   -- from a start that is chosen for it
-  pub started_work : (basis : Basis) → basis ≡ basis_of every_policy → (start : Standing AllState AllTag) → start ≡ chosen_start_of basis task.cache task.tags picture
-      → work_from start ≡ outcome_of_load task picture
+  pub started_work : (basis : Basis) → basis ≡ basis_of every_policy → (start : Standing AllState AllTag)
+      → start ≡ start_with all_eq all (choice_state basis picture) task.cache task.tags picture → work_from start ≡ outcome_of_load task picture
   unfolding outcome_of_load
   started_work basis on start chosen =
-      ap (λ (course : Course AllState AllTag). outcome_of_work task.count course) (started_course (run_of_load task) picture basis on start chosen [])
+      ap (λ (course : Course AllState AllTag). outcome_of_work task.count course)
+      (started_course all_eq all (λ (rests : Basis). choice_state rests picture) (run_of_load task) picture basis on start chosen [])

@@ -6,6 +6,7 @@ use Rattle.shared_terms.specs.Counts.{next_count}
 use Rattle.host_io.specs.Environment.{Faults, InputFault, NoFault, Environment, PutFault, ReadFault, WriteFault}
 use Rattle.image_format.specs.Picture.{Picture}
 use Rattle.image_format.specs.Spelling.{spelling}
+use Rattle.policy_choice.specs.declared.choice.Choice.{Choice}
 use Rattle.pump_line.specs.Task.{Task, disassemble, elf, load, run, save, shell}
 use Rattle.pump_cli.specs.Codes.{status_of_refusal}
 use Rattle.pump_cli.specs.Reading.{content_of, content_read}
@@ -21,11 +22,18 @@ pub data FileCall : Type 0 where
 
 -- ---- the calls of a task
 
--- by what the content is read as: `asm`, `migrate` and `elf` save the file of the image that they make of it, and a refused one saves
+-- the load of the secret file that a task names, where secrecy is chosen
+abbrev pub secret_calls : Choice → Option (List ℕ) → List FileCall
+secret_calls choice None = []
+secret_calls choice (Some name) = if choice.secret then Load name ∷ [] else []
+
+-- by what the content is read as: `run` and `shell` load the secret file once the image is taken; `asm`, `migrate` and `elf` save the file of the image that they make of it, and a refused one saves
 -- nothing
 abbrev pub calls_of_task : Task → Result Picture Refusal → List FileCall
-calls_of_task (run task) read = Load task.image ∷ []
-calls_of_task (shell task) read = Load task.image ∷ []
+calls_of_task (run task) (Ok picture) = Load task.image ∷ secret_calls task.choice task.secret
+calls_of_task (run task) (Err refusal) = Load task.image ∷ []
+calls_of_task (shell task) (Ok picture) = Load task.image ∷ secret_calls task.choice task.secret
+calls_of_task (shell task) (Err refusal) = Load task.image ∷ []
 calls_of_task (save task) (Ok picture) = Load task.source ∷ Save task.image (spelling picture) ∷ []
 calls_of_task (save task) (Err refusal) = Load task.source ∷ []
 calls_of_task (elf task) (Ok picture) = Load task.elf ∷ Load task.tags ∷ Save task.image (spelling picture) ∷ []

@@ -1,9 +1,10 @@
 -- Where nothing ran: which counts of faults rose, and what was told.
-use Rattle.std.specs.Prelude.{◌≡◌, ℕ, List, Option, Some, None, Result, Ok, Err, IfOk}
+use Rattle.std.specs.Prelude.{◌≡◌, ℕ, List, [], ◌∷◌, Option, Some, None, Result, Ok, Err, IfOk}
 use Rattle.std.specs.declared.vec.Vec.{Vec}
 use Rattle.host_io.specs.Causes.{Rose, RoseAt}
 use Rattle.host_io.specs.TwoSinks.{OneRose, PutFaults}
 use Rattle.image_format.specs.Picture.{Picture}
+use Rattle.pump_cli.specs.Calls.{FileCall, Load}
 use Rattle.pump_cli.specs.Codes.{status_of_refusal}
 use Rattle.pump_cli.specs.Facts.{Does, PutsFaultBy}
 use Rattle.pump_cli.specs.Program.{refusal_outcome}
@@ -33,6 +34,13 @@ abbrev pub ReadRoseBy : {A : Type 0} → (List ℕ → ℕ) → (List ℕ → �
 ReadRoseBy before now name (Ok _) = now ≡ before
 ReadRoseBy before now name (Err (early_end.Refused refusal)) = now ≡ before
 ReadRoseBy before now name (Err (early_end.Cut why)) = LoadCutBy before now name why
+
+-- of such loads, of which there is one at most: where none is made, nothing ends the call
+abbrev pub LoadsRoseBy : {A : Type 0} → List FileCall → (List ℕ → ℕ) → (List ℕ → ℕ) → Result A EarlyEnd → Type 0
+LoadsRoseBy [] before now (Ok _) = now ≡ before
+LoadsRoseBy [] before now (Err end) = ⊥
+LoadsRoseBy (Load name ∷ []) before now result = ReadRoseBy before now name result
+LoadsRoseBy _ before now result = ⊥
 
 -- the count of the named file rises where its save failed, and every other answer leaves all counts
 abbrev pub WriteRoseBy : {A : Type 0} → (List ℕ → ℕ) → (List ℕ → ℕ) → List ℕ → Result A Cut → Type 0

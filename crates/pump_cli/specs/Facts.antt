@@ -18,8 +18,10 @@ use Rattle.pump_line.specs.Task.{ShellTask, Task, disassemble, elf, load, run, s
 use Rattle.pump_cli.specs.Codes.{IsBeforeInput, ReadsAll, status_of_cut}
 use Rattle.pump_cli.specs.Endings.{Outcome}
 use Rattle.pump_cli.specs.Program.{is_over_at_start, setup_of}
-use Rattle.pump_cli.specs.Reading.{ContentOf, ElfFiles, content_of, content_read, file_limit, image_read, input_limit}
+use Rattle.pump_cli.specs.Reading.{ContentOf, ElfFiles, StartFiles, content_of, content_read, file_limit, image_read, input_limit, secret_read}
+use Rattle.pump_cli.specs.Runs.{whole_of_shell}
 use Rattle.pump_cli.specs.Sessions.{session_after}
+use Rattle.pump_loader.specs.Wholes.{Whole}
 use Rattle.pump_cli.specs.declared.refusal.Refusal.{Refusal}
 use Rattle.pump_cli.specs.declared.cut.Cut.{Cut}
 use Rattle.pump_cli.specs.declared.cut.Cut.TheVariants as cut
@@ -61,10 +63,14 @@ IsLongFile bytes = file_limit < length bytes
 abbrev pub IsLongInput : List ℕ → Type 0
 IsLongInput bytes = input_limit < length bytes
 
+-- the image's file is longer than its limit, or the secret file, or the input, where these are told
+abbrev pub IsLongStart : StartFiles → Option (List ℕ) → Type 0
+IsLongStart files left = IfSome files.secret (λ secret. IfSome left (λ input. IsLongFile files.image ⊎ (IsLongFile secret ⊎ IsLongInput input)))
+
 -- a file is longer than its limit, or the input, where it is told and the task reads it
 abbrev pub IsTooLong : (task : Task) → ContentOf task → Option (List ℕ) → Type 0
-IsTooLong (run task) bytes left = IfSome left (λ input. IsLongFile bytes ⊎ IsLongInput input)
-IsTooLong (shell task) bytes left = IfSome left (λ input. IsLongFile bytes ⊎ IsLongInput input)
+IsTooLong (run task) files left = IsLongStart files left
+IsTooLong (shell task) files left = IsLongStart files left
 IsTooLong (save task) bytes left = IsLongFile bytes
 IsTooLong (elf task) files left = IsLongFile files.tags ⊎ IsLongFile files.elf
 IsTooLong (disassemble task) bytes left = IsLongFile bytes
@@ -72,8 +78,8 @@ IsTooLong (load task) bytes left = IsLongFile bytes
 
 -- the task takes an image, and its file is none
 abbrev pub HasNoImage : (task : Task) → ContentOf task → Type 0
-HasNoImage (run task) bytes = IsErr (image_of bytes)
-HasNoImage (shell task) bytes = IsErr (image_of bytes)
+HasNoImage (run task) files = IsErr (image_of files.image)
+HasNoImage (shell task) files = IsErr (image_of files.image)
 HasNoImage (save task) bytes = IsErr (image_of bytes)
 HasNoImage (elf task) files = ⊥
 HasNoImage (disassemble task) bytes = IsErr (image_of bytes)
@@ -114,32 +120,38 @@ HasNoElf (load task) bytes = ⊥
 
 -- A read of the input failed behind these bytes of it: each line that a newline ends among them was replied to as a whole, none of
 -- these lines was `quit`, and nothing else was put on either sink.
-pub record RepliedBefore (task : ShellTask) (picture : Picture) (left left_now : Option (List ℕ)) (before after : Taken) : Type 0 where
+pub record RepliedBefore (w : Whole) (task : ShellTask) (picture : Picture) (left left_now : Option (List ℕ)) (before after : Taken) : Type 0 where
   pub read : List ℕ
   pub moved : left ≡ prepend_known read left_now
   pub within : length read ≤ input_limit
-  pub goes_on : (session_after task picture (lines_in read)).quits ≡ false
-  pub replies : PutsAll before after (session_after task picture (lines_in read)).pieces
+  pub goes_on : (session_after w task picture (lines_in read)).quits ≡ false
+  pub replies : PutsAll before after (session_after w task picture (lines_in read)).pieces
 
 -- what a session did, by what the definition says of its start, of its lines and of its end
-pub record Executed {I : Type 0} (task : ShellTask) (picture : Picture) (status : Status) (before after : Environment I) : Type 0 where
+pub record Executed {I : Type 0} (task : ShellTask) (secret : List ℕ) (picture : Picture) (status : Status) (before after : Environment I) : Type 0 where
   -- status 7 comes of a start that is out of tag numbers, which leaves the input alone, however that is told
-  pub tags_out : status ≡ TagsOut → is_over_at_start task picture ≡ true
-  pub unread : is_over_at_start task picture ≡ true → after.input ≡ before.input
+  pub tags_out : status ≡ TagsOut → is_over_at_start task secret picture ≡ true
+  pub unread : is_over_at_start task secret picture ≡ true → after.input ≡ before.input
   -- one that ended with its input, and not with `quit`, has read it to its end
-  pub whole : status ≡ Done → IfSome before.left (λ input. (told_of (setup_of task) picture input_limit input).end ≡ InputEnd → IsTrue after.closed)
+  pub whole : status ≡ Done → IfSome before.left (λ input. (told_of (setup_of task) secret picture input_limit input).end ≡ InputEnd → IsTrue after.closed)
   -- a read of the input failed: each line that had ended before it was replied to, and nothing else was put
-  pub replied : status ≡ InputFailed → RepliedBefore task picture before.left after.left before.taken after.taken
+  pub replied : status ≡ InputFailed → RepliedBefore (whole_of_shell task secret picture) task picture before.left after.left before.taken after.taken
 
--- where the image is refused there is no session
-abbrev pub ExecutedIn : {I : Type 0} → ShellTask → Result Picture Refusal → Status → Environment I → Environment I → Type 0
-ExecutedIn task (Ok picture) status before after = Executed task picture status before after
-ExecutedIn task (Err refusal) status before after = Unit {0}
+-- where the secret bytes are refused there is no session
+abbrev pub ExecutedWith : {I : Type 0} → ShellTask → Picture → Result (List ℕ) Refusal → Status → Environment I → Environment I → Type 0
+ExecutedWith task picture (Ok secret) status before after = Executed task secret picture status before after
+ExecutedWith task picture (Err refusal) status before after = Unit {0}
+
+-- nor where the image is
+abbrev pub ExecutedIn : {I : Type 0} → ShellTask → List ℕ → Result Picture Refusal → Status → Environment I → Environment I → Type 0
+ExecutedIn task bytes (Ok picture) status before after = ExecutedWith task picture (secret_read bytes) status before after
+ExecutedIn task bytes (Err refusal) status before after = Unit {0}
 
 -- nothing is said of it where the content of the image's file is not told, and nothing of the other tasks
 abbrev pub SessionFacts : {I : Type 0} → Task → Status → Environment I → Environment I → Type 0
 SessionFacts (run task) status before after = Unit {0}
-SessionFacts (shell task) status before after = IfSome (before.held task.image) (λ bytes. ExecutedIn task (image_read bytes) status before after)
+SessionFacts (shell task) status before after =
+    IfSome (content_of (shell task) before.held) (λ files. IfSome files.secret (λ bytes. ExecutedIn task bytes (image_read files.image) status before after))
 SessionFacts (save task) status before after = Unit {0}
 SessionFacts (elf task) status before after = Unit {0}
 SessionFacts (disassemble task) status before after = Unit {0}

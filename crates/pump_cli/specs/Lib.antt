@@ -5,6 +5,7 @@ pub mod Early
 pub mod Elf
 pub mod Endings
 pub mod Facts
+pub mod Hidden
 pub mod ListedBack
 pub mod Migrated
 pub mod Environments

@@ -1,21 +1,22 @@
 -- The program: what it writes and its status, from the words, what the files hold and what the input gives.
-use Rattle.std.specs.Prelude.{ℕ, ◌+◌, ◌*◌, Bool, true, List, [], ◌∷◌, ◌++◌, Option, Some, None, Result, Ok, Err, if◌then◌else◌}
+use Rattle.std.specs.Prelude.{ℕ, ◌+◌, ◌*◌, Bool, true, false, List, [], ◌∷◌, ◌++◌, Option, Some, None, Result, Ok, Err, if◌then◌else◌}
 use Rattle.image_format.specs.Picture.{Picture}
 use Rattle.host_io.specs.Pieces.{err, out}
 use Rattle.tag_text.specs.Texts.{line}
 use Rattle.turn_steps.specs.Feeds.{tape_of}
+use Rattle.policy_trait.specs.Model.{PolicyModel}
 use Rattle.engine_trait.specs.Accounts.{Account, counts_of, is_over, plain_account}
 use Rattle.engine_trait.specs.Standing.{Standing}
 use Rattle.engine_trait.specs.declared.ends.Counts.{Counts}
 use Rattle.engine_trait.specs.declared.ends.Halt.TheVariants as halt
-use Rattle.policy_choice.specs.All.{AllState, AllTag, all, all_eq}
 use Rattle.policy_choice.specs.declared.basis.Basis.{Basis}
 use Rattle.policy_choice.specs.declared.choice.Choice.{Choice}
 use Rattle.rounds.specs.Course.{Course, hart_stops, rounds}
-use Rattle.pump_loader.specs.PlainLoads.{start_of}
+use Rattle.pump_loader.specs.Wholes.{Whole, whole_of}
 use Rattle.cache_size.specs.Sizes.{keeps_no_rule}
-use Rattle.pump_loader.specs.Loads.{cached_start_of}
-use Rattle.pump_shell.specs.Told.{Told, out_at_start as none_executed, start_of_setup, told_of}
+use Rattle.tag_loader.specs.Start.{start_machine}
+use Rattle.word_loader.specs.CachedStart.{cached_account}
+use Rattle.pump_shell.specs.Told.{Told, is_over_of, out_at_start as none_executed, told_of}
 use Rattle.pump_shell.specs.declared.ends.SessionEnd.{SessionEnd}
 use Rattle.pump_shell.specs.declared.ends.SessionEnd.TheVariants as session_end
 use Rattle.pump_shell.specs.declared.setup.Setup.{Setup}
@@ -23,7 +24,7 @@ use Rattle.image_listing.specs.Listing.{listing}
 use Rattle.pump_line.specs.Task.{LoadTask, RunTask, ShellTask, Task, disassemble, elf, load, run, save, shell, task_of}
 use Rattle.pump_cli.specs.Endings.{Outcome, out_at_start, outcome_of_course, status_of}
 use Rattle.pump_cli.specs.Codes.{code_of, status_of_refusal}
-use Rattle.pump_cli.specs.Reading.{ContentOf, content_of, content_read, input_limit, input_read}
+use Rattle.pump_cli.specs.Reading.{ContentOf, content_of, content_read, input_limit, input_read, secret_read}
 use Rattle.pump_cli.specs.Texts.{refusal_text, workload_line}
 use Rattle.pump_cli.specs.declared.refusal.Refusal.{Refusal}
 use Rattle.pump_cli.specs.declared.refusal.Refusal.TheVariants.{BadWords, TooLong}
@@ -50,32 +51,52 @@ started_account account = if is_over account then record account { halt = Some h
 abbrev pub standing_at_start : {S T : Type 0} → Standing S T → Standing S T
 standing_at_start e = record { machine = e.machine; account = started_account e.account }
 
--- where no rules are kept, no tag has a word
-abbrev pub account_of_run : RunTask → Picture → Account AllTag
-account_of_run task picture =
-    started_account (if keeps_no_rule task.cache then plain_account else (cached_start_of (basis_of task.choice) task.cache task.tags picture).account)
+-- under a policy that is this at the start of an image
+module _ {S T : Type 0} (eq : T → T → Bool) (m : PolicyModel T S) (policy : S) (task : RunTask) (picture : Picture) where
+  -- where no rules are kept, no tag has a word
+  abbrev pub account_by : Account T
+  account_by =
+      started_account (if keeps_no_rule task.cache then plain_account else cached_account eq m policy picture task.cache.sets task.cache.ways task.tags)
 
--- the image's start under the chosen policies, whatever is kept
-abbrev pub start_of_run : RunTask → Picture → Standing AllState AllTag
-start_of_run task picture = record { machine = (start_of (basis_of task.choice) picture).machine; account = account_of_run task picture }
+  -- the image's start, whatever is kept
+  abbrev pub start_by : Standing S T
+  start_by = record { machine = start_machine m policy picture; account = account_by }
 
--- one round robin from there, on a feed of these bytes
-abbrev pub course_of_run : RunTask → Picture → List ℕ → Course AllState AllTag
-course_of_run task picture fed = rounds all_eq all task.turns 0 (start_of_run task picture) (tape_of fed)
+  -- one round robin from there, on a feed of these bytes
+  abbrev pub course_by : List ℕ → Course S T
+  course_by fed = rounds eq m task.turns 0 start_by (tape_of fed)
 
--- what that course shows, the last line, and the status
-unfoldable pub outcome_of_run : RunTask → Picture → List ℕ → Outcome
-outcome_of_run task picture fed = outcome_of_course (course_of_run task picture fed)
+-- the same under policies as one
+abbrev pub course_under : (w : Whole) → RunTask → Picture → List ℕ → Course w.State w.Tag
+course_under w task picture fed = course_by w.eq w.model w.state task picture fed
+
+-- the policies that the task chooses, with these secret bytes, at the start of the image
+abbrev pub whole_of_run : RunTask → List ℕ → Picture → Whole
+whole_of_run task secret picture = whole_of (basis_of task.choice) secret picture
+
+-- what the course under them shows, the last line, and the status
+unfoldable pub outcome_of_run : RunTask → List ℕ → Picture → List ℕ → Outcome
+outcome_of_run task secret picture fed = outcome_of_course (course_under (whole_of_run task secret picture) task picture fed)
 
 -- the input is fed as a whole
-abbrev pub outcome_of_fed : RunTask → Picture → Result (List ℕ) Refusal → Outcome
-outcome_of_fed task picture (Ok fed) = outcome_of_run task picture fed
-outcome_of_fed task picture (Err refusal) = refusal_outcome refusal
+abbrev pub outcome_of_fed : RunTask → List ℕ → Picture → Result (List ℕ) Refusal → Outcome
+outcome_of_fed task secret picture (Ok fed) = outcome_of_run task secret picture fed
+outcome_of_fed task secret picture (Err refusal) = refusal_outcome refusal
 
 -- an input whose bytes are not told leaves the outcome unsaid
-abbrev pub outcome_of_input : RunTask → Picture → Option (List ℕ) → Option Outcome
-outcome_of_input task picture None = None
-outcome_of_input task picture (Some input) = Some (outcome_of_fed task picture (input_read input))
+abbrev pub outcome_of_input : RunTask → List ℕ → Picture → Option (List ℕ) → Option Outcome
+outcome_of_input task secret picture None = None
+outcome_of_input task secret picture (Some input) = Some (outcome_of_fed task secret picture (input_read input))
+
+-- what goes on with the secret bytes, which may be too many
+abbrev pub with_secret : (List ℕ → Option Outcome) → Result (List ℕ) Refusal → Option Outcome
+with_secret go (Ok secret) = go secret
+with_secret go (Err refusal) = Some (refusal_outcome refusal)
+
+-- and secret bytes that are not told leave it unsaid, too
+abbrev pub after_secret : (List ℕ → Option Outcome) → Option (List ℕ) → Option Outcome
+after_secret go None = None
+after_secret go (Some bytes) = with_secret go (secret_read bytes)
 
 -- ---- `shell`
 
@@ -95,21 +116,21 @@ abbrev pub outcome_of_told : Told → Outcome
 outcome_of_told told = record { pieces = told.pieces ++ (outcome_of_end told.end).pieces; status = (outcome_of_end told.end).status }
 
 -- a session that executes the lines of these bytes
-unfoldable pub outcome_of_lines : ShellTask → Picture → List ℕ → Outcome
-outcome_of_lines task picture input = outcome_of_told (told_of (setup_of task) picture input_limit input)
+unfoldable pub outcome_of_lines : ShellTask → List ℕ → Picture → List ℕ → Outcome
+outcome_of_lines task secret picture input = outcome_of_told (told_of (setup_of task) secret picture input_limit input)
 
 -- the start of a session needs more tag numbers than there may be
-abbrev pub is_over_at_start : ShellTask → Picture → Bool
-is_over_at_start task picture = is_over (start_of_setup (setup_of task) picture).account
+abbrev pub is_over_at_start : ShellTask → List ℕ → Picture → Bool
+is_over_at_start task secret picture = is_over_of (setup_of task) secret picture
 
 -- such a start ends the session whatever the input is
 abbrev pub outcome_of_no_start : Outcome
 outcome_of_no_start = outcome_of_told none_executed
 
 -- else an input whose bytes are not told leaves the outcome unsaid too
-abbrev pub outcome_of_session : ShellTask → Picture → Option (List ℕ) → Option Outcome
-outcome_of_session task picture None = if is_over_at_start task picture then Some outcome_of_no_start else None
-outcome_of_session task picture (Some input) = Some (outcome_of_lines task picture input)
+abbrev pub outcome_of_session : ShellTask → List ℕ → Picture → Option (List ℕ) → Option Outcome
+outcome_of_session task secret picture None = if is_over_at_start task secret picture then Some outcome_of_no_start else None
+outcome_of_session task secret picture (Some input) = Some (outcome_of_lines task secret picture input)
 
 -- ---- `asm`, `migrate`, `elf` and `dis`
 
@@ -124,12 +145,12 @@ outcome_of_listing picture = record { pieces = listing picture; status = Done }
 -- ---- `load`
 
 abbrev pub every_policy : Choice
-every_policy = record { seal = true; comp = true; flow = true; heap = true }
+every_policy = record { seal = true; comp = true; flow = true; heap = true; secret = false }
 
 -- a workload runs under every policy; its blocks make at most ten turns each, and its head and its end at most four
 abbrev pub run_of_load : LoadTask → RunTask
 run_of_load task =
-    record { image = []; choice = every_policy; cache = task.cache; tags = task.tags; turns = 10 * task.count + 4 }
+    record { image = []; choice = every_policy; secret = None; cache = task.cache; tags = task.tags; turns = 10 * task.count + 4 }
 
 -- the counts of an engine that made no turn
 abbrev pub no_counts : Counts
@@ -148,28 +169,28 @@ outcome_of_work count course =
 
 -- no input is fed
 unfoldable pub outcome_of_load : LoadTask → Picture → Outcome
-outcome_of_load task picture = outcome_of_work task.count (course_of_run (run_of_load task) picture [])
+outcome_of_load task picture = outcome_of_work task.count (course_under (whole_of_run (run_of_load task) [] picture) (run_of_load task) picture [])
 
 -- ---- the whole
 
--- what is done with an image and the input's bytes, where these are told
-abbrev pub outcome_of_picture : Task → Picture → Option (List ℕ) → Option Outcome
-outcome_of_picture (run task) picture input = outcome_of_input task picture input
-outcome_of_picture (shell task) picture input = outcome_of_session task picture input
-outcome_of_picture (save task) picture input = Some outcome_of_saving
-outcome_of_picture (elf task) picture input = Some outcome_of_saving
-outcome_of_picture (disassemble task) picture input = Some (outcome_of_listing picture)
-outcome_of_picture (load task) picture input = Some (outcome_of_load task picture)
+-- what is done with an image, the content that it is of, and the input's bytes, where these are told
+abbrev pub outcome_of_picture : (task : Task) → ContentOf task → Picture → Option (List ℕ) → Option Outcome
+outcome_of_picture (run task) files picture input = after_secret (λ secret. outcome_of_input task secret picture input) files.secret
+outcome_of_picture (shell task) files picture input = after_secret (λ secret. outcome_of_session task secret picture input) files.secret
+outcome_of_picture (save task) bytes picture input = Some outcome_of_saving
+outcome_of_picture (elf task) files picture input = Some outcome_of_saving
+outcome_of_picture (disassemble task) bytes picture input = Some (outcome_of_listing picture)
+outcome_of_picture (load task) bytes picture input = Some (outcome_of_load task picture)
 
--- where the content is refused, the input is not looked at
-abbrev pub outcome_of_image : Task → Result Picture Refusal → Option (List ℕ) → Option Outcome
-outcome_of_image task (Ok picture) input = outcome_of_picture task picture input
-outcome_of_image task (Err refusal) input = Some (refusal_outcome refusal)
+-- where the content is refused, neither a secret file nor the input is looked at
+abbrev pub outcome_of_image : (task : Task) → ContentOf task → Result Picture Refusal → Option (List ℕ) → Option Outcome
+outcome_of_image task content (Ok picture) input = outcome_of_picture task content picture input
+outcome_of_image task content (Err refusal) input = Some (refusal_outcome refusal)
 
 -- a content that is not told leaves the outcome unsaid too
 abbrev pub outcome_of_content : (task : Task) → Option (ContentOf task) → Option (List ℕ) → Option Outcome
 outcome_of_content task None input = None
-outcome_of_content task (Some content) input = outcome_of_image task (content_read task content) input
+outcome_of_content task (Some content) input = outcome_of_image task content (content_read task content) input
 
 -- what the task comes to, by what the files hold and what the input gives, where these are told
 abbrev pub outcome_of_task : Task → (List ℕ → Option (List ℕ)) → Option (List ℕ) → Option Outcome

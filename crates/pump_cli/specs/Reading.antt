@@ -1,5 +1,5 @@
 -- What is read: the files that an image is made of, and the whole input, each within its limit.
-use Rattle.std.specs.Prelude.{ℕ, nat_le, List, length, Option, Some, Result, Ok, Err, if◌then◌else◌, option_and_then, option_map}
+use Rattle.std.specs.Prelude.{ℕ, nat_le, List, [], length, Option, Some, None, Result, Ok, Err, if◌then◌else◌, option_and_then, option_map}
 use Rattle.image_format.specs.Picture.{Picture}
 use Rattle.image_format.specs.Migrated.{migrated}
 use Rattle.image_format.specs.Reading.{image_of}
@@ -11,6 +11,7 @@ use Rattle.elf_image.specs.Loaded.{image_of_elf}
 use Rattle.elf_image.specs.Tags.{tags_of}
 use Rattle.elf_image.specs.declared.errors.ElfError.{ElfError}
 use Rattle.elf_image.specs.declared.errors.TagsError.{TagsError}
+use Rattle.policy_choice.specs.declared.choice.Choice.{Choice}
 use Rattle.pump_line.specs.Task.{Task, disassemble, elf, load, run, save, shell}
 use Rattle.shared_terms.specs.Steps.{◌>>=◌, result_view}
 use Rattle.pump_line.specs.declared.task.Making.{Making}
@@ -101,12 +102,33 @@ elf_read files = both_taken (within_limit file_limit files.elf) (within_limit fi
 abbrev pub files_told : Option (List ℕ) → Option (List ℕ) → Option ElfFiles
 files_told elf_bytes tag_bytes = option_and_then (λ file. option_map (λ tags. record { elf = file; tags = tags }) tag_bytes) elf_bytes
 
+-- ---- an image and a secret file
+
+-- the secret bytes of a task, where they are told: those of the file that it names, where secrecy is chosen, and none else
+abbrev pub secret_held : Choice → Option (List ℕ) → (List ℕ → Option (List ℕ)) → Option (List ℕ)
+secret_held choice None held = Some []
+secret_held choice (Some name) held = if choice.secret then held name else Some []
+
+-- the secret bytes, where there are not too many
+unfoldable pub secret_read : List ℕ → Result (List ℕ) Refusal
+secret_read bytes = within_limit file_limit bytes
+
+-- the bytes of an image's file, and the secret bytes where they are told
+pub record StartFiles : Type 0 where
+  pub image : List ℕ
+  pub secret : Option (List ℕ)
+
+-- those of a task, where its image's file is told
+abbrev pub start_held : List ℕ → Choice → Option (List ℕ) → (List ℕ → Option (List ℕ)) → Option StartFiles
+start_held image choice secret held = option_map (λ bytes. record { image = bytes; secret = secret_held choice secret held }) (held image)
+
 -- ---- a task's content
 
--- what a task's image is made from: the bytes of its file or the source of a workload, and of `elf` the bytes of two files
+-- what a task's image is made from: the bytes of its file or the source of a workload, and of `elf` the bytes of two files; and the secret
+-- bytes of `run` and `shell`
 abbrev pub ContentOf : Task → Type 0
-ContentOf (run task) = List ℕ
-ContentOf (shell task) = List ℕ
+ContentOf (run task) = StartFiles
+ContentOf (shell task) = StartFiles
 ContentOf (save task) = List ℕ
 ContentOf (elf task) = ElfFiles
 ContentOf (disassemble task) = List ℕ
@@ -114,8 +136,8 @@ ContentOf (load task) = List ℕ
 
 -- that, where it is told
 abbrev pub content_of : (task : Task) → (List ℕ → Option (List ℕ)) → Option (ContentOf task)
-content_of (run task) held = held task.image
-content_of (shell task) held = held task.image
+content_of (run task) held = start_held task.image task.choice task.secret held
+content_of (shell task) held = start_held task.image task.choice task.secret held
 content_of (save task) held = held task.source
 content_of (elf task) held = files_told (held task.elf) (held task.tags)
 content_of (disassemble task) held = held task.image
@@ -123,8 +145,8 @@ content_of (load task) held = Some (source_of_workload task.count)
 
 -- the image that is made from it
 abbrev pub content_read : (task : Task) → ContentOf task → Result Picture Refusal
-content_read (run task) bytes = image_read bytes
-content_read (shell task) bytes = image_read bytes
+content_read (run task) files = image_read files.image
+content_read (shell task) files = image_read files.image
 content_read (save task) bytes = made_read task.making bytes
 content_read (elf task) files = elf_read files
 content_read (disassemble task) bytes = image_read bytes

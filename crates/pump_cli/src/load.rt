@@ -30,7 +30,7 @@ use crate::status::Status;
 use engine_trait::{Counts, Engine, Feed, LoadEnd, Loader};
 use host_io::{Files, Sink, Source, SureSink};
 use image_format::Image;
-use policy_choice::Choice;
+use policy_choice::{All, Choice};
 use pump_line::LoadTask;
 use pump_loader::{ChosenLoad, chosen_load};
 use pump_words::{Line, write_text};
@@ -39,12 +39,13 @@ use std::alloc::Global;
 use tag_text::write_number;
 use workload::write_workload;
 
-/// The policies of a workload.
+/// The policies of a workload: all but secrecy, which has nothing to do in it.
 const EVERY_POLICY: Choice = Choice {
     seal: true,
     comp: true,
     flow: true,
     heap: true,
+    secret: false,
 };
 
 /// The counts of an engine that made no turn.
@@ -180,7 +181,14 @@ fn run_workload<K: Sink>(
         (record { out = K.faults out.new; err = err }) result }
     ensures kind { IfOk result IsOfRun }
 {
-    match chosen_load(alloc, image, basis_of(EVERY_POLICY), task.cache, task.tags) {
+    match chosen_load::<All>(
+        alloc,
+        image,
+        basis_of(EVERY_POLICY),
+        &[],
+        task.cache,
+        task.tags,
+    ) {
         ChosenLoad::Asked(loader) => run_blocks(alloc, task.count, &loader, out),
         ChosenLoad::Kept(loader) => run_blocks(alloc, task.count, &loader, out),
         ChosenLoad::InSets(loader) => run_blocks(alloc, task.count, &loader, out),

@@ -1,21 +1,22 @@
 //! The program, from the words, the files, the input and the two sinks to its status.
 
-ghost use Rattle.std.specs.Prelude.{◌≡◌, ℕ, List, Option, Some, Ok};
+ghost use Rattle.std.specs.Prelude.{◌≡◌, ℕ, List, Option, Some, Ok, true};
 ghost use Rattle.host_io.specs.Bytes.{AreBytes, TellBytes};
 ghost use Rattle.image_format.specs.Picture.{Picture};
 ghost use Rattle.workload_laws.specs.Images.{image_of_workload};
 ghost use Rattle.pump_line.specs.Request.{DisassembleTask, ElfTask, SaveTask};
-ghost use Rattle.pump_line.specs.Task.{AllowsRules, AllowsTags, LoadTask, disassemble, elf, load, save, task_of};
+ghost use Rattle.pump_line.specs.Task.{AllowsRules, AllowsTags, LoadTask, RunTask, disassemble, elf, load, run, save, task_of};
 ghost use Rattle.pump_line.specs.Told.{texts_of, task_value};
 ghost use Rattle.pump_cli.specs.Elf.{SavesElf};
 ghost use Rattle.pump_cli.specs.Facts.{status_in};
+ghost use Rattle.pump_cli.specs.Hidden.{DifferInSecret};
 ghost use Rattle.pump_cli.specs.ListedBack.{ListsBack};
 ghost use Rattle.pump_cli.specs.Migrated.{SavesMigrated};
 ghost use Rattle.pump_cli.specs.Environments.{environment};
 ghost use Rattle.pump_cli.specs.Program.{outcome_of_load, program};
 ghost use Rattle.pump_cli.specs.Reading.{ElfFiles, elf_read, image_read};
 ghost use Rattle.pump_cli.specs.Runs.{EachRun, IsOut, IsSafeRun, IsSpent, TheRun};
-ghost use Rattle.pump_cli.specs.Sessions.{TellsRuns, TheSession};
+ghost use Rattle.pump_cli.specs.Sessions.{SessionTellsRuns, TheSession};
 ghost use Rattle.pump_cli.specs.Theorem.{Headline, HeadlineOf};
 
 use crate::cut::Cut;
@@ -96,6 +97,9 @@ fn run_words<F: Files, S: Source, K: Sink, L: Sink>(
 /// numbers ran out of them (`tags_out`), as does the start of a session (`Executed`, specs/Facts.antt). Where a read of a
 /// session's input fails, each line that ended before it was replied to, and nothing else was put (`replied` there).
 ///
+/// What a run shows doesn't depend on what its secret file holds (`hides`): where secrecy is chosen, and two contents of the secret file
+/// are told and within their limit, the bytes and the status that are due with the one are due with the other, whatever the input is.
+///
 /// `load` makes the source of a workload itself, runs its image under every policy on no input, and tells in one line on standard
 /// output how many turns, hits and misses there were, and its status. What is due of it is that line alone, whatever files and
 /// input hold (`loads`): the source of each workload that words can ask for is assembled, so none is refused.
@@ -139,7 +143,12 @@ pub fn pump<F: Files, S: Source, K: Sink, L: Sink>(
     ensures safe_here { EachRun IsSafeRun (texts_of words.now.items)
         (F.held files.old) (S.left input.old) }
     ensures replies { (held : List ℕ → Option (List ℕ)) (left : Option (List ℕ))
-        → TheSession TellsRuns (texts_of words.now.items) held left }
+        → TheSession SessionTellsRuns (texts_of words.now.items) held left }
+    ensures hides { (task : RunTask) (held other : List ℕ → Option (List ℕ))
+        (left : Option (List ℕ)) → TellBytes held → task_of (texts_of words.now.items) ≡ Some (run task)
+        → task.choice.secret ≡ true → DifferInSecret task held other
+        → program (texts_of words.now.items) other left
+        ≡ program (texts_of words.now.items) held left }
     ensures spent { result ≡ Status.TurnsSpent → TheRun IsSpent (texts_of words.now.items)
         (F.held files.old) (S.left input.old) }
     ensures tags_out { result ≡ Status.TagsOut → TheRun IsOut (texts_of words.now.items)

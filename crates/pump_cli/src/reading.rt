@@ -5,8 +5,10 @@ ghost use Rattle.shared_terms.specs.Counts.{next_count};
 ghost use Rattle.host_io.specs.Prefixes.{LosesPrefix};
 ghost use Rattle.asm_emit.specs.Assembled.{image_of_source};
 ghost use Rattle.image_format.specs.Reading.{image_of};
-ghost use Rattle.pump_cli.specs.Early.{InputRoseBy, IsOfFile, ReadRoseBy};
-ghost use Rattle.pump_cli.specs.Reading.{file_limit, image_or_refusal, image_read, input_limit, input_read, source_or_refusal, source_read, within_limit};
+ghost use Rattle.pump_cli.specs.Early.{InputRoseBy, IsOfFile, LoadsRoseBy, ReadRoseBy};
+ghost use Rattle.pump_cli.specs.Reading.{file_limit, image_or_refusal, image_read, input_limit, input_read, secret_held, secret_read, source_or_refusal, source_read, within_limit};
+ghost use Rattle.pump_cli.specs.Calls.{counted_by, secret_calls};
+ghost use Rattle.pump_line.specs.Told.{text_value};
 ghost use Rattle.pump_cli.specs.declared.cut.Cut.{Cut};
 ghost use Rattle.pump_cli.specs.declared.refusal.Refusal.{Refusal};
 
@@ -16,6 +18,7 @@ use asm_emit::assemble_source;
 use asm_read::AsmEnd;
 use host_io::{Files, LoadFile, ReadEnd, Source, read_to_end};
 use image_format::{Image, ImageEnd, read_image};
+use policy_choice::Choice;
 use std::alloc::Global;
 
 /// The most bytes of a file, and of the source of a workload.
@@ -81,6 +84,36 @@ pub(crate) fn load_image<F: Files>(
     match load_file(alloc, files, name) {
         Ok(bytes) => image_of(alloc, &bytes),
         Err(end) => Err(end),
+    }
+}
+
+/// The secret bytes of a task with this choice: those of the file of this name, where secrecy is chosen and a file is named, and none
+/// else.
+#[tactic(auto, unfolding(crate::specs::Reading::secret_read, crate::specs::Reading::file_limit))]
+pub(crate) fn load_secret<F: Files>(
+    alloc: Global,
+    files: &mut F,
+    choice: Choice,
+    name: Option<&str>,
+) -> Result<Vec<u8>, EarlyEnd>
+    ensures taken { IfOk result (λ secret. IfSome
+        (secret_held choice (text_value name.entry) (F.held files.old)) (λ bytes.
+        secret_read bytes ≡ Ok secret.items)) }
+    ensures refused { (refusal : Refusal) → result ≡ Err (EarlyEnd.Refused refusal) → IfSome
+        (secret_held choice (text_value name.entry) (F.held files.old)) (λ bytes.
+        secret_read bytes ≡ Err refusal) }
+    ensures long { (refusal : Refusal) → result ≡ Err (EarlyEnd.Refused refusal)
+        → refusal ≡ Refusal.TooLong }
+    ensures faults { LoadsRoseBy (secret_calls choice (text_value name.entry))
+        (F.read_faults files.old) (F.read_faults files.new) result }
+    ensures calls { F.calls files.new
+        ≡ counted_by (secret_calls choice (text_value name.entry)) (F.calls files.old) }
+    ensures writes { F.write_faults files.new ≡ F.write_faults files.old }
+    ensures held { F.held files.new ≡ F.held files.old }
+{
+    match name {
+        Some(name) if choice.secret => load_file(alloc, files, name),
+        _ => Ok(Vec::new(alloc)),
     }
 }
 

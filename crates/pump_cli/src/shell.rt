@@ -12,12 +12,13 @@ ghost use Rattle.pump_cli.specs.Environments.{environment};
 ghost use Rattle.pump_cli.specs.Facts.{Does, IsLongInput, PutsFaultBy, RepliedBefore, status_in};
 ghost use Rattle.pump_cli.specs.Program.{is_over_at_start, outcome_of_end, outcome_of_lines, outcome_of_no_start, setup_of};
 ghost use Rattle.pump_cli.specs.Reading.{input_limit};
+ghost use Rattle.pump_cli.specs.Runs.{whole_of_shell};
 ghost use Rattle.pump_cli.specs.Theorem.{HeadlineOf};
 
 use crate::basis::basis_of;
 use crate::cut::Cut;
 use crate::ending::end_at_start;
-use crate::reading::{INPUT_LIMIT, load_image};
+use crate::reading::{INPUT_LIMIT, load_image, load_secret};
 use crate::refusal::{Refusal, end_early, refuse};
 use crate::status::Status;
 use host_io::{Files, Sink, Source};
@@ -51,6 +52,7 @@ pub(crate) fn obey_lines<S: Source, K: Sink, L: Sink>(
     alloc: Global,
     task: ShellTask<'_>,
     image: &Image,
+    secret: &[u8],
     input: &mut S,
     out: &mut K,
     err: &mut L,
@@ -58,7 +60,7 @@ pub(crate) fn obey_lines<S: Source, K: Sink, L: Sink>(
     requires rules { IsCacheSize task.cache }
     requires tags { 1 ≤ task.tags }
     ensures does { IfSome (S.left input.old) (λ bytes. Does
-        (outcome_of_lines (shell_value task.entry) image.now bytes)
+        (outcome_of_lines (shell_value task.entry) secret.now image.now bytes)
         (record { out = K.taken out.old; err = L.taken err.old })
         (record { out = K.taken out.new; err = L.taken err.new }) result) }
     ensures faults { SessionFaultBy (S.faults input.old) (S.faults input.new)
@@ -68,21 +70,22 @@ pub(crate) fn obey_lines<S: Source, K: Sink, L: Sink>(
     ensures long { result ≡ Ok Status.TooLong → IfSome (S.left input.old) IsLongInput }
     // A start that is out of tag numbers, whatever the input is.
     ensures tags_out { result ≡ Ok Status.TagsOut
-        → is_over_at_start (shell_value task.entry) image.now ≡ true }
-    ensures no_start { is_over_at_start (shell_value task.entry) image.now ≡ true
+        → is_over_at_start (shell_value task.entry) secret.now image.now ≡ true }
+    ensures no_start { is_over_at_start (shell_value task.entry) secret.now image.now ≡ true
         → Does outcome_of_no_start
         (record { out = K.taken out.old; err = L.taken err.old })
         (record { out = K.taken out.new; err = L.taken err.new }) result }
-    ensures unread { is_over_at_start (shell_value task.entry) image.now ≡ true
+    ensures unread { is_over_at_start (shell_value task.entry) secret.now image.now ≡ true
         → input.new ≡ input.old }
     // A session that ended with its input has read it to its end.
     ensures closed { OnOk result (IfSome (S.left input.old) (λ bytes.
-        (told_of (setup_of (shell_value task.entry)) image.now input_limit bytes).end
+        (told_of (setup_of (shell_value task.entry)) secret.now image.now input_limit bytes).end
         ≡ SessionEnd.InputEnd → IsTrue (S.closed input.new))) }
     ensures moved { LosesPrefix (S.left input.old) (S.left input.new) (input_limit + 4096) }
     // Where a read failed, each line that ended before it was replied to, and nothing else was put.
     ensures replied { result ≡ Err Cut.InputFailed
-        → RepliedBefore (shell_value task.entry) image.now (S.left input.old) (S.left input.new)
+        → RepliedBefore (whole_of_shell (shell_value task.entry) secret.now image.now)
+        (shell_value task.entry) image.now (S.left input.old) (S.left input.new)
         (record { out = K.taken out.old; err = L.taken err.old })
         (record { out = K.taken out.new; err = L.taken err.new }) }
 {
@@ -91,13 +94,13 @@ pub(crate) fn obey_lines<S: Source, K: Sink, L: Sink>(
         cache: task.cache,
         tags: task.tags,
     };
-    match run_session(alloc, setup, image, input, INPUT_LIMIT, out) {
+    match run_session(alloc, setup, secret, image, input, INPUT_LIMIT, out) {
         Ok(end) => end_session(err, end),
         Err(cut) => Err(Cut::from(cut)),
     }
 }
 
-/// Loads the image, and executes the input's lines over it.
+/// Loads the image, and the secret bytes where secrecy is chosen, and executes the input's lines over it.
 pub(crate) fn shell_task<F: Files, S: Source, K: Sink, L: Sink>(
     alloc: Global,
     task: ShellTask<'_>,
@@ -114,8 +117,13 @@ pub(crate) fn shell_task<F: Files, S: Source, K: Sink, L: Sink>(
         (environment F.tells F.held F.read_faults F.write_faults F.calls S.left S.closed S.faults
         K.taken K.faults L.taken L.faults files.new input.new out.new err.new) }
 {
-    match load_image(alloc, files, task.image) {
-        Ok(image) => obey_lines(alloc, task, &image, input, out, err),
-        Err(end) => end_early(err, end),
-    }
+    let image = match load_image(alloc, files, task.image) {
+        Ok(image) => image,
+        Err(end) => return end_early(err, end),
+    };
+    let secret = match load_secret(alloc, files, task.choice, task.secret) {
+        Ok(secret) => secret,
+        Err(end) => return end_early(err, end),
+    };
+    obey_lines(alloc, task, &image, &secret, input, out, err)
 }

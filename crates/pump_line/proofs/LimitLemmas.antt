@@ -72,24 +72,24 @@ is_size (Some text) size is = size_by text (position_or_len is_times text == len
 abbrev HasRead : Option CacheSize → Option ℕ → CacheSize → ℕ → Type 0
 HasRead cache tags rules limit = (cache ≡ Some rules) × (tags ≡ Some limit)
 
-run_has : (image : Text) (choice : Option Choice) (cache : Option CacheSize) (tags turns : Option ℕ) (task : RunTask)
-    → run_with image choice cache tags turns ≡ Some task → HasRead cache tags task.cache task.tags
-run_has image None cache tags turns task is = absurd cc
-run_has image (Some chosen) None tags turns task is = absurd cc
-run_has image (Some chosen) (Some rules) None turns task is = absurd cc
-run_has image (Some chosen) (Some rules) (Some limit) None task is = absurd cc
-run_has image (Some chosen) (Some rules) (Some limit) (Some most) task is =
-    let read : RunTask = record { image = image; choice = chosen; cache = rules; tags = limit; turns = most } in
+run_has : (image : Text) (choice : Option Choice) (secret : Option Text) (cache : Option CacheSize) (tags turns : Option ℕ) (task : RunTask)
+    → run_with image choice secret cache tags turns ≡ Some task → HasRead cache tags task.cache task.tags
+run_has image None secret cache tags turns task is = absurd cc
+run_has image (Some chosen) secret None tags turns task is = absurd cc
+run_has image (Some chosen) secret (Some rules) None turns task is = absurd cc
+run_has image (Some chosen) secret (Some rules) (Some limit) None task is = absurd cc
+run_has image (Some chosen) secret (Some rules) (Some limit) (Some most) task is =
+    let read : RunTask = record { image = image; choice = chosen; secret = secret; cache = rules; tags = limit; turns = most } in
     let same : read ≡ task = cc in
     (ap (λ (other : RunTask). Some other.cache) same, ap (λ (other : RunTask). Some other.tags) same)
 
-shell_has : (image : Text) (choice : Option Choice) (cache : Option CacheSize) (tags : Option ℕ) (task : ShellTask)
-    → shell_with image choice cache tags ≡ Some task → HasRead cache tags task.cache task.tags
-shell_has image None cache tags task is = absurd cc
-shell_has image (Some chosen) None tags task is = absurd cc
-shell_has image (Some chosen) (Some rules) None task is = absurd cc
-shell_has image (Some chosen) (Some rules) (Some limit) task is =
-    let read : ShellTask = record { image = image; choice = chosen; cache = rules; tags = limit } in
+shell_has : (image : Text) (choice : Option Choice) (secret : Option Text) (cache : Option CacheSize) (tags : Option ℕ) (task : ShellTask)
+    → shell_with image choice secret cache tags ≡ Some task → HasRead cache tags task.cache task.tags
+shell_has image None secret cache tags task is = absurd cc
+shell_has image (Some chosen) secret None tags task is = absurd cc
+shell_has image (Some chosen) secret (Some rules) None task is = absurd cc
+shell_has image (Some chosen) secret (Some rules) (Some limit) task is =
+    let read : ShellTask = record { image = image; choice = chosen; secret = secret; cache = rules; tags = limit } in
     let same : read ≡ task = cc in
     (ap (λ (other : ShellTask). Some other.cache) same, ap (λ (other : ShellTask). Some other.tags) same)
 
@@ -121,9 +121,9 @@ request_allows : (asked : Option Request) (task : Task) → option_and_then task
 unfolding run_task_in shell_task_in load_task_in
 request_allows None task is = absurd cc
 request_allows (Some (run_asked request)) task is =
-    made_allows run (run_task_in request) task (λ other read. read_allows request.cache request.tags other.cache other.tags (run_has request.image _ _ _ _ other read)) is
+    made_allows run (run_task_in request) task (λ other read. read_allows request.cache request.tags other.cache other.tags (run_has request.image _ request.secret _ _ _ other read)) is
 request_allows (Some (shell_asked request)) task is =
-    made_allows shell (shell_task_in request) task (λ other read. read_allows request.cache request.tags other.cache other.tags (shell_has request.image _ _ _ other read)) is
+    made_allows shell (shell_task_in request) task (λ other read. read_allows request.cache request.tags other.cache other.tags (shell_has request.image _ request.secret _ _ other read)) is
 request_allows (Some (save_asked asked)) task is = let same : save asked ≡ task = cc in subst Allows same (tt, tt)
 request_allows (Some (elf_asked asked)) task is = let same : elf asked ≡ task = cc in subst Allows same (tt, tt)
 request_allows (Some (disassemble_asked asked)) task is = let same : disassemble asked ≡ task = cc in subst Allows same (tt, tt)

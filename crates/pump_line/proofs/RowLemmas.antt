@@ -36,20 +36,25 @@ AskNothing lines = Name [] lines × (map (λ line. task_of (words_of line)) line
 
 -- a run that keeps the most rules, and the most tags with words, that a line gives which says nothing of them
 abbrev run_of : Text → Choice → ℕ → Task
-run_of image choice turns = run (record { image = image; choice = choice; cache = one_set 1024; tags = 65536; turns = turns })
+run_of image choice turns = run (record { image = image; choice = choice; secret = None; cache = one_set 1024; tags = 65536; turns = turns })
 
 -- a run of no policy that keeps so many rules, and so many tags with words
 abbrev run_keeping : Text → ℕ → ℕ → Task
-run_keeping image cache tags = run (record { image = image; choice = no_policy; cache = one_set cache; tags = tags; turns = 1000000 })
+run_keeping image cache tags = run (record { image = image; choice = no_policy; secret = None; cache = one_set cache; tags = tags; turns = 1000000 })
 
 -- a run of no policy that keeps rules in so many sets of so many ways
 abbrev run_in_sets : Text → ℕ → ℕ → Task
 run_in_sets image sets ways =
-    run (record { image = image; choice = no_policy; cache = record { sets = sets; ways = ways }; tags = 65536; turns = 1000000 })
+    run (record { image = image; choice = no_policy; secret = None; cache = record { sets = sets; ways = ways }; tags = 65536; turns = 1000000 })
+
+-- a run under secrecy of the bytes of this file
+abbrev run_hiding : Text → Text → Task
+run_hiding image secret =
+    run (record { image = image; choice = record no_policy { secret = true }; secret = Some secret; cache = one_set 1024; tags = 65536; turns = 1000000 })
 
 -- a shell that keeps so many rules, and so many tags with words
 abbrev shell_of : Text → Choice → ℕ → ℕ → Task
-shell_of image choice cache tags = shell (record { image = image; choice = choice; cache = one_set cache; tags = tags })
+shell_of image choice cache tags = shell (record { image = image; choice = choice; secret = None; cache = one_set cache; tags = tags })
 
 -- an assembly of a source into an image
 abbrev asm_of : Text → Text → Task
@@ -81,7 +86,9 @@ runs : Ask (
     (codes "pump run a.img --policy none", run_of (codes "a.img") no_policy 1000000) ∷  -- `none` named
     (codes "pump run a.img --policy seal", run_of (codes "a.img") sealing_alone 1000000) ∷  -- sealing named
     (codes "pump run a.img --policy comp", run_of (codes "a.img") (record no_policy { comp = true }) 1000000) ∷  -- another policy named
-    (codes "pump run a.img --policy heap,flow,seal,comp", run_of (codes "a.img") (record { seal = true; comp = true; flow = true; heap = true }) 1000000) ∷  -- all named, in another order
+    (codes "pump run a.img --policy heap,secret,flow,seal,comp", run_of (codes "a.img") (record { seal = true; comp = true; flow = true; heap = true; secret = true }) 1000000) ∷  -- all named, in another order
+    (codes "pump run a.img --policy secret --secret a.bin", run_hiding (codes "a.img") (codes "a.bin")) ∷  -- secrecy of the bytes of a file
+    (codes "pump run --secret=a.bin a.img --policy secret", run_hiding (codes "a.img") (codes "a.bin")) ∷  -- the file before the image
     (codes "pump run a.img --policy=seal", run_of (codes "a.img") sealing_alone 1000000) ∷  -- the value behind an equals sign
     (codes "pump run --policy seal a.img", run_of (codes "a.img") sealing_alone 1000000) ∷  -- the option before the image
     (codes "pump run --turns 5 a.img --policy seal", run_of (codes "a.img") sealing_alone 5) ∷  -- one option before and one after the image

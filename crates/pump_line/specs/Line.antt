@@ -27,13 +27,13 @@ limit_options = codes "cache" ∷ codes "tags" ∷ []
 
 -- the options of each subcommand that starts an image
 abbrev pub start_options : List Text
-start_options = codes "policy" ∷ limit_options
+start_options = codes "policy" ∷ codes "secret" ∷ limit_options
 
--- `run IMAGE [--policy LIST] [--cache SIZE] [--tags N] [--turns N]`
+-- `run IMAGE [--policy LIST] [--secret FILE] [--cache SIZE] [--tags N] [--turns N]`
 unfoldable pub run_shape : Shape
 run_shape = subcommand_shape (codes "run") image_operand (start_options ++ codes "turns" ∷ [])
 
--- `shell IMAGE [--policy LIST] [--cache SIZE] [--tags N]`
+-- `shell IMAGE [--policy LIST] [--secret FILE] [--cache SIZE] [--tags N]`
 unfoldable pub shell_shape : Shape
 shell_shape = subcommand_shape (codes "shell") image_operand start_options
 

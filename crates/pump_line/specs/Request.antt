@@ -10,6 +10,7 @@ use Rattle.pump_line.specs.declared.task.Making.TheVariants.{Assemble, Migrate}
 pub record RunRequest : Type 0 where
   pub image : Text
   pub policy : Option Text
+  pub secret : Option Text
   pub cache : Option Text
   pub tags : Option Text
   pub turns : Option Text
@@ -18,6 +19,7 @@ pub record RunRequest : Type 0 where
 pub record ShellRequest : Type 0 where
   pub image : Text
   pub policy : Option Text
+  pub secret : Option Text
   pub cache : Option Text
   pub tags : Option Text
 
@@ -58,6 +60,7 @@ unfoldable pub run_in : List Row → Option RunRequest
 run_in rows = option_map (λ image. record {
   image = image;
   policy = first_of (codes "policy") rows;
+  secret = first_of (codes "secret") rows;
   cache = first_of (codes "cache") rows;
   tags = first_of (codes "tags") rows;
   turns = first_of (codes "turns") rows;
@@ -67,6 +70,7 @@ unfoldable pub shell_in : List Row → Option ShellRequest
 shell_in rows = option_map (λ image. record {
   image = image;
   policy = first_of (codes "policy") rows;
+  secret = first_of (codes "secret") rows;
   cache = first_of (codes "cache") rows;
   tags = first_of (codes "tags") rows;
 }) (first_of (codes "image") rows)

@@ -12,10 +12,12 @@ use Rattle.policy_choice.specs.declared.choice.Choice.{Choice}
 use Rattle.pump_line.specs.Request.{DisassembleTask, ElfTask, LoadRequest, Request, RunRequest, SaveTask, ShellRequest}
 use Rattle.pump_line.specs.Request.{disassemble_asked, elf_asked, load_asked, request_of, run_asked, save_asked, shell_asked}
 
--- a `run`: the image's name, the policies that are chosen, and its limits
+-- a `run`: the image's name, the policies that are chosen, the secret file, and its limits
 pub record RunTask : Type 0 where
   pub image : Text
   pub choice : Choice
+  -- the name of the secret file, where one is given
+  pub secret : Option Text
   -- the most rules that are kept, in sets
   pub cache : CacheSize
   -- the most tags that may have words
@@ -27,6 +29,8 @@ pub record RunTask : Type 0 where
 pub record ShellTask : Type 0 where
   pub image : Text
   pub choice : Choice
+  -- the name of the secret file, where one is given
+  pub secret : Option Text
   -- the most rules that are kept, in sets
   pub cache : CacheSize
   -- the most tags that may have words
@@ -162,12 +166,13 @@ abbrev pub count_of : Text → Option ℕ
 count_of = number_within 1 most_blocks
 
 -- the run with these values; `None` where one is bad
-abbrev pub run_with : Text → Option Choice → Option CacheSize → Option ℕ → Option ℕ → Option RunTask
-run_with image choice cache tags turns =
+abbrev pub run_with : Text → Option Choice → Option Text → Option CacheSize → Option ℕ → Option ℕ → Option RunTask
+run_with image choice secret cache tags turns =
     option_and_then (λ chosen. option_and_then (λ rules.
     option_and_then (λ tag_limit. option_map (λ turn_limit. record {
       image = image;
       choice = chosen;
+      secret = secret;
       cache = rules;
       tags = tag_limit;
       turns = turn_limit;
@@ -176,15 +181,16 @@ run_with image choice cache tags turns =
 -- the run that is asked for; `None` where one of its values is bad
 unfoldable pub run_task_in : RunRequest → Option RunTask
 run_task_in request =
-    run_with request.image (choice_in request.policy) (cache_of request.cache) (tags_of request.tags)
+    run_with request.image (choice_in request.policy) request.secret (cache_of request.cache) (tags_of request.tags)
     (turns_of request.turns)
 
 -- the shell with these values; `None` where one is bad
-abbrev pub shell_with : Text → Option Choice → Option CacheSize → Option ℕ → Option ShellTask
-shell_with image choice cache tags =
+abbrev pub shell_with : Text → Option Choice → Option Text → Option CacheSize → Option ℕ → Option ShellTask
+shell_with image choice secret cache tags =
     option_and_then (λ chosen. option_and_then (λ rules. option_map (λ tag_limit. record {
       image = image;
       choice = chosen;
+      secret = secret;
       cache = rules;
       tags = tag_limit;
     }) tags) cache) choice
@@ -192,7 +198,7 @@ shell_with image choice cache tags =
 -- the shell that is asked for; `None` where one of its values is bad
 unfoldable pub shell_task_in : ShellRequest → Option ShellTask
 shell_task_in request =
-    shell_with request.image (choice_in request.policy) (cache_of request.cache) (tags_of request.tags)
+    shell_with request.image (choice_in request.policy) request.secret (cache_of request.cache) (tags_of request.tags)
 
 -- the workload with these values; `None` where one is bad
 abbrev pub load_with : Option ℕ → Option CacheSize → Option ℕ → Option LoadTask

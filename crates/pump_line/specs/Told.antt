@@ -25,13 +25,20 @@ abbrev pub run_value : RunWords → RunTask
 run_value task = record {
   image = task.image.now;
   choice = task.choice;
+  secret = text_value task.secret;
   cache = task.cache;
   tags = task.tags;
   turns = task.turns;
 }
 
 abbrev pub shell_value : ShellWords → ShellTask
-shell_value task = record { image = task.image.now; choice = task.choice; cache = task.cache; tags = task.tags }
+shell_value task = record {
+  image = task.image.now;
+  choice = task.choice;
+  secret = text_value task.secret;
+  cache = task.cache;
+  tags = task.tags;
+}
 
 abbrev pub save_value : SaveWords → SaveTask
 save_value task = record { making = task.making; source = task.source.now; image = task.image.now }

@@ -31,6 +31,7 @@ const LEAVES: [Leaf<'static>; 7] = [
         arguments: &[
             Argument::Operand("image"),
             Argument::OptionValue("policy"),
+            Argument::OptionValue("secret"),
             Argument::OptionValue("cache"),
             Argument::OptionValue("tags"),
             Argument::OptionValue("turns"),
@@ -41,6 +42,7 @@ const LEAVES: [Leaf<'static>; 7] = [
         arguments: &[
             Argument::Operand("image"),
             Argument::OptionValue("policy"),
+            Argument::OptionValue("secret"),
             Argument::OptionValue("cache"),
             Argument::OptionValue("tags"),
         ],

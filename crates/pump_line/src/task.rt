@@ -39,6 +39,8 @@ pub struct RunTask<'a> {
     pub image: &'a str,
     /// The policies that are chosen.
     pub choice: Choice,
+    /// The name of the secret file, where one is given; it may be empty.
+    pub secret: Option<&'a str>,
     /// How many rules are kept: 0 to 65,536 in one set, or in up to 64 sets.
     pub cache: CacheSize,
     /// The most tags that may have words: 1 to 1,048,576.
@@ -54,6 +56,8 @@ pub struct ShellTask<'a> {
     pub image: &'a str,
     /// The policies that are chosen.
     pub choice: Choice,
+    /// The name of the secret file, where one is given; it may be empty.
+    pub secret: Option<&'a str>,
     /// How many rules are kept: 0 to 65,536 in one set, or in up to 64 sets.
     pub cache: CacheSize,
     /// The most tags that may have words: 1 to 1,048,576.
@@ -144,12 +148,14 @@ fn run_task<'a>(matches: &ArgMatches<'a>) -> Option<Task<'a>>
 {
     let image = text_of(matches, "image")?;
     let choice = choice_from(text_of(matches, "policy"))?;
+    let secret = text_of(matches, "secret");
     let cache = read_cache(text_of(matches, "cache"))?;
     let tags = read_tags(text_of(matches, "tags"))?;
     let turns = read_turns(text_of(matches, "turns"))?;
     Some(Task::Run(RunTask {
         image,
         choice,
+        secret,
         cache,
         tags,
         turns,
@@ -165,11 +171,13 @@ fn shell_task<'a>(matches: &ArgMatches<'a>) -> Option<Task<'a>>
 {
     let image = text_of(matches, "image")?;
     let choice = choice_from(text_of(matches, "policy"))?;
+    let secret = text_of(matches, "secret");
     let cache = read_cache(text_of(matches, "cache"))?;
     let tags = read_tags(text_of(matches, "tags"))?;
     Some(Task::Shell(ShellTask {
         image,
         choice,
+        secret,
         cache,
         tags,
     }))
@@ -272,10 +280,11 @@ fn end_of(error: &Error) -> WordsEnd
 }
 
 /// What the words ask for, the first being the program's name:
-/// `run IMAGE [--policy LIST] [--cache SIZE] [--tags N] [--turns N]`, `shell IMAGE [--policy LIST] [--cache SIZE] [--tags N]`,
+/// `run IMAGE [--policy LIST] [--secret FILE] [--cache SIZE] [--tags N] [--turns N]`,
+/// `shell IMAGE [--policy LIST] [--secret FILE] [--cache SIZE] [--tags N]`,
 /// `asm SOURCE IMAGE`, `migrate IMAGE OUT`, `elf ELF TAGS IMAGE`, `dis IMAGE` or `load COUNT [--cache SIZE] [--tags N]`, the options in
-/// any order before or after the operand, each at most once; `asm`, `migrate`, `elf` and `dis` have none. LIST is `none`, or names among `seal`, `comp`, `flow` and `heap` with commas between, none twice; it is `none`
-/// where it isn't there. SIZE is N, the rules of one set, 0 to 65,536 (1,024 where it isn't there), or SxW, S sets of W ways each, 1 to 64
+/// any order before or after the operand, each at most once; `asm`, `migrate`, `elf` and `dis` have none. LIST is `none`, or names among `seal`, `comp`, `flow`, `heap` and `secret`
+/// with commas between, none twice; it is `none` where it isn't there. FILE is the name of the file of secret bytes. SIZE is N, the rules of one set, 0 to 65,536 (1,024 where it isn't there), or SxW, S sets of W ways each, 1 to 64
 /// and 1 to 65,536, which make 65,536 rules at most. N is 1 to 10 decimal digits, as S and W are, that write 1 to
 /// 1,048,576 for `--tags` (65,536) and 1 to 1,000,000,000 for `--turns` (1,000,000). COUNT is 1 to 10 decimal digits that write
 /// 1 to 1,000. So some tag may have a word in every task that starts an image. SOURCE, IMAGE, OUT, ELF and TAGS are names of files, of

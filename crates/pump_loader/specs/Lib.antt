@@ -1,3 +1,4 @@
 pub mod ChosenLoads
 pub mod Loads
 pub mod PlainLoads
+pub mod Wholes

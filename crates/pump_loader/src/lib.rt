@@ -6,8 +6,10 @@ mod chosen;
 mod law;
 mod load;
 mod plain_load;
+mod whole;
 
 pub use chosen::{ChosenLoad, chosen_load};
 pub use law::bare_law;
 pub use load::PumpLoad;
 pub use plain_load::{BareLoad, PlainLoad};
+pub use whole::{Hidden, Whole};

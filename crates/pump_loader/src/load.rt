@@ -1,10 +1,11 @@
 //! A start that can be made again and again.
 ghost use Rattle.std.specs.Prelude.{◌≡◌, ◌≤◌};
 
+use crate::whole::Whole;
 use cache_size::CacheSize;
 use engine_trait::{LoadEnd, Loader};
 use image_format::Image;
-use policy_choice::{All, Basis, choose};
+use policy_choice::Basis;
 use policy_trait::Policy;
 use pump_engine::Pump;
 use rule_cache::RuleStore;
@@ -13,19 +14,21 @@ use std::marker::{Model, PhantomData};
 use tag_intern::Interner;
 use word_loader::start_cached;
 
-/// The start of an image under the chosen policies, on the engine that keeps rules in a store of this kind and size, with words for
+/// The start of an image under the policies that a basis chooses, as `W`, on the engine that keeps rules in a store of this kind and size, with words for
 /// at most `tags` tags. It can be made again and again.
 #[derive(Drop)]
-pub struct PumpLoad<'a, C: RuleStore> {
+pub struct PumpLoad<'a, W: Whole, C: RuleStore> {
     alloc: Global,
     image: &'a Image,
     basis: Basis,
+    secret: &'a [u8],
     cache: CacheSize,
     tags: u32,
+    policy: PhantomData<W>,
     store: PhantomData<C>,
 }
 
-impl<'a, C: RuleStore> Model for PumpLoad<'a, C> {
+impl<'a, W: Whole, C: RuleStore> Model for PumpLoad<'a, W, C> {
     ghost use Rattle.pump_loader.specs.Loads.{CachedLoad, HasRoom};
 
     ghost Value = { CachedLoad };
@@ -33,6 +36,7 @@ impl<'a, C: RuleStore> Model for PumpLoad<'a, C> {
     ghost view = { λ l. record {
       image = l.image.now;
       basis = l.basis;
+      secret = l.secret.now;
       cache = l.cache;
       tags = l.tags;
     } };
@@ -40,20 +44,22 @@ impl<'a, C: RuleStore> Model for PumpLoad<'a, C> {
     ghost invariant = { λ l. HasRoom C.fits (record {
       image = l.image.now;
       basis = l.basis;
+      secret = l.secret.now;
       cache = l.cache;
       tags = l.tags;
     }) };
 }
 
-impl<'a, C: RuleStore> PumpLoad<'a, C> {
-    /// The start of this image on this basis, with room for at least one rule and one tag.
+impl<'a, W: Whole, C: RuleStore> PumpLoad<'a, W, C> {
+    /// The start of this image on this basis and with these secret bytes, with room for at least one rule and one tag.
     pub fn new(
         alloc: Global,
         image: &'a Image,
         basis: Basis,
+        secret: &'a [u8],
         cache: CacheSize,
         tags: u32,
-    ) -> PumpLoad<'a, C>
+    ) -> PumpLoad<'a, W, C>
         requires sets { 1 ≤ cache.sets }
         requires ways { 1 ≤ cache.ways }
         requires fits { C.fits cache.sets cache.ways }
@@ -61,6 +67,7 @@ impl<'a, C: RuleStore> PumpLoad<'a, C> {
         ensures { result ≡ record {
           image = image.now;
           basis = basis;
+          secret = secret.now;
           cache = cache;
           tags = tags;
         } }
@@ -69,22 +76,24 @@ impl<'a, C: RuleStore> PumpLoad<'a, C> {
             alloc,
             image,
             basis,
+            secret,
             cache,
             tags,
+            policy: PhantomData,
             store: PhantomData,
         }
     }
 }
 
-impl<'a, C: RuleStore> Loader for PumpLoad<'a, C> {
-    ghost use Rattle.pump_loader.specs.Loads.{cached_start_of_load};
+impl<'a, W: Whole, C: RuleStore> Loader for PumpLoad<'a, W, C> {
+    ghost use Rattle.pump_loader.specs.Loads.{cached_start_by};
 
-    type E = Pump<All, Interner<<All as Policy>::Tag>, C>;
+    type E = Pump<W, Interner<<W as Policy>::Tag>, C>;
 
-    ghost start = { cached_start_of_load };
+    ghost start = { cached_start_by W.Tag.eq W.Policy.model W.chosen };
 
-    fn load(&self) -> Result<Pump<All, Interner<<All as Policy>::Tag>, C>, LoadEnd> {
-        let Ok(policy) = choose(self.alloc, self.basis, self.image) else {
+    fn load(&self) -> Result<Pump<W, Interner<<W as Policy>::Tag>, C>, LoadEnd> {
+        let Ok(policy) = W::choose(self.alloc, self.basis, self.secret, self.image) else {
             return Err(LoadEnd::Memory);
         };
         start_cached(

@@ -8,14 +8,15 @@ ghost use Rattle.shell_turns.specs.Cuts.{PutsOut};
 ghost use Rattle.shell_run.specs.Session.{fresh};
 ghost use Rattle.shell_script.specs.Shell.{RepliesSoFar};
 ghost use Rattle.pump_shell.specs.Ends.{NoSession, SessionCause};
-ghost use Rattle.pump_shell.specs.Told.{RepliesSoFarOf, start_of_setup, told_from, told_of};
+ghost use Rattle.pump_shell.specs.Told.{RepliesSoFarOf, is_over_of, start_set, told_from, told_of};
 
 use crate::ends::{SessionCut, SessionEnd};
 use crate::setup::Setup;
 use engine_trait::{LoadEnd, Loader};
 use host_io::{Sink, Source};
 use image_format::Image;
-use pump_loader::{ChosenLoad, chosen_load};
+use policy_choice::All;
+use pump_loader::{ChosenLoad, Hidden, Whole, chosen_load};
 use shell_run::Session;
 use shell_script::obey_input;
 use std::alloc::Global;
@@ -60,13 +61,58 @@ fn run_from<L: Loader, S: Source, K: Sink>(
     }
 }
 
-/// Starts the image as the setup says, and executes the input's lines, each as its newline comes, up to `quit` or to the end of the
+/// The same session under the policies that the setup chooses, as `W`.
+fn run_whole<W: Whole, S: Source, K: Sink>(
+    alloc: Global,
+    setup: Setup,
+    secret: &[u8],
+    image: &Image,
+    input: &mut S,
+    limit: usize,
+    out: &mut K,
+) -> Result<SessionEnd, SessionCut>
+    requires rules { IsCacheSize setup.cache }
+    requires tags { 1 ≤ setup.tags }
+    requires texts { W.Policy.longest ≤ 460 }
+    ensures done { IfOk result (λ end. IfSome (S.left input.old) (λ bytes. end
+        ≡ (told_from W.Tag.eq W.Policy.model limit (start_set W.Tag.eq W.Policy.model
+        (W.chosen setup.basis secret.now image.now) setup image.now) bytes).end)) }
+    ensures puts { IfSome (S.left input.old) (λ bytes. PutsOut (K.taken out.old) (K.taken out.new)
+        (told_from W.Tag.eq W.Policy.model limit (start_set W.Tag.eq W.Policy.model
+        (W.chosen setup.basis secret.now image.now) setup image.now) bytes).pieces result) }
+    ensures long { result ≡ Ok SessionEnd.TooLong
+        → IfSome (S.left input.old) (λ bytes. limit < length bytes) }
+    ensures replied { result ≡ Err SessionCut.ReadFailed
+        → RepliesSoFar W.Tag.eq W.Policy.model limit (fresh (start_set W.Tag.eq W.Policy.model
+        (W.chosen setup.basis secret.now image.now) setup image.now))
+        (S.left input.old) (S.left input.new) (K.taken out.old) (K.taken out.new) }
+    ensures out_of_tags { result ≡ Ok SessionEnd.TagsOut
+        → is_over (start_set W.Tag.eq W.Policy.model
+        (W.chosen setup.basis secret.now image.now) setup image.now).account ≡ true }
+    ensures over { is_over (start_set W.Tag.eq W.Policy.model
+        (W.chosen setup.basis secret.now image.now) setup image.now).account ≡ true
+        → NoSession input.old input.new (K.taken out.old) (K.taken out.new) result }
+    ensures closed { result ≡ Ok SessionEnd.InputEnd → IsTrue (S.closed input.new) }
+    ensures moved { LosesPrefix (S.left input.old) (S.left input.new) (limit + 4096) }
+    ensures cause { SessionCause
+        (record { input = S.faults input.old; out = K.faults out.old })
+        (record { input = S.faults input.new; out = K.faults out.new }) result }
+{
+    match chosen_load::<W>(alloc, image, setup.basis, secret, setup.cache, setup.tags) {
+        ChosenLoad::Asked(loader) => run_from(alloc, loader, input, limit, out),
+        ChosenLoad::Kept(loader) => run_from(alloc, loader, input, limit, out),
+        ChosenLoad::InSets(loader) => run_from(alloc, loader, input, limit, out),
+    }
+}
+
+/// Starts the image as the setup says, with these secret bytes where secrecy is chosen, and executes the input's lines, each as its newline comes, up to `quit` or to the end of the
 /// input, which ends a last line that was begun. Of an input of more than `limit` bytes those lines are executed that end within
 /// them. What is replied is put on `out` line by line. Where the start needs more tag numbers than there may be, the input is left
 /// alone, and nothing is put.
 pub fn run_session<S: Source, K: Sink>(
     alloc: Global,
     setup: Setup,
+    secret: &[u8],
     image: &Image,
     input: &mut S,
     limit: usize,
@@ -77,21 +123,21 @@ pub fn run_session<S: Source, K: Sink>(
 
     // Where the input tells its bytes, the replies and the end are those of the definition.
     ensures done { IfOk result (λ end. IfSome (S.left input.old) (λ bytes.
-        end ≡ (told_of setup image.now limit bytes).end)) }
+        end ≡ (told_of setup secret.now image.now limit bytes).end)) }
     ensures puts { IfSome (S.left input.old) (λ bytes. PutsOut (K.taken out.old) (K.taken out.new)
-        (told_of setup image.now limit bytes).pieces result) }
+        (told_of setup secret.now image.now limit bytes).pieces result) }
     ensures long { result ≡ Ok SessionEnd.TooLong
         → IfSome (S.left input.old) (λ bytes. limit < length bytes) }
 
     // Where a read failed, each line that ended before it was replied to, and nothing else was put.
     ensures replied { result ≡ Err SessionCut.ReadFailed
-        → RepliesSoFarOf setup image.now limit
+        → RepliesSoFarOf setup secret.now image.now limit
         (S.left input.old) (S.left input.new) (K.taken out.old) (K.taken out.new) }
 
     // A start that is out of tag numbers leaves input and output alone, whatever the input is.
     ensures out_of_tags { result ≡ Ok SessionEnd.TagsOut
-        → is_over (start_of_setup setup image.now).account ≡ true }
-    ensures over { is_over (start_of_setup setup image.now).account ≡ true
+        → is_over_of setup secret.now image.now ≡ true }
+    ensures over { is_over_of setup secret.now image.now ≡ true
         → NoSession input.old input.new (K.taken out.old) (K.taken out.new) result }
 
     // What was moved out of the input stood first, and it is closed where its end was met.
@@ -101,9 +147,8 @@ pub fn run_session<S: Source, K: Sink>(
         (record { input = S.faults input.old; out = K.faults out.old })
         (record { input = S.faults input.new; out = K.faults out.new }) result }
 {
-    match chosen_load(alloc, image, setup.basis, setup.cache, setup.tags) {
-        ChosenLoad::Asked(loader) => run_from(alloc, loader, input, limit, out),
-        ChosenLoad::Kept(loader) => run_from(alloc, loader, input, limit, out),
-        ChosenLoad::InSets(loader) => run_from(alloc, loader, input, limit, out),
+    if setup.basis.choice.secret {
+        return run_whole::<Hidden, S, K>(alloc, setup, secret, image, input, limit, out);
     }
+    run_whole::<All, S, K>(alloc, setup, secret, image, input, limit, out)
 }

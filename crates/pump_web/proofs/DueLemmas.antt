@@ -1,10 +1,12 @@
 -- What is due of a call whose files and input are told: something, and the calls on files by what its content is read as.
-use Rattle.std.proofs.Common.{◌≡◌, ℕ, List, Option, Some, None, Ok, Err, IfSome, IsSome, refl, ap, subst}
+use Rattle.std.proofs.Common.{◌≡◌, ℕ, Bool, true, false, List, [], Option, Some, None, Ok, Err, IfSome, IsSome, if◌then◌else◌, refl, ap, subst}
 use Rattle.host_io.specs.Environment.{Environment}
+use Rattle.policy_choice.specs.declared.choice.Choice.{Choice}
 use Rattle.pump_line.specs.Task.{Task, disassemble, elf, load, run, save, shell, task_of}
 use Rattle.pump_cli.specs.Calls.{CallsMade, calls_of, calls_of_task}
-use Rattle.pump_cli.specs.Program.{outcome_of_image, outcome_of_words, program}
-use Rattle.pump_cli.specs.Reading.{ContentOf, content_of, content_read}
+use Rattle.pump_cli.specs.Endings.{Outcome}
+use Rattle.pump_cli.specs.Program.{after_secret, outcome_of_image, outcome_of_input, outcome_of_session, outcome_of_words, program, with_secret}
+use Rattle.pump_cli.specs.Reading.{ContentOf, content_of, content_read, secret_held, secret_read}
 use Rattle.pump_cli.specs.declared.status.Status.{Status}
 use Rattle.pump_web.specs.Replies.{calls_due, content_in}
 
@@ -21,34 +23,51 @@ module _ (held : List ℕ → List ℕ) where
   content_known (disassemble task) = refl
   content_known (load task) = refl
 
-  task_due : (input : List ℕ) (task : Task) → IsSome (outcome_of_image task (content_read task (content_in task known)) (Some input))
+  -- something is due whatever the secret bytes are
+  read_due : (go : List ℕ → Option Outcome) → ((secret : List ℕ) → IsSome (go secret)) → (bytes : List ℕ) → IsSome (after_secret go (Some bytes))
+  read_due go goes bytes =
+      elim (secret_read bytes) as (λ read. IsSome (with_secret go read)) [
+        | Ok secret ↦ goes secret
+        | Err refusal ↦ refl
+      ]
+
+  start_due : (go : List ℕ → Option Outcome) → ((secret : List ℕ) → IsSome (go secret)) → (choice : Choice) (name : Option (List ℕ))
+      → IsSome (after_secret go (secret_held choice name known))
+  start_due go goes choice None = read_due go goes []
+  start_due go goes choice (Some name) = by choice.secret
+    where
+      by : (chosen : Bool) → IsSome (after_secret go (if chosen then known name else Some []))
+      by true = read_due go goes (held name)
+      by false = read_due go goes []
+
+  task_due : (input : List ℕ) (task : Task) → IsSome (outcome_of_image task (content_in task known) (content_read task (content_in task known)) (Some input))
   task_due input (run task) =
-      elim (content_read (run task) (content_in (run task) known)) as (λ read. IsSome (outcome_of_image (run task) read (Some input))) [
-        | Ok picture ↦ refl
+      elim (content_read (run task) (content_in (run task) known)) as (λ read. IsSome (outcome_of_image (run task) (content_in (run task) known) read (Some input))) [
+        | Ok picture ↦ start_due (λ secret. outcome_of_input task secret picture (Some input)) (λ secret. refl) task.choice task.secret
         | Err refusal ↦ refl
       ]
   task_due input (shell task) =
-      elim (content_read (shell task) (content_in (shell task) known)) as (λ read. IsSome (outcome_of_image (shell task) read (Some input))) [
-        | Ok picture ↦ refl
+      elim (content_read (shell task) (content_in (shell task) known)) as (λ read. IsSome (outcome_of_image (shell task) (content_in (shell task) known) read (Some input))) [
+        | Ok picture ↦ start_due (λ secret. outcome_of_session task secret picture (Some input)) (λ secret. refl) task.choice task.secret
         | Err refusal ↦ refl
       ]
   task_due input (save task) =
-      elim (content_read (save task) (content_in (save task) known)) as (λ read. IsSome (outcome_of_image (save task) read (Some input))) [
+      elim (content_read (save task) (content_in (save task) known)) as (λ read. IsSome (outcome_of_image (save task) (content_in (save task) known) read (Some input))) [
         | Ok picture ↦ refl
         | Err refusal ↦ refl
       ]
   task_due input (elf task) =
-      elim (content_read (elf task) (content_in (elf task) known)) as (λ read. IsSome (outcome_of_image (elf task) read (Some input))) [
+      elim (content_read (elf task) (content_in (elf task) known)) as (λ read. IsSome (outcome_of_image (elf task) (content_in (elf task) known) read (Some input))) [
         | Ok picture ↦ refl
         | Err refusal ↦ refl
       ]
   task_due input (disassemble task) =
-      elim (content_read (disassemble task) (content_in (disassemble task) known)) as (λ read. IsSome (outcome_of_image (disassemble task) read (Some input))) [
+      elim (content_read (disassemble task) (content_in (disassemble task) known)) as (λ read. IsSome (outcome_of_image (disassemble task) (content_in (disassemble task) known) read (Some input))) [
         | Ok picture ↦ refl
         | Err refusal ↦ refl
       ]
   task_due input (load task) =
-      elim (content_read (load task) (content_in (load task) known)) as (λ read. IsSome (outcome_of_image (load task) read (Some input))) [
+      elim (content_read (load task) (content_in (load task) known)) as (λ read. IsSome (outcome_of_image (load task) (content_in (load task) known) read (Some input))) [
         | Ok picture ↦ refl
         | Err refusal ↦ refl
       ]

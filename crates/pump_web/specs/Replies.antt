@@ -49,8 +49,8 @@ TellsFirst outcome out err = PutsPrefix (taken_of [] []) (taken_of out err) outc
 
 -- the content of files without bytes
 abbrev pub no_content : (task : Task) → ContentOf task
-no_content (run task) = []
-no_content (shell task) = []
+no_content (run task) = record { image = []; secret = Some [] }
+no_content (shell task) = record { image = []; secret = Some [] }
 no_content (save task) = []
 no_content (elf task) = record { elf = []; tags = [] }
 no_content (disassemble task) = []

@@ -14,7 +14,7 @@ use Rattle.heap_runs.specs.BlockBook.{BlockBook}
 use Rattle.run_props.specs.Safe.{run_of}
 
 abbrev pub all_four : Basis
-all_four = record { choice = record { seal = true; comp = true; flow = true; heap = true } }
+all_four = record { choice = record { seal = true; comp = true; flow = true; heap = true; secret = false } }
 
 -- Hart 0, in compartment 0, from 00000000 on: it makes a key, seals a value and unseals it; takes a block, keeps the block's
 -- pointer in it, and gives it back; lets compartment 1 write a word; and jumps by register along the one edge.

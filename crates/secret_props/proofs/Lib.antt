@@ -1,3 +1,3 @@
 mod AccountLemmas
-mod HiddenLemmas
-mod StartLemmas
+pub mod HiddenLemmas
+pub mod StartLemmas

@@ -20,6 +20,7 @@ const EVERY_POLICY: Choice = Choice {
     comp: true,
     flow: true,
     heap: true,
+    secret: false,
 };
 
 /// Sealing alone.
@@ -28,6 +29,7 @@ const SEALING: Choice = Choice {
     comp: false,
     flow: false,
     heap: false,
+    secret: false,
 };
 
 /// No policy.
@@ -36,6 +38,7 @@ const NO_POLICY: Choice = Choice {
     comp: false,
     flow: false,
     heap: false,
+    secret: false,
 };
 
 /// The run of the image under the chosen policies over a table of this kind.

@@ -1,7 +1,5 @@
 use Rattle.std.proofs.Common.{subst}
 use Rattle.pump_line.specs.Told.{load_value}
-use Rattle.pump_loader.specs.ChosenLoads.{start_of_chosen}
-use Rattle.pump_loader.specs.declared.chosen.ChosenLoad.TheVariants.{Asked, InSets, Kept}
 use Rattle.pump_cli.specs.Endings.{Outcome}
 use Rattle.pump_cli.specs.Facts.{Does}
 use Rattle.pump_cli.proofs.SessionLemmas.{sinks}
@@ -12,19 +10,19 @@ pub returns-in-Asked-clause-does : goal.returns-in-Asked-clause-does
 returns-in-Asked-clause-does g c = λ err.
     let ran = c.run_blocks in
     subst (λ (due : Outcome). Does due (sinks (g.K.Sink.taken c.args.out.now) err) (sinks (g.K.Sink.taken ran.new.out) err) ran.result)
-    (started_work (load_value c.args.task) c.args.image.now c.basis_of.result c.basis_of.ensures (start_of_chosen (Asked c.in-Asked.loader)) c.in-Asked.ensures.starts)
+    (started_work (load_value c.args.task) c.args.image.now c.basis_of.result c.basis_of.ensures _ c.in-Asked.ensures.starts)
     (ran.ensures.does err)
 
 pub returns-in-Kept-clause-does : goal.returns-in-Kept-clause-does
 returns-in-Kept-clause-does g c = λ err.
     let ran = c.run_blocks-in-Kept in
     subst (λ (due : Outcome). Does due (sinks (g.K.Sink.taken c.args.out.now) err) (sinks (g.K.Sink.taken ran.new.out) err) ran.result)
-    (started_work (load_value c.args.task) c.args.image.now c.basis_of.result c.basis_of.ensures (start_of_chosen (Kept c.in-Kept.loader)) c.in-Kept.ensures.starts)
+    (started_work (load_value c.args.task) c.args.image.now c.basis_of.result c.basis_of.ensures _ c.in-Kept.ensures.starts)
     (ran.ensures.does err)
 
 pub returns-in-InSets-clause-does : goal.returns-in-InSets-clause-does
 returns-in-InSets-clause-does g c = λ err.
     let ran = c.run_blocks-in-InSets in
     subst (λ (due : Outcome). Does due (sinks (g.K.Sink.taken c.args.out.now) err) (sinks (g.K.Sink.taken ran.new.out) err) ran.result)
-    (started_work (load_value c.args.task) c.args.image.now c.basis_of.result c.basis_of.ensures (start_of_chosen (InSets c.in-InSets.loader)) c.in-InSets.ensures.starts)
+    (started_work (load_value c.args.task) c.args.image.now c.basis_of.result c.basis_of.ensures _ c.in-InSets.ensures.starts)
     (ran.ensures.does err)

@@ -4,6 +4,7 @@ use Rattle.pump_cli.specs.Codes.{status_of_cut}
 use Rattle.pump_cli.proofs.AnswerLemmas.{due_status}
 use Rattle.pump_cli.proofs.CauseLemmas.{out_run, spent_run}
 use Rattle.pump_cli.proofs.ElfLemmas.{saves_elf}
+use Rattle.pump_cli.proofs.HiddenLemmas.{hides_secret}
 use Rattle.pump_cli.proofs.ListLemmas.{listed_back}
 use Rattle.pump_cli.proofs.LoadLemmas.{load_due}
 use Rattle.pump_cli.proofs.MigratedLemmas.{saves_migrated}
@@ -58,6 +59,12 @@ pub returns-in-Err-clause-converts : goal.returns-in-Err-clause-converts
 returns-in-Err-clause-converts g c task picture contents asked elf_held tags_held read =
     saves_elf task contents picture (g.met.F.Files.tells_bytes c.args.files.now task.elf contents.elf elf_held)
     (g.met.F.Files.tells_bytes c.args.files.now task.tags contents.tags tags_held) read
+
+pub returns-in-Ok-clause-hides : goal.returns-in-Ok-clause-hides
+returns-in-Ok-clause-hides g c task held other left tells asks = hides_secret (texts_of c.args.words.now.items) task held other left tells asks
+
+pub returns-in-Err-clause-hides : goal.returns-in-Err-clause-hides
+returns-in-Err-clause-hides g c task held other left tells asks = hides_secret (texts_of c.args.words.now.items) task held other left tells asks
 
 pub returns-in-Ok-clause-spent : goal.returns-in-Ok-clause-spent
 returns-in-Ok-clause-spent g c is =

@@ -1,22 +1,49 @@
-use Rattle.std.proofs.Common.{refl}
+use Rattle.std.proofs.Common.{Err, Ok, refl, ◌≡◌, ◌∙◌}
 use Rattle.pump_line.specs.Task.{run}
 use Rattle.pump_line.specs.Told.{run_value}
+use Rattle.pump_cli.specs.Reading.{secret_held, secret_read}
 use Rattle.pump_cli.proofs.RunWayLemmas.{input_ends, ran}
+use Rattle.pump_cli.proofs.SecretWayLemmas.{counted_as, held_as, lent_as, loaded, rose_as, run_starts, secret_ends}
+use Rattle.pump_cli.proofs.TaskLemmas.{start_read}
 use Rattle.pump_cli.proofs.WayLemmas.{file_ends}
 use Rattle.pump_cli.proofs.run.run_task.Goals as goal
 
 pub returns-in-Err : goal.returns-in-Err
 returns-in-Err g c =
-    file_ends (run (run_value c.args.task)) _ _ c.args.task.image.now refl c.in-Err.end _ c.end_early.result c.in-Err.ensures.refused c.in-Err.ensures.of_file c.in-Err.ensures.faults c.in-Err.ensures.writes c.end_early.ensures refl refl refl c.in-Err.ensures.held c.in-Err.ensures.calls refl refl
+    let task = run_value c.args.task in
+    file_ends (run task) _ _ c.args.task.image.now refl c.in-Err.end _ c.end_early.result
+    (λ refusal is. start_read (g.F.Files.held c.args.files.now c.args.task.image.now) (secret_held task.choice task.secret (g.F.Files.held c.args.files.now)) (Err refusal) (c.in-Err.ensures.refused refusal is)) c.in-Err.ensures.of_file c.in-Err.ensures.faults c.in-Err.ensures.writes c.end_early.ensures refl refl refl c.in-Err.ensures.held c.in-Err.ensures.calls refl refl
+
+pub returns-in-Err-load_secret : goal.returns-in-Err-load_secret
+returns-in-Err-load_secret g c =
+    let task = run_value c.args.task in
+    let image = c.in-Ok.ensures in
+    let end = c.in-Err-load_secret in
+    secret_ends (run task) _ _ (run_starts _ task) c.in-Ok.image image.taken (end.ensures.held ∙ image.held) (counted_as task.choice task.secret _ _ _ end.ensures.calls image.calls)
+    (end.ensures.writes ∙ image.writes) refl refl refl end.end _ c.end_early-in-Err-load_secret.result
+    (λ refusal is. held_as task.choice task.secret _ _ (λ bytes. secret_read bytes ≡ Err refusal) image.held (end.ensures.refused refusal is)) end.ensures.long
+    (rose_as task.choice task.secret _ _ _ _ image.faults end.ensures.faults) c.end_early-in-Err-load_secret.ensures refl refl
 
 pub returns-in-Err-read_input : goal.returns-in-Err-read_input
 returns-in-Err-read_input g c =
+    let task = run_value c.args.task in
+    let image = c.in-Ok.ensures in
+    let secret = c.in-Ok-load_secret in
     let end = c.in-Err-read_input in
-    input_ends (run_value c.args.task) _ _ c.in-Ok.image c.in-Ok.ensures.taken c.in-Ok.ensures.held c.in-Ok.ensures.calls end.ensures.moved c.in-Ok.ensures.faults c.in-Ok.ensures.writes
+    input_ends task _ _ c.in-Ok.image image.taken secret.secret.items
+    (held_as task.choice task.secret _ _ (λ bytes. secret_read bytes ≡ Ok secret.secret.items) image.held secret.ensures.taken)
+    (secret.ensures.held ∙ image.held) (counted_as task.choice task.secret _ _ _ secret.ensures.calls image.calls) end.ensures.moved
+    (loaded task.choice task.secret _ _ _ secret.secret secret.ensures.faults image.faults) (secret.ensures.writes ∙ image.writes)
     end.end _ c.end_early-in-Err-read_input.result end.ensures.refused end.ensures.long end.ensures.faults c.end_early-in-Err-read_input.ensures refl refl
 
 pub returns : goal.returns
 returns g c =
+    let task = run_value c.args.task in
+    let image = c.in-Ok.ensures in
+    let secret = c.in-Ok-load_secret in
     let read = c.in-Ok-read_input in
-    ran (run_value c.args.task) _ _ c.in-Ok.image c.in-Ok.ensures.taken c.in-Ok.ensures.held c.in-Ok.ensures.calls read.ensures.moved c.in-Ok.ensures.faults c.in-Ok.ensures.writes
+    ran task _ _ c.in-Ok.image image.taken c.deref.result.now
+    (lent_as task.choice task.secret _ _ c.deref.result.now secret.secret.items c.deref.ensures.value image.held secret.ensures.taken)
+    (secret.ensures.held ∙ image.held) (counted_as task.choice task.secret _ _ _ secret.ensures.calls image.calls) read.ensures.moved
+    (loaded task.choice task.secret _ _ _ secret.secret secret.ensures.faults image.faults) (secret.ensures.writes ∙ image.writes)
     read.fed.items c.run_image.result read.ensures.taken c.run_image.ensures.does c.run_image.ensures.faults c.run_image.ensures.kind read.ensures.faults read.ensures.closed

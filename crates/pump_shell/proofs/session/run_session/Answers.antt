@@ -1,70 +1,55 @@
-use Rattle.pump_loader.specs.ChosenLoads.{start_of_chosen}
-use Rattle.pump_loader.specs.declared.chosen.ChosenLoad.TheVariants.{Asked, InSets, Kept}
-use Rattle.pump_shell.proofs.StartLemmas.{done_as_set, over_as_chosen, over_as_set, puts_as_set, replies_as_set}
+use Rattle.std.proofs.Common.{◌≡◌, false, rules, true}
+use Rattle.pump_shell.proofs.StartLemmas.{chosen_is_over, done_as_chosen, over_is_chosen, puts_as_chosen, replies_as_chosen}
 use Rattle.pump_shell.proofs.session.run_session.Goals as goal
 
-pub returns-in-Asked-clause-done : goal.returns-in-Asked-clause-done
-returns-in-Asked-clause-done g c =
-    done_as_set c.args.setup c.args.image.now (start_of_chosen (Asked c.in-Asked.loader)) c.in-Asked.ensures.starts c.args.limit (g.S.Source.left c.args.input.now) c.run_from.result c.run_from.ensures.done
+pub returns-then-setup-clause-done : goal.returns-then-setup-clause-done
+returns-then-setup-clause-done g c =
+    let is : c.args.setup.basis.choice.secret ≡ true = search rules in
+    done_as_chosen c.args.setup c.args.secret.now c.args.image.now true is c.args.limit (g.S.Source.left c.args.input.now) c.run_whole.result c.run_whole.ensures.done
 
-pub returns-in-Asked-clause-puts : goal.returns-in-Asked-clause-puts
-returns-in-Asked-clause-puts g c =
-    puts_as_set c.args.setup c.args.image.now (start_of_chosen (Asked c.in-Asked.loader)) c.in-Asked.ensures.starts c.args.limit (g.S.Source.left c.args.input.now) c.run_from.result
-    (g.K.Sink.taken c.args.out.now) (g.K.Sink.taken c.run_from.new.out) c.run_from.ensures.puts
+pub returns-then-setup-clause-puts : goal.returns-then-setup-clause-puts
+returns-then-setup-clause-puts g c =
+    let is : c.args.setup.basis.choice.secret ≡ true = search rules in
+    puts_as_chosen c.args.setup c.args.secret.now c.args.image.now true is c.args.limit (g.S.Source.left c.args.input.now) c.run_whole.result
+    (g.K.Sink.taken c.args.out.now) (g.K.Sink.taken c.run_whole.new.out) c.run_whole.ensures.puts
 
-pub returns-in-Asked-clause-replied : goal.returns-in-Asked-clause-replied
-returns-in-Asked-clause-replied g c failed =
-    replies_as_set c.args.setup c.args.image.now (start_of_chosen (Asked c.in-Asked.loader)) c.in-Asked.ensures.starts c.args.limit (g.S.Source.left c.args.input.now) _ _ _
-    (c.run_from.ensures.replied failed)
+pub returns-then-setup-clause-replied : goal.returns-then-setup-clause-replied
+returns-then-setup-clause-replied g c failed =
+    let is : c.args.setup.basis.choice.secret ≡ true = search rules in
+    replies_as_chosen c.args.setup c.args.secret.now c.args.image.now true is c.args.limit (g.S.Source.left c.args.input.now) _ _ _ (c.run_whole.ensures.replied failed)
 
-pub returns-in-Asked-clause-out_of_tags : goal.returns-in-Asked-clause-out_of_tags
-returns-in-Asked-clause-out_of_tags g c out =
-    over_as_set c.args.setup c.args.image.now (start_of_chosen (Asked c.in-Asked.loader)) c.in-Asked.ensures.starts (c.run_from.ensures.out_of_tags out)
+pub returns-then-setup-clause-out_of_tags : goal.returns-then-setup-clause-out_of_tags
+returns-then-setup-clause-out_of_tags g c out =
+    let is : c.args.setup.basis.choice.secret ≡ true = search rules in
+    over_is_chosen c.args.setup c.args.secret.now c.args.image.now true is (c.run_whole.ensures.out_of_tags out)
 
-pub returns-in-Asked-clause-over : goal.returns-in-Asked-clause-over
-returns-in-Asked-clause-over g c over =
-    c.run_from.ensures.over (over_as_chosen c.args.setup c.args.image.now (start_of_chosen (Asked c.in-Asked.loader)) c.in-Asked.ensures.starts over)
+pub returns-then-setup-clause-over : goal.returns-then-setup-clause-over
+returns-then-setup-clause-over g c over =
+    let is : c.args.setup.basis.choice.secret ≡ true = search rules in
+    c.run_whole.ensures.over (chosen_is_over c.args.setup c.args.secret.now c.args.image.now true is over)
 
-pub returns-in-Kept-clause-done : goal.returns-in-Kept-clause-done
-returns-in-Kept-clause-done g c =
-    done_as_set c.args.setup c.args.image.now (start_of_chosen (Kept c.in-Kept.loader)) c.in-Kept.ensures.starts c.args.limit (g.S.Source.left c.args.input.now) c.run_from-in-Kept.result c.run_from-in-Kept.ensures.done
+pub returns-clause-done : goal.returns-clause-done
+returns-clause-done g c =
+    let is : c.args.setup.basis.choice.secret ≡ false = search rules in
+    done_as_chosen c.args.setup c.args.secret.now c.args.image.now false is c.args.limit (g.S.Source.left c.args.input.now) c.run_whole-2.result c.run_whole-2.ensures.done
 
-pub returns-in-Kept-clause-puts : goal.returns-in-Kept-clause-puts
-returns-in-Kept-clause-puts g c =
-    puts_as_set c.args.setup c.args.image.now (start_of_chosen (Kept c.in-Kept.loader)) c.in-Kept.ensures.starts c.args.limit (g.S.Source.left c.args.input.now) c.run_from-in-Kept.result
-    (g.K.Sink.taken c.args.out.now) (g.K.Sink.taken c.run_from-in-Kept.new.out) c.run_from-in-Kept.ensures.puts
+pub returns-clause-puts : goal.returns-clause-puts
+returns-clause-puts g c =
+    let is : c.args.setup.basis.choice.secret ≡ false = search rules in
+    puts_as_chosen c.args.setup c.args.secret.now c.args.image.now false is c.args.limit (g.S.Source.left c.args.input.now) c.run_whole-2.result
+    (g.K.Sink.taken c.args.out.now) (g.K.Sink.taken c.run_whole-2.new.out) c.run_whole-2.ensures.puts
 
-pub returns-in-Kept-clause-replied : goal.returns-in-Kept-clause-replied
-returns-in-Kept-clause-replied g c failed =
-    replies_as_set c.args.setup c.args.image.now (start_of_chosen (Kept c.in-Kept.loader)) c.in-Kept.ensures.starts c.args.limit (g.S.Source.left c.args.input.now) _ _ _
-    (c.run_from-in-Kept.ensures.replied failed)
+pub returns-clause-replied : goal.returns-clause-replied
+returns-clause-replied g c failed =
+    let is : c.args.setup.basis.choice.secret ≡ false = search rules in
+    replies_as_chosen c.args.setup c.args.secret.now c.args.image.now false is c.args.limit (g.S.Source.left c.args.input.now) _ _ _ (c.run_whole-2.ensures.replied failed)
 
-pub returns-in-Kept-clause-out_of_tags : goal.returns-in-Kept-clause-out_of_tags
-returns-in-Kept-clause-out_of_tags g c out =
-    over_as_set c.args.setup c.args.image.now (start_of_chosen (Kept c.in-Kept.loader)) c.in-Kept.ensures.starts (c.run_from-in-Kept.ensures.out_of_tags out)
+pub returns-clause-out_of_tags : goal.returns-clause-out_of_tags
+returns-clause-out_of_tags g c out =
+    let is : c.args.setup.basis.choice.secret ≡ false = search rules in
+    over_is_chosen c.args.setup c.args.secret.now c.args.image.now false is (c.run_whole-2.ensures.out_of_tags out)
 
-pub returns-in-Kept-clause-over : goal.returns-in-Kept-clause-over
-returns-in-Kept-clause-over g c over =
-    c.run_from-in-Kept.ensures.over (over_as_chosen c.args.setup c.args.image.now (start_of_chosen (Kept c.in-Kept.loader)) c.in-Kept.ensures.starts over)
-
-pub returns-in-InSets-clause-done : goal.returns-in-InSets-clause-done
-returns-in-InSets-clause-done g c =
-    done_as_set c.args.setup c.args.image.now (start_of_chosen (InSets c.in-InSets.loader)) c.in-InSets.ensures.starts c.args.limit (g.S.Source.left c.args.input.now) c.run_from-in-InSets.result c.run_from-in-InSets.ensures.done
-
-pub returns-in-InSets-clause-puts : goal.returns-in-InSets-clause-puts
-returns-in-InSets-clause-puts g c =
-    puts_as_set c.args.setup c.args.image.now (start_of_chosen (InSets c.in-InSets.loader)) c.in-InSets.ensures.starts c.args.limit (g.S.Source.left c.args.input.now) c.run_from-in-InSets.result
-    (g.K.Sink.taken c.args.out.now) (g.K.Sink.taken c.run_from-in-InSets.new.out) c.run_from-in-InSets.ensures.puts
-
-pub returns-in-InSets-clause-replied : goal.returns-in-InSets-clause-replied
-returns-in-InSets-clause-replied g c failed =
-    replies_as_set c.args.setup c.args.image.now (start_of_chosen (InSets c.in-InSets.loader)) c.in-InSets.ensures.starts c.args.limit (g.S.Source.left c.args.input.now) _ _ _
-    (c.run_from-in-InSets.ensures.replied failed)
-
-pub returns-in-InSets-clause-out_of_tags : goal.returns-in-InSets-clause-out_of_tags
-returns-in-InSets-clause-out_of_tags g c out =
-    over_as_set c.args.setup c.args.image.now (start_of_chosen (InSets c.in-InSets.loader)) c.in-InSets.ensures.starts (c.run_from-in-InSets.ensures.out_of_tags out)
-
-pub returns-in-InSets-clause-over : goal.returns-in-InSets-clause-over
-returns-in-InSets-clause-over g c over =
-    c.run_from-in-InSets.ensures.over (over_as_chosen c.args.setup c.args.image.now (start_of_chosen (InSets c.in-InSets.loader)) c.in-InSets.ensures.starts over)
+pub returns-clause-over : goal.returns-clause-over
+returns-clause-over g c over =
+    let is : c.args.setup.basis.choice.secret ≡ false = search rules in
+    c.run_whole-2.ensures.over (chosen_is_over c.args.setup c.args.secret.now c.args.image.now false is over)

@@ -1,0 +1,61 @@
+//! Policies that an image can be started under, each as one.
+
+ghost use Rattle.std.specs.Prelude.{◌≡◌, ◌≤◌, IfOk};
+
+use image_format::Image;
+use policy_choice::{All, AllTag, Basis, Together};
+use policy_product::Both;
+use policy_trait::Policy;
+use secrecy_policy::Secrecy;
+use std::alloc::{AllocError, Global};
+
+/// A policy that an image can be started under: those that a basis chooses, as one.
+pub trait Whole: Policy {
+    ghost use Rattle.std.specs.Prelude.{ℕ, List};
+    ghost use Rattle.image_format.specs.Picture.{Picture};
+    ghost use Rattle.policy_choice.specs.declared.basis.Basis.{Basis};
+
+    ghost chosen: { Basis → List ℕ → Picture → Self };
+
+    /// The policy at the start of the image, on this basis and with these secret bytes, before anything was asked of it. The only
+    /// error is running out of memory.
+    fn choose(alloc: Global, basis: Basis, secret: &[u8], image: &Image) -> Result<Self, AllocError>
+        ensures value { IfOk result (λ policy. policy ≡ chosen basis secret.now image.now) }
+        ensures room { IfOk result (λ policy. Self.Policy.model.room policy ≤ image.now.ram) };
+}
+
+/// The four policies with secrecy beside them.
+pub type Hidden = Both<All, Secrecy>;
+
+impl Whole for Together<AllTag> {
+    ghost use Rattle.pump_loader.specs.Wholes.{open_state};
+
+    ghost chosen = { open_state };
+
+    /// The four have no use for secret bytes.
+    fn choose(
+        alloc: Global,
+        basis: Basis,
+        _secret: &[u8],
+        image: &Image,
+    ) -> Result<All, AllocError> {
+        policy_choice::choose(alloc, basis, image)
+    }
+}
+
+impl Whole for Both<All, Secrecy> {
+    ghost use Rattle.pump_loader.specs.Wholes.{hidden_state};
+
+    ghost chosen = { hidden_state };
+
+    fn choose(
+        alloc: Global,
+        basis: Basis,
+        secret: &[u8],
+        image: &Image,
+    ) -> Result<Both<All, Secrecy>, AllocError> {
+        let all = policy_choice::choose(alloc, basis, image)?;
+        let secrecy = Secrecy::new(alloc, secret)?;
+        Ok(Both::new(all, secrecy))
+    }
+}
