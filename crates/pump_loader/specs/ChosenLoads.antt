@@ -20,7 +20,7 @@ start_with eq m policy cache tags g =
     if keeps_no_rule cache then start_standing m policy g else cached_standing eq m policy g cache.sets cache.ways tags
 
 -- what is started, in each case, under a policy that is this at the start of an image
-abbrev pub start_of_chosen : {A B S T : Type 0} → (T → T → Bool) → PolicyModel T S → (Basis → List ℕ → Picture → S) → ChosenLoad A B → Standing S T
+abbrev pub start_of_chosen : {A B C S T : Type 0} → (T → T → Bool) → PolicyModel T S → (Basis → List ℕ → Picture → S) → ChosenLoad A B C → Standing S T
 start_of_chosen eq m chosen (Asked load) = start_by m chosen load
 start_of_chosen eq m chosen (Kept load) = cached_start_by eq m chosen load
 start_of_chosen eq m chosen (InSets load) = cached_start_by eq m chosen load

@@ -6,12 +6,10 @@ use cache_size::CacheSize;
 use engine_trait::{LoadEnd, Loader};
 use image_format::Image;
 use policy_choice::Basis;
-use policy_trait::Policy;
 use pump_engine::Pump;
 use rule_cache::RuleStore;
 use std::alloc::Global;
 use std::marker::{Model, PhantomData};
-use tag_intern::Interner;
 use word_loader::start_cached;
 
 /// The start of an image under the policies that a basis chooses, as `W`, on the engine that keeps rules in a store of this kind and size, with words for
@@ -88,11 +86,11 @@ impl<'a, W: Whole, C: RuleStore> PumpLoad<'a, W, C> {
 impl<'a, W: Whole, C: RuleStore> Loader for PumpLoad<'a, W, C> {
     ghost use Rattle.pump_loader.specs.Loads.{cached_start_by};
 
-    type E = Pump<W, Interner<<W as Policy>::Tag>, C>;
+    type E = Pump<W, W::Table, C>;
 
     ghost start = { cached_start_by W.Tag.eq W.Policy.model W.chosen };
 
-    fn load(&self) -> Result<Pump<W, Interner<<W as Policy>::Tag>, C>, LoadEnd> {
+    fn load(&self) -> Result<Pump<W, W::Table, C>, LoadEnd> {
         let Ok(policy) = W::choose(self.alloc, self.basis, self.secret, self.image) else {
             return Err(LoadEnd::Memory);
         };

@@ -6,14 +6,19 @@ use image_format::Image;
 use policy_choice::{All, AllTag, Basis, Together};
 use policy_product::Both;
 use policy_trait::Policy;
-use secrecy_policy::Secrecy;
+use secrecy_policy::{Secrecy, SecretTag};
 use std::alloc::{AllocError, Global};
+use tag_intern::{Interner, TagTable};
+use tag_pairs::Pairs;
 
 /// A policy that an image can be started under: those that a basis chooses, as one.
 pub trait Whole: Policy {
     ghost use Rattle.std.specs.Prelude.{ℕ, List};
     ghost use Rattle.image_format.specs.Picture.{Picture};
     ghost use Rattle.policy_choice.specs.declared.basis.Basis.{Basis};
+
+    /// What gives words to the tags where rules are kept.
+    type Table: TagTable<Tag = <Self as Policy>::Tag>;
 
     ghost chosen: { Basis → List ℕ → Picture → Self };
 
@@ -30,6 +35,8 @@ pub type Hidden = Both<All, Secrecy>;
 impl Whole for Together<AllTag> {
     ghost use Rattle.pump_loader.specs.Wholes.{open_state};
 
+    type Table = Interner<AllTag>;
+
     ghost chosen = { open_state };
 
     /// The four have no use for secret bytes.
@@ -45,6 +52,10 @@ impl Whole for Together<AllTag> {
 
 impl Whole for Both<All, Secrecy> {
     ghost use Rattle.pump_loader.specs.Wholes.{hidden_state};
+
+    // Each side has a table of its own, so that the words of the four's tags are found by the very code that finds them
+    // without secrecy: with a second caller it would no longer be inlined there.
+    type Table = Pairs<Interner<AllTag>, Interner<SecretTag>>;
 
     ghost chosen = { hidden_state };
 
