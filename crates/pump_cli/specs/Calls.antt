@@ -27,8 +27,8 @@ abbrev pub secret_calls : Choice → Option (List ℕ) → List FileCall
 secret_calls choice None = []
 secret_calls choice (Some name) = if choice.secret then Load name ∷ [] else []
 
--- by what the content is read as: `run` and `shell` load the secret file once the image is taken; `asm`, `migrate` and `elf` save the file of the image that they make of it, and a refused one saves
--- nothing
+-- by what the content is read as: `run` and `shell` load the secret file once the image is taken; `asm`, `migrate` and `elf`
+-- save the file of the image that they make of it, and a refused one saves nothing
 abbrev pub calls_of_task : Task → Result Picture Refusal → List FileCall
 calls_of_task (run task) (Ok picture) = Load task.image ∷ secret_calls task.choice task.secret
 calls_of_task (run task) (Err refusal) = Load task.image ∷ []

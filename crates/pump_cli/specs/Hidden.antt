@@ -8,8 +8,8 @@ abbrev pub IsTaken : Option (List ℕ) → Type 0
 IsTaken None = ⊥
 IsTaken (Some bytes) = length bytes ≤ file_limit
 
--- what the names may hold instead, so that the task starts with other secret bytes alone: the image's file is the same, and in both the
--- secret bytes are taken
+-- what the names may hold instead, so that the task starts with other secret bytes alone: the image's file is the same, and in
+-- both the secret bytes are taken
 pub record DifferInSecret (task : RunTask) (held other : List ℕ → Option (List ℕ)) : Type 0 where
   pub image : other task.image ≡ held task.image
   pub one_taken : IsTaken (secret_held task.choice task.secret held)

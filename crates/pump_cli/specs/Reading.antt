@@ -124,8 +124,8 @@ start_held image choice secret held = option_map (λ bytes. record { image = byt
 
 -- ---- a task's content
 
--- what a task's image is made from: the bytes of its file or the source of a workload, and of `elf` the bytes of two files; and the secret
--- bytes of `run` and `shell`
+-- what a task's image is made from: the bytes of its file or the source of a workload, and of `elf` the bytes of two files; and
+-- the secret bytes of `run` and `shell`
 abbrev pub ContentOf : Task → Type 0
 ContentOf (run task) = StartFiles
 ContentOf (shell task) = StartFiles

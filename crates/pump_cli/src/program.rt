@@ -97,8 +97,9 @@ fn run_words<F: Files, S: Source, K: Sink, L: Sink>(
 /// numbers ran out of them (`tags_out`), as does the start of a session (`Executed`, specs/Facts.antt). Where a read of a
 /// session's input fails, each line that ended before it was replied to, and nothing else was put (`replied` there).
 ///
-/// What a run shows doesn't depend on what its secret file holds (`hides`): where secrecy is chosen, and two contents of the secret file
-/// are told and within their limit, the bytes and the status that are due with the one are due with the other, whatever the input is.
+/// What a run shows doesn't depend on what its secret file holds (`hides`): where secrecy is chosen, and two contents of the
+/// secret file are told and within their limit, the bytes and the status that are due with the one are due with the other,
+/// whatever the input is.
 ///
 /// `load` makes the source of a workload itself, runs its image under every policy on no input, and tells in one line on standard
 /// output how many turns, hits and misses there were, and its status. What is due of it is that line alone, whatever files and
@@ -145,7 +146,8 @@ pub fn pump<F: Files, S: Source, K: Sink, L: Sink>(
     ensures replies { (held : List ℕ → Option (List ℕ)) (left : Option (List ℕ))
         → TheSession SessionTellsRuns (texts_of words.now.items) held left }
     ensures hides { (task : RunTask) (held other : List ℕ → Option (List ℕ))
-        (left : Option (List ℕ)) → TellBytes held → task_of (texts_of words.now.items) ≡ Some (run task)
+        (left : Option (List ℕ)) → TellBytes held
+        → task_of (texts_of words.now.items) ≡ Some (run task)
         → task.choice.secret ≡ true → DifferInSecret task held other
         → program (texts_of words.now.items) other left
         ≡ program (texts_of words.now.items) held left }

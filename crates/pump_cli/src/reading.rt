@@ -87,8 +87,8 @@ pub(crate) fn load_image<F: Files>(
     }
 }
 
-/// The secret bytes of a task with this choice: those of the file of this name, where secrecy is chosen and a file is named, and none
-/// else.
+/// The secret bytes of a task with this choice: those of the file of this name, where secrecy is chosen and a file is named,
+/// and none else.
 #[tactic(auto, unfolding(crate::specs::Reading::secret_read, crate::specs::Reading::file_limit))]
 pub(crate) fn load_secret<F: Files>(
     alloc: Global,

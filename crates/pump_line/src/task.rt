@@ -279,17 +279,17 @@ fn end_of(error: &Error) -> WordsEnd
     }
 }
 
-/// What the words ask for, the first being the program's name:
-/// `run IMAGE [--policy LIST] [--secret FILE] [--cache SIZE] [--tags N] [--turns N]`,
-/// `shell IMAGE [--policy LIST] [--secret FILE] [--cache SIZE] [--tags N]`,
-/// `asm SOURCE IMAGE`, `migrate IMAGE OUT`, `elf ELF TAGS IMAGE`, `dis IMAGE` or `load COUNT [--cache SIZE] [--tags N]`, the options in
-/// any order before or after the operand, each at most once; `asm`, `migrate`, `elf` and `dis` have none. LIST is `none`, or names among `seal`, `comp`, `flow`, `heap` and `secret`
-/// with commas between, none twice; it is `none` where it isn't there. FILE is the name of the file of secret bytes. SIZE is N, the rules of one set, 0 to 65,536 (1,024 where it isn't there), or SxW, S sets of W ways each, 1 to 64
-/// and 1 to 65,536, which make 65,536 rules at most. N is 1 to 10 decimal digits, as S and W are, that write 1 to
-/// 1,048,576 for `--tags` (65,536) and 1 to 1,000,000,000 for `--turns` (1,000,000). COUNT is 1 to 10 decimal digits that write
-/// 1 to 1,000. So some tag may have a word in every task that starts an image. SOURCE, IMAGE, OUT, ELF and TAGS are names of files, of
-/// any text: no file is looked at. This is the project's own
-/// command line; `clap` judges its form. Any other words are `Bad`. A line that runs out of memory may end as `Memory`.
+/// What the words ask for, the first being the program's name: `run IMAGE [--policy LIST] [--secret FILE] [--cache SIZE]
+/// [--tags N] [--turns N]`, `shell IMAGE [--policy LIST] [--secret FILE] [--cache SIZE] [--tags N]`, `asm SOURCE IMAGE`,
+/// `migrate IMAGE OUT`, `elf ELF TAGS IMAGE`, `dis IMAGE` or `load COUNT [--cache SIZE] [--tags N]`, the options in any order
+/// before or after the operand, each at most once; `asm`, `migrate`, `elf` and `dis` have none. LIST is `none`, or names among
+/// `seal`, `comp`, `flow`, `heap` and `secret` with commas between, none twice; it is `none` where it isn't there. FILE is the
+/// name of the file of secret bytes. SIZE is N, the rules of one set, 0 to 65,536 (1,024 where it isn't there), or SxW, S sets
+/// of W ways each, 1 to 64 and 1 to 65,536, which make 65,536 rules at most. N is 1 to 10 decimal digits, as S and W are, that
+/// write 1 to 1,048,576 for `--tags` (65,536) and 1 to 1,000,000,000 for `--turns` (1,000,000). COUNT is 1 to 10 decimal digits
+/// that write 1 to 1,000. So some tag may have a word in every task that starts an image. SOURCE, IMAGE, OUT, ELF and TAGS are
+/// names of files, of any text: no file is looked at. This is the project's own command line; `clap` judges its form. Any other
+/// words are `Bad`. A line that runs out of memory may end as `Memory`.
 pub fn read_task<'a>(alloc: Global, words: &'a Vec<String>) -> Result<Task<'a>, WordsEnd>
     ensures task { IfOk result (λ t. task_of (texts_of words.now.items) ≡ Some (task_value t)) }
     ensures tags { IfOk result (λ t. AllowsTags (task_value t)) }

@@ -37,8 +37,8 @@ open_state basis bytes g = choice_state basis g
 
 -- ---- the whole that a basis chooses
 
--- a policy as one: its values and tags, whether two of its tags are the same, what it means, its value at the start of an image, and what
--- the four see of its tags
+-- a policy as one: its values and tags, whether two of its tags are the same, what it means, its value at the start of an
+-- image, and what the four see of its tags
 pub record Whole : Type 1 where
   pub State : Type 0
   pub Tag : Type 0

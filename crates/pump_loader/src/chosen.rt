@@ -14,8 +14,8 @@ use rule_cache::RuleCache;
 use set_cache::SetCache;
 use std::alloc::Global;
 
-/// The start of an image under the policies that a basis chooses, as `W`, on the engine that suits how many rules may be kept. A caller
-/// that runs it has a case for each engine, and so a loop for each.
+/// The start of an image under the policies that a basis chooses, as `W`, on the engine that suits how many rules may be kept.
+/// A caller that runs it has a case for each engine, and so a loop for each.
 #[derive(Drop)]
 pub enum ChosenLoad<'a, W: Whole> {
     /// No rules are kept: every turn asks the policies, and no tag has a word.
@@ -26,8 +26,8 @@ pub enum ChosenLoad<'a, W: Whole> {
     InSets(PumpLoad<'a, W, SetCache>),
 }
 
-/// The start of this image on this basis and with these secret bytes, with room for so many rules, and with words for at most `tags` tags
-/// where some may be kept.
+/// The start of this image on this basis and with these secret bytes, with room for so many rules, and with words for at most
+/// `tags` tags where some may be kept.
 pub fn chosen_load<'a, W: Whole>(
     alloc: Global,
     image: &'a Image,
@@ -43,13 +43,26 @@ pub fn chosen_load<'a, W: Whole>(
     ensures asked { keeps_no_rule cache ≡ true → result
         ≡ ChosenLoad.Asked (record { image = image.now; basis = basis; secret = secret.now }) }
     ensures kept { keeps_no_rule cache ≡ false → cache.sets ≡ 1 → result ≡ ChosenLoad.Kept
-        (record { image = image.now; basis = basis; secret = secret.now; cache = cache; tags = tags }) }
+        (record {
+          image = image.now;
+          basis = basis;
+          secret = secret.now;
+          cache = cache;
+          tags = tags;
+        }) }
     ensures in_sets { keeps_no_rule cache ≡ false → 1 < cache.sets → result ≡ ChosenLoad.InSets
-        (record { image = image.now; basis = basis; secret = secret.now; cache = cache; tags = tags }) }
+        (record {
+          image = image.now;
+          basis = basis;
+          secret = secret.now;
+          cache = cache;
+          tags = tags;
+        }) }
 
     // What it starts.
     ensures starts { start_of_chosen W.Tag.eq W.Policy.model W.chosen result
-        ≡ start_with W.Tag.eq W.Policy.model (W.chosen basis secret.now image.now) cache tags image.now }
+        ≡ start_with W.Tag.eq W.Policy.model (W.chosen basis secret.now image.now)
+        cache tags image.now }
 {
     if cache.keeps_no_rule() {
         return ChosenLoad::Asked(PlainLoad::new(alloc, image, basis, secret));

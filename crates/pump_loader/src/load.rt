@@ -12,8 +12,8 @@ use std::alloc::Global;
 use std::marker::{Model, PhantomData};
 use word_loader::start_cached;
 
-/// The start of an image under the policies that a basis chooses, as `W`, on the engine that keeps rules in a store of this kind and size, with words for
-/// at most `tags` tags. It can be made again and again.
+/// The start of an image under the policies that a basis chooses, as `W`, on the engine that keeps rules in a store of this
+/// kind and size, with words for at most `tags` tags. It can be made again and again.
 #[derive(Drop)]
 pub struct PumpLoad<'a, W: Whole, C: RuleStore> {
     alloc: Global,

@@ -14,8 +14,8 @@ use std::alloc::{AllocError, Global};
 use std::marker::{Model, PhantomData};
 use tag_loader::start_under;
 
-/// The start of an image under the policies that a basis chooses, as `W`, on the engine that asks them at every turn. It can be made again
-/// and again.
+/// The start of an image under the policies that a basis chooses, as `W`, on the engine that asks them at every turn. It can be
+/// made again and again.
 #[derive(Drop)]
 pub struct PlainLoad<'a, W: Whole> {
     alloc: Global,

@@ -105,10 +105,10 @@ fn run_whole<W: Whole, S: Source, K: Sink>(
     }
 }
 
-/// Starts the image as the setup says, with these secret bytes where secrecy is chosen, and executes the input's lines, each as its newline comes, up to `quit` or to the end of the
-/// input, which ends a last line that was begun. Of an input of more than `limit` bytes those lines are executed that end within
-/// them. What is replied is put on `out` line by line. Where the start needs more tag numbers than there may be, the input is left
-/// alone, and nothing is put.
+/// Starts the image as the setup says, with these secret bytes where secrecy is chosen, and executes the input's lines, each as
+/// its newline comes, up to `quit` or to the end of the input, which ends a last line that was begun. Of an input of more than
+/// `limit` bytes those lines are executed that end within them. What is replied is put on `out` line by line. Where the start
+/// needs more tag numbers than there may be, the input is left alone, and nothing is put.
 pub fn run_session<S: Source, K: Sink>(
     alloc: Global,
     setup: Setup,

@@ -7,7 +7,7 @@ use Rattle.secret_runs.specs.Hides.{Hides}
 use Rattle.secret_runs.specs.Pairs.{AnyTwo, SameBeside, shows}
 use Rattle.secret_runs.proofs.BothLemmas.{AlikePairs, both_hides}
 use Rattle.secret_runs.proofs.SecrecyLemmas.{AlikeSecrecyPlans, secrecy_hides}
-use Rattle.secret_props.specs.Hidden.{HiddenState, HiddenTag, hidden}
+use Rattle.pump_loader.specs.Wholes.{HiddenState, HiddenTag, hidden}
 
 -- two plans of them that differ in a secret value alone
 abbrev pub AlikeHiddenPlans : HiddenState → Plan HiddenTag → Plan HiddenTag → Type 0

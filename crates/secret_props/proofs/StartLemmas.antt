@@ -13,7 +13,8 @@ use Rattle.secret_runs.specs.Alike.{AlikeHarts, AlikeMachines, AllAlike}
 use Rattle.secret_runs.specs.Pairs.{SameBeside, shows}
 use Rattle.secret_runs.specs.Same.{AlikeStandings}
 use Rattle.secret_runs.proofs.ValueLemmas.{alike_self}
-use Rattle.secret_props.specs.Hidden.{HiddenTag, HiddenState, asked_start, hidden, hidden_start, kept_start, unanswered}
+use Rattle.pump_loader.specs.Wholes.{HiddenTag, HiddenState, hidden, unanswered}
+use Rattle.secret_props.specs.Hidden.{asked_start, hidden_start, kept_start}
 
 module _ (basis : Basis) (g : Picture) (is : IsImage g) (one other : List ℕ) where
   -- the policies at the start

@@ -13,7 +13,8 @@ ghost use Rattle.run_props.specs.EngineRuns.{engine_along};
 ghost use Rattle.run_props.specs.Safe.{IsSafe};
 ghost use Rattle.secret_runs.specs.Pairs.{SameBeside, shows};
 ghost use Rattle.secret_runs.specs.Same.{RunsAlike};
-ghost use Rattle.secret_props.specs.Hidden.{HiddenTag, asked_start, hidden, hidden_start, kept_start};
+ghost use Rattle.pump_loader.specs.Wholes.{HiddenTag, hidden};
+ghost use Rattle.secret_props.specs.Hidden.{asked_start, hidden_start, kept_start};
 
 /// Along any list of turns and fed bytes, the runs of an image with any two lists of secret bytes differ in secret values alone, and what
 /// their events tell without values is the same: pcs, ends, groups and tags, accesses, services and ranges.

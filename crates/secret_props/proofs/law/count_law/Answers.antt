@@ -1,5 +1,6 @@
 use Rattle.secret_runs.specs.Pairs.{SameBeside, shows}
-use Rattle.secret_props.specs.Hidden.{hidden, kept_start}
+use Rattle.pump_loader.specs.Wholes.{hidden}
+use Rattle.secret_props.specs.Hidden.{kept_start}
 use Rattle.secret_props.proofs.AccountLemmas.{accounts_same}
 use Rattle.secret_props.proofs.HiddenLemmas.{AlikeHiddenPlans, hidden_hides}
 use Rattle.secret_props.proofs.StartLemmas.{kept_alike}

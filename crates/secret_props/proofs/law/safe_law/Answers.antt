@@ -2,7 +2,7 @@ use Rattle.std.proofs.Common.{arith}
 use Rattle.secrecy_policy.specs.Secrecy.{IsLeft, secrecy}
 use Rattle.secrecy_policy.specs.SecrecyLaws.{secrecy_laws}
 use Rattle.run_props.proofs.RunLemmas.{beside_is_safe}
-use Rattle.secret_props.specs.Hidden.{unanswered}
+use Rattle.pump_loader.specs.Wholes.{unanswered}
 use Rattle.secret_props.proofs.law.safe_law.Goals as goal
 
 pub returns : goal.returns

@@ -1,6 +1,7 @@
 use Rattle.secret_runs.specs.Pairs.{SameBeside, shows}
 use Rattle.secret_runs.proofs.RunLemmas.{run_alike}
-use Rattle.secret_props.specs.Hidden.{hidden, hidden_start}
+use Rattle.pump_loader.specs.Wholes.{hidden}
+use Rattle.secret_props.specs.Hidden.{hidden_start}
 use Rattle.secret_props.proofs.HiddenLemmas.{AlikeHiddenPlans, hidden_hides}
 use Rattle.secret_props.proofs.StartLemmas.{starts_alike}
 use Rattle.secret_props.proofs.law.secret_law.Goals as goal

@@ -1,6 +1,7 @@
 use Rattle.secret_runs.specs.Pairs.{SameBeside, shows}
 use Rattle.secret_runs.proofs.RoundsLemmas.{rounds_alike}
-use Rattle.secret_props.specs.Hidden.{asked_start, hidden, kept_start}
+use Rattle.pump_loader.specs.Wholes.{hidden}
+use Rattle.secret_props.specs.Hidden.{asked_start, kept_start}
 use Rattle.secret_props.proofs.HiddenLemmas.{AlikeHiddenPlans, hidden_hides}
 use Rattle.secret_props.proofs.StartLemmas.{asked_alike, kept_alike}
 use Rattle.secret_props.proofs.law.told_law.Goals as goal
