@@ -1,5 +1,5 @@
 -- The policy of compartments keeps the laws of a policy.
-use Rattle.std.proofs.Common.{◌≡◌, ℕ, ◌+◌, ◌^◌, ◌<◌, ◌≤◌, ◌==◌, Bool, true, false, Option, Some, None, Result, Ok, Err, nat_lt, if◌then◌else◌, refl, sym, ap, ◌∙◌, subst, arith}
+use Rattle.std.proofs.Common.{◌≡◌, ℕ, ◌+◌, ◌-◌, ◌^◌, ◌<◌, ◌≤◌, ◌==◌, Bool, true, false, Option, Some, None, Result, Ok, Err, nat_lt, if◌then◌else◌, refl, sym, ap, ◌∙◌, subst, arith}
 use Rattle.std.proofs.lemmas.Bool.Decides.{nat_tests}
 use Rattle.std.proofs.lemmas.Option.{none-some, same_Some}
 use Rattle.shared_terms.proofs.CaseLemmas.{not_refused}
@@ -154,6 +154,11 @@ uses_by : (split : Bool) → (if split then 2 else 3) ≤ 3
 uses_by true = omega arith
 uses_by false = omega arith
 
+-- a compartment less is as many as there were
+undone_by : (splits : Bool) (count : ℕ) → (let after : ℕ = if splits then count + 1 else count in if splits then after - 1 else after) ≡ count
+undone_by true count = omega arith
+undone_by false count = refl
+
 pub compartment_laws : KeepsLaws compartments IsCount
 compartment_laws = record {
   masks = λ state g x. run_masked (entry_owner x.pc x.ci) g x;
@@ -174,6 +179,7 @@ compartment_laws = record {
     text = λ t. refl;
   };
   stays = λ state p given holds. stays_by (p.service == split_service) state (λ split. left_for state p given (grind (arith, nat_tests))) holds;
+  undoes = λ state p given holds. ap (λ (count : ℕ). record state { count = count }) (undone_by (p.service == split_service) state.count);
   ranges = λ state k a pc p can holds given words words_is.
       let plan = planned state k a pc p given in
       subst (IsRange a.ram) (same_Some (words_of a) words (sym plan.range ∙ words_is)) plan.fits;

@@ -1,6 +1,6 @@
 -- Compartments: each memory word has an owner, a set of those that may jump to it and a set of those that may write it.
 -- The policy's value is how many compartments there are, and how many there may be.
-use Rattle.std.specs.Prelude.{ℕ, ◌+◌, ◌*◌, ◌%◌, ◌^◌, ◌<◌, ◌≤◌, ◌==◌, nat_le, nat_lt, Bool, true, false, not, ◌&&◌, ◌||◌, List, ◌++◌, codes, Option, Some, None, Result, Ok, Err, if◌then◌else◌}
+use Rattle.std.specs.Prelude.{ℕ, ◌+◌, ◌-◌, ◌*◌, ◌%◌, ◌^◌, ◌<◌, ◌≤◌, ◌==◌, nat_le, nat_lt, Bool, true, false, not, ◌&&◌, ◌||◌, List, ◌++◌, codes, Option, Some, None, Result, Ok, Err, if◌then◌else◌}
 use Rattle.std.specs.Fmt.{decimal}
 use Rattle.rv_decode.specs.declared.groups.Group.{Group}
 use Rattle.rv_decode.specs.declared.groups.Group.TheVariants as group
@@ -179,6 +179,9 @@ new_place number other (Place owner into write) old = Err (refused_for why.NotOw
 abbrev pub compartment_commit : CompartmentState → Plan CompartmentTag → CompartmentState
 compartment_commit state plan = record state { count = if plan.service == split_service then state.count + 1 else state.count }
 
+abbrev pub compartment_uncommit : CompartmentState → Plan CompartmentTag → CompartmentState
+compartment_uncommit state plan = record state { count = if plan.service == split_service then state.count - 1 else state.count }
+
 -- ---- the texts
 
 abbrev pub compartment_text : CompartmentTag → List ℕ
@@ -208,6 +211,7 @@ compartments = record {
   retag = λ state plan old. new_place plan.service plan.note plan.pc old;
   wipe = λ state pc old. compartment_wipe pc old;
   commit = compartment_commit;
+  uncommit = compartment_uncommit;
   start_pc = λ state birth. Pc false birth.owner;
   start_word = λ state birth. Place birth.owner birth.into birth.write;
   text = λ state tag. compartment_text tag;

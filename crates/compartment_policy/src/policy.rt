@@ -177,6 +177,12 @@ impl Policy for Compartments {
         Ok(())
     }
 
+    fn uncommit(&mut self, plan: &Plan<CompartmentTag>) {
+        if plan.service == SPLIT {
+            self.count -= 1;
+        }
+    }
+
     fn start_pc(&self, birth: &Birth) -> CompartmentTag {
         CompartmentTag::Pc {
             owner: birth.owner,

@@ -9,6 +9,8 @@ use policy_trait::{
 use pump_words::Line;
 use rv_decode::Group;
 use sealing_policy::{SealTag, Sealing};
+use secrecy_policy::{Secrecy, SecretTag};
+use std::test::Fail;
 
 fn on() -> Maybe<Toy> {
     Maybe {
@@ -247,6 +249,51 @@ fn services_are_lent_and_answer_for_both(rt: HostRuntime) {
     for row in PLANS {
         assert!(rt; is_planned(row));
     }
+}
+
+/// The tags of a0 at a service of the toy policy, and who doesn't lend it: sealing within the pair, or secrecy beside the pair.
+type LendRow = ((Tags, SecretTag), Part);
+
+const LENDERS: &[LendRow] = &[
+    (((SealTag::Key(0), 5), SecretTag::Open), Part::Seal),
+    (((SealTag::Data, 5), SecretTag::Secret), Part::Secret),
+    (((SealTag::Key(0), 5), SecretTag::Secret), Part::Seal),
+];
+
+/// Whether that part of the pair beside secrecy is the first that doesn't lend a0.
+fn is_declined(policy: &Both<Both<Sealing, Toy>, Secrecy>, &(t0, part): &LendRow) -> bool {
+    if !policy.knows(40) {
+        return false;
+    }
+    let plain = policy.plain();
+    let arguments = Args {
+        a0: 77,
+        a1: 0,
+        a2: 0,
+        t0,
+        t1: plain,
+        t2: plain,
+        ram: 12,
+    };
+    match policy.plan(40, &arguments, plain) {
+        Err(PlanEnd::Refused(refused)) => {
+            refused
+                == Refused {
+                    part,
+                    why: Why::Lend,
+                }
+        }
+        _ => false,
+    }
+}
+
+#[test]
+fn parts_within_the_owner_are_asked_to_lend_first(rt: HostRuntime) -> Result<(), Fail> {
+    let policy = Both::new(pair(), Secrecy::new(rt.alloc(), &[])?);
+    for row in LENDERS {
+        assert!(rt; is_declined(&policy, row));
+    }
+    Ok(())
 }
 
 #[test]

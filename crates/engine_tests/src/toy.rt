@@ -18,7 +18,7 @@ const WORD: u128 = 1 << 32;
 /// operand's to 10: a plain operand has a plain result. The rule refuses a first operand with the tag 9, and ignores the
 /// other three tags. Nor is a value with the tag 9 lent.
 ///
-/// The one service, 40, notes a0 and answers what was noted before, at most 1000, with the tag of a0. It makes of the tags of the
+/// The one service, 40, notes a0, at most 1000, and answers what was noted before, with the tag of a0. It makes of the tags of the
 /// words at 4 and 8 what is left of each to 100, and zeroes the words where a0 is 0. A word with the tag 9 is refused as no live
 /// one, and one with the tag 8 as not the caller's.
 #[derive(Drop)]
@@ -40,7 +40,7 @@ impl Toy {
 }
 
 impl Policy for Toy {
-    ghost use Rattle.std.proofs.Common.{◌≡◌, ℕ, ◌-◌, ◌==◌, ◌%◌, ◌^◌, min, Some, Ok, Err, true, false, codes, if◌then◌else◌, lit≤, refl, rules};
+    ghost use Rattle.std.proofs.Common.{◌≡◌, ℕ, ◌-◌, ◌==◌, ◌%◌, ◌^◌, ◌<◌, min, option_map, unwrap_or, Some, Ok, Err, true, false, codes, if◌then◌else◌, lit≤, refl, rules};
     ghost use Rattle.policy_trait.specs.declared.rules.Part.TheVariants.{Heap};
     ghost use Rattle.policy_trait.specs.declared.rules.Why.TheVariants.{NotLive, NotOwner, Rule};
     ghost use Rattle.policy_trait.specs.declared.services.Rest.TheVariants.{Plain};
@@ -57,21 +57,24 @@ impl Policy for Toy {
       uses = λ s number. 1;
       lend = λ s tag. if tag == 9 then Err Heap else Ok tt;
       room = λ s. 12;
-      plan = λ s number a pc. Ok (record { service = number; pc = pc; note = a.a0; range = Some (record { base = 4; count = 2 }); zero = a.a0 == 0; answer = Some (record { value = min s.noted 1000; tag = a.t0; rest = Plain }) });
+      plan = λ s number a pc. Ok (record { service = number; pc = pc; note = min a.a0 1000; range = Some (record { base = 4; count = 2 }); zero = a.a0 == 0; answer = Some (record { value = s.noted; tag = a.t0; rest = Plain }) });
       retag = λ s p old. if old == 9 then Err (record { part = Heap; why = NotLive }) else if old == 8 then Err (record { part = Heap; why = NotOwner }) else Ok (100 - old);
       wipe = λ s pc old. Ok pc;
       commit = λ s p. record s { noted = p.note };
+      uncommit = λ s p. record s { noted = unwrap_or (option_map (λ x. x.value) p.answer) 0 };
       start_pc = λ s birth. birth.into.bits % 2 ^ 32;
       start_word = λ s birth. birth.owner;
       text = λ s tag. codes "toy";
       listed = λ s place. Some (place, 4, 1);
     } };
 
-    ghost holds = { λ s. Unit {0} };
+    ghost holds = { λ s. s.noted < 2 ^ 32 };
 
     ghost longest = { 3 };
 
     fn plain(&self) -> u32 {
+        // read for the proof of `valid` alone: what reads the number knows its bound
+        let _noted = self.noted;
         5
     }
 
@@ -127,11 +130,11 @@ impl Policy for Toy {
         Ok(Plan {
             service: number,
             pc,
-            note: arguments.a0,
+            note: arguments.a0.min(1000),
             range: Some(Words { base: 4, count: 2 }),
             zero: arguments.a0 == 0,
             answer: Some(Answer {
-                value: self.noted.min(1000),
+                value: self.noted,
                 tag: arguments.t0,
                 rest: Rest::Plain,
             }),
@@ -159,6 +162,13 @@ impl Policy for Toy {
     fn commit(&mut self, plan: &Plan<u32>) -> Result<(), AllocError> {
         self.noted = plan.note;
         Ok(())
+    }
+
+    fn uncommit(&mut self, plan: &Plan<u32>) {
+        self.noted = match plan.answer {
+            Some(answer) => answer.value,
+            None => 0,
+        };
     }
 
     fn start_pc(&self, birth: &Birth) -> u32 {
@@ -195,7 +205,8 @@ impl Policy for Toy {
         start_word = λ b. refl;
         text = λ t. refl;
       };
-      stays = λ s p given holds. tt;
+      stays = λ s p given holds. Prim.search rules;
+      undoes = λ s p given holds. Prim.search rules;
       ranges = λ s k a pc p can holds given. Prim.search rules;
       few = λ s k known. Prim.search rules;
       service = λ s k a pc p known given. Prim.search rules;
@@ -203,10 +214,10 @@ impl Policy for Toy {
       unused = λ s k a b pc known same j. Ok (record {
         service = k;
         pc = pc;
-        note = same.a0 (lit≤ tt) j;
+        note = min (same.a0 (lit≤ tt) j) 1000;
         range = Some (record { base = 4; count = 2 });
         zero = same.a0 (lit≤ tt) j == 0;
-        answer = Some (record { value = min s.noted 1000; tag = same.t0 (lit≤ tt) j; rest = Plain });
+        answer = Some (record { value = s.noted; tag = same.t0 (lit≤ tt) j; rest = Plain });
       });
       blind_retag = λ s p x old. refl;
       blind_commit = λ s p x. refl;

@@ -1,8 +1,12 @@
 pub mod AccountLemmas
+pub mod HistoryLemmas
 pub mod MachineLemmas
 pub mod MapLemmas
 pub mod MirrorLemmas
+pub mod RegisterLemmas
+pub mod RestoredLemmas
 pub mod RoomLemmas
+pub mod RunBackLemmas
 pub mod StepLemmas
 pub mod TagLemmas
 pub mod TurnLemmas

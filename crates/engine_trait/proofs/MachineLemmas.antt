@@ -164,7 +164,7 @@ module _ {S T : Type 0} (m : PolicyModel T S) (s : Machine S T) (h : ℕ) where
       → CanPlan m s.policy look.service (args_on (hart_at s.core h) s.core.ram)
   can_plan is look found call = record { known = known_call look found call; room = is.room }
 
-  planned_given : (holds : S → Type 0) → KeepsLaws m holds → IsMachine m s → (look : Look) (outs : Outs T) (job : Job T) → Prepares m s h look
+  pub planned_given : (holds : S → Type 0) → KeepsLaws m holds → IsMachine m s → (look : Look) (outs : Outs T) (job : Job T) → Prepares m s h look
       → turn_job m s h look outs ≡ Ok (Some job) → IsGiven m s.policy job.plan
   unfolding turn_job service_on
   planned_given holds laws is look outs job found e =

@@ -1,6 +1,8 @@
 pub mod Accounts
 pub mod Events
 pub mod EngineLaws
+pub mod History
+pub mod HistoryLaws
 pub mod Machine
 pub mod Maps
 pub mod Mirrored

@@ -1,14 +1,18 @@
 //! Laws of the definitions, for callers that reason about turns and steps.
 
-ghost use Rattle.std.specs.Prelude.{◌≡◌, ◌≢◌, ℕ, ◌<◌, ◌≤◌, false, true, length};
+ghost use Rattle.std.specs.Prelude.{◌≡◌, ◌≢◌, ℕ, ◌<◌, ◌≤◌, false, true, List, [], ◌∷◌, ◌++◌, length};
 ghost use Rattle.policy_trait.specs.Mirrors.{Mirrors};
-ghost use Rattle.turn_steps.specs.Feeds.{Tape};
+ghost use Rattle.turn_steps.specs.Feeds.{Tape, with_fed};
+ghost use Rattle.undo_log.specs.declared.record.Record.{Record};
 ghost use Rattle.engine_trait.specs.Accounts.{IsUncached};
 ghost use Rattle.engine_trait.specs.Events.{event_of, is_retirement};
 ghost use Rattle.engine_trait.specs.EngineLaws.{FollowsTurn, HasPlainZero, RunsOut, StaysIdle, StaysMachine, is_made};
+ghost use Rattle.engine_trait.specs.History.{AreMade, all_undone, bytes_fed, reached_after, record_of, records_along, without_last};
+ghost use Rattle.engine_trait.specs.HistoryLaws.{StepsBack, TakesBack};
 ghost use Rattle.engine_trait.specs.Machine.{HasWords, IsMachine, Machine, is_ready_in};
 ghost use Rattle.engine_trait.specs.Maps.{machine_by, turned_by};
 ghost use Rattle.engine_trait.specs.Mirrored.{IsMirrored, StepsMirrored};
+ghost use Rattle.engine_trait.specs.Runs.{Item};
 ghost use Rattle.engine_trait.specs.Standing.{Standing, step};
 ghost use Rattle.engine_trait.specs.Turn.{turn_of};
 
@@ -83,4 +87,22 @@ pub fn mirror_law<P: Policy, Q: Policy>()
         (feed : Tape) (h : ℕ) → IsMirrored f P.model Q.model e d
         → StepsMirrored f P.model Q.model
         (step P.Tag.eq P.model e feed h) (step Q.Tag.eq Q.model d feed h) }
+{}
+
+/// Under any policy, the record of a turn takes it back; the records of a run's turns take it back to its start, where only
+/// what was fed stays; and the record of the last turn leads to the end of the run without that turn.
+pub fn history_law<P: Policy>()
+    ensures turn { (s : Machine P P.Tag) (feed : Tape) (h : ℕ)
+        → P.holds s.policy → IsMachine P.model s → is_ready_in s.core h ≡ true
+        → TakesBack P.model P.holds s feed (turn_of P.model s feed h) (record_of P.model s feed h) }
+    ensures run { (s : Machine P P.Tag) (feed : Tape) (items : List Item)
+        → P.holds s.policy → IsMachine P.model s → AreMade P.model s feed items
+        → all_undone P.model (reached_after P.model s feed items)
+        (records_along P.model s feed items)
+        ≡ record { machine = s; feed = with_fed feed (bytes_fed items) } }
+    ensures back { (s : Machine P P.Tag) (feed : Tape) (items : List Item)
+        (front : List (Record P.Tag P.Tag)) (r : Record P.Tag P.Tag)
+        → P.holds s.policy → IsMachine P.model s → AreMade P.model s feed items
+        → records_along P.model s feed items ≡ front ++ r ∷ []
+        → StepsBack P.model s feed items (without_last items) front r }
 {}

@@ -12,5 +12,5 @@ mod law;
 pub use cores::{Core, MOST_HARTS};
 pub use ends::{Counts, Halt, LoadEnd, TurnEnd};
 pub use engine::{Engine, Loader};
-pub use law::{idle_law, mirror_law, plain_law, step_law, turn_law, words_law};
+pub use law::{history_law, idle_law, mirror_law, plain_law, step_law, turn_law, words_law};
 pub use turn_steps::{Feed, Stop};

@@ -133,6 +133,7 @@ flow = record {
   retag = λ edges plan old. Ok old;
   wipe = λ edges pc old. flow_wipe old;
   commit = λ edges plan. edges;
+  uncommit = λ edges plan. edges;
   start_pc = λ edges birth. Still;
   start_word = λ edges birth. flow_start_word birth;
   text = λ edges tag. flow_text tag;

@@ -46,6 +46,7 @@ flow_laws = record {
     text = λ t. refl;
   };
   stays = λ edges p given held. held;
+  undoes = λ edges p given held. refl;
   ranges = λ edges k a pc p can held given. absurd (false≢true can.known);
   few = λ edges k known. absurd (false≢true known);
   service = λ edges k a pc p known given. absurd (false≢true known);

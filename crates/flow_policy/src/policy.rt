@@ -178,6 +178,12 @@ impl Policy for Flow {
         Ok(())
     }
 
+    fn uncommit(&mut self, plan: &Plan<FlowTag>)
+        ensures { self.new ≡ flow.uncommit self.old plan.now }
+    {
+        let _ = plan.service;
+    }
+
     fn start_pc(&self, _birth: &Birth) -> FlowTag {
         FlowTag::Still
     }

@@ -1,10 +1,10 @@
 -- Heap safety: each block of the heap has a number, and a pointer with that number reaches the words of the block while
 -- it is live. The policy's value is the live blocks of the heap region, and the number of the next block.
-use Rattle.std.specs.Prelude.{◌≡◌, ℕ, ◌+◌, ◌/◌, ◌<◌, ◌≤◌, ◌==◌, nat_lt, max, Bool, true, false, not, ◌&&◌, ◌||◌, List, [], ◌++◌, codes, Option, Some, None, option_map, Result, Ok, Err, if◌then◌else◌}
+use Rattle.std.specs.Prelude.{◌≡◌, ◌≢◌, ℕ, ◌+◌, ◌-◌, ◌/◌, ◌<◌, ◌≤◌, ◌==◌, nat_lt, max, Bool, true, false, not, ◌&&◌, ◌||◌, List, [], ◌++◌, codes, length, Option, Some, None, option_map, Result, Ok, Err, if◌then◌else◌}
 use Rattle.std.specs.Fmt.{decimal}
 use Rattle.std.specs.List.{All, find, slice_get}
 use Rattle.std.specs.Option.{option_and_then}
-use Rattle.live_blocks.specs.Space.{IsFirstFit, IsSpace, Space, first_fit, with_block, without_block}
+use Rattle.live_blocks.specs.Space.{IsFirstFit, IsSpace, IsWithin, LiesFree, Space, first_fit, put_block, with_block, without_block}
 use Rattle.live_blocks.specs.declared.block.Block.{Block}
 use Rattle.rv_decode.specs.declared.groups.Group.{Group}
 use Rattle.rv_decode.specs.declared.groups.Group.TheVariants as group
@@ -43,6 +43,10 @@ pub record HeapState : Type 0 where
 abbrev pub empty_heap : ℕ → ℕ → HeapState
 empty_heap base bytes = record { space = record { base = base; top = base + bytes; live = [] }; next = 0 }
 
+-- the block of this number at these words
+abbrev pub block_at : ℕ → Words → Block
+block_at number words = record { number = number; base = words.base; words = words.count }
+
 -- each live block has a number below the next, which is so that of none
 pub record IsHeap (state : HeapState) : Type 0 where
   pub space : IsSpace state.space
@@ -56,6 +60,11 @@ pub record CanHandOut (state : HeapState) (number : ℕ) (words : Words) : Type 
   pub left : state.next < block_limit
   pub some : 1 ≤ words.count
   pub fit : IsFirstFit state.space words.count words.base
+
+-- there is room for every block that was handed out, so that a block that was taken back can be live again
+pub record HasRoom (state : HeapState) (room : ℕ) : Type 0 where
+  pub heap : IsHeap state
+  pub enough : state.next ≤ room
 
 abbrev pub refused_for : Why → Refused
 refused_for reason = record { part = part.Heap; why = reason }
@@ -314,16 +323,46 @@ cell_after number block = if number == malloc_service then Cell block contents.V
 abbrev pub handed_out : HeapState → ℕ → Option Words → HeapState
 handed_out state number None = state
 handed_out state number (Some words) = record {
-  space = with_block state.space (record { number = number; base = words.base; words = words.count });
+  space = with_block state.space (block_at number words);
   next = state.next + 1;
 }
 
 abbrev pub taken_back : HeapState → ℕ → HeapState
 taken_back state number = record { space = without_block state.space number; next = state.next }
 
+-- a block that was taken back is live again
+abbrev pub live_again : HeapState → ℕ → Words → HeapState
+live_again state number words = record { space = put_block state.space (block_at number words); next = state.next }
+
+-- the block that was handed out last is handed back, and its number with it
+abbrev pub handed_back : HeapState → ℕ → HeapState
+handed_back state number = record { space = without_block state.space number; next = state.next - 1 }
+
+-- a block that was taken back can be live again: its words lie free, no other has its number, fewer blocks are live than were
+-- handed out, and with it the heap is one
+pub record CanPutBack (state : HeapState) (number : ℕ) (words : Words) : Type 0 where
+  pub within : IsWithin state.space.base state.space.top (block_at number words)
+  pub free : LiesFree state.space words.count words.base
+  pub another : All (λ other. other.number ≢ number) state.space.live
+  pub left : length state.space.live < state.next
+  pub heap : IsHeap (live_again state number words)
+
+-- a block can be handed back: it is the last one, and without it the heap is one
+pub record CanHandBack (state : HeapState) (number : ℕ) : Type 0 where
+  pub last : number + 1 ≡ state.next
+  pub heap : IsHeap (handed_back state number)
+
 abbrev pub heap_commit : HeapState → Plan HeapTag → HeapState
 heap_commit state plan =
     if plan.service == free_service then taken_back state plan.note else handed_out state plan.note plan.range
+
+-- a plan without a range changed nothing
+abbrev pub uncommitted : Bool → HeapState → ℕ → Option Words → HeapState
+uncommitted is_free state number None = state
+uncommitted is_free state number (Some words) = if is_free then live_again state number words else handed_back state number
+
+abbrev pub heap_uncommit : HeapState → Plan HeapTag → HeapState
+heap_uncommit state plan = uncommitted (plan.service == free_service) state plan.note plan.range
 
 -- number, base and words of the live block at that place
 abbrev pub heap_listed : HeapState → ℕ → Option (ℕ × ℕ × ℕ)
@@ -361,6 +400,7 @@ heap = record {
   retag = λ state plan old. Ok (cell_after plan.service plan.note);
   wipe = λ state pc old. wipe_tag old;
   commit = heap_commit;
+  uncommit = heap_uncommit;
   start_pc = λ state birth. Val;
   start_word = λ state birth. heap_start_word birth;
   text = λ state tag. heap_text tag;

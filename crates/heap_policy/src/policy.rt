@@ -2,14 +2,15 @@
 
 ghost use Rattle.std.specs.Prelude.{◌≡◌, ◌+◌, ◌≤◌, ◌<◌, ◌%◌, ◌^◌, ◌++◌, Some, OnErr, OnOk};
 ghost use Rattle.arrayvec.specs.ArrayVec.{array_vec_len};
-ghost use Rattle.heap_policy.specs.Heap.{CanHandOut, content_text, empty_heap, free_plan, handed_out, heap, malloc_plan, pointer_text, taken_back};
+ghost use Rattle.heap_policy.specs.Heap.{CanHandBack, CanHandOut, CanPutBack, content_text, empty_heap, free_plan, handed_back, handed_out, heap, live_again, malloc_plan, pointer_text, taken_back};
 
 use crate::services::{
-    BLOCK_LIMIT, FREE, MALLOC, freeing, handing_out, none_fits, refuse, retagged, words_of,
+    BLOCK_LIMIT, FREE, MALLOC, block_at, freeing, handing_out, none_fits, refuse, retagged,
+    words_of,
 };
 use crate::table::{effect_of, is_static, is_val, refused, wiped};
 use crate::tag::{Content, HeapTag};
-use live_blocks::{Block, LiveBlocks};
+use live_blocks::LiveBlocks;
 use policy_trait::{
     Args, Birth, Ins, InsAt, Mask, Outs, Part, Plan, PlanEnd, Policy, Refused, Shape, Why, Words,
 };
@@ -28,13 +29,13 @@ pub struct Heap {
 }
 
 impl Model for Heap {
-    ghost use Rattle.heap_policy.specs.Heap.{HeapState, IsHeap};
+    ghost use Rattle.heap_policy.specs.Heap.{HasRoom, HeapState};
 
     ghost Value = { HeapState };
 
-    ghost view = { λ h. record { space = h.blocks; next = h.next } };
+    ghost view = { λ h. record { space = h.blocks.space; next = h.next } };
 
-    ghost invariant = { λ h. IsHeap (record { space = h.blocks; next = h.next }) };
+    ghost invariant = { λ h. HasRoom (record { space = h.blocks.space; next = h.next }) h.blocks.room };
 }
 
 impl Heap {
@@ -87,11 +88,8 @@ impl Heap {
         ensures ok { OnOk result (self.new ≡ handed_out self.old number (Some words)) }
         ensures err { OnErr result (self.new ≡ self.old) }
     {
-        self.blocks.insert(Block {
-            number,
-            base: words.base,
-            words: words.count,
-        })?;
+        self.blocks.make_room(number + 1)?;
+        self.blocks.insert(block_at(number, words));
         self.next += 1;
         Ok(())
     }
@@ -101,6 +99,23 @@ impl Heap {
         ensures { self.new ≡ taken_back self.old number }
     {
         self.blocks.remove(number);
+    }
+
+    /// Makes the block of this number at these words live again. It takes no memory.
+    fn put_back(&mut self, number: u32, words: Words)
+        requires { CanPutBack self.old number words }
+        ensures { self.new ≡ live_again self.old number words }
+    {
+        self.blocks.insert(block_at(number, words));
+    }
+
+    /// Takes note that the block of this number was not handed out.
+    fn hand_back(&mut self, number: u32)
+        requires { CanHandBack self.old number }
+        ensures { self.new ≡ handed_back self.old number }
+    {
+        self.blocks.remove(number);
+        self.next -= 1;
     }
 }
 
@@ -202,6 +217,17 @@ impl Policy for Heap {
             self.hand_out(plan.note, words)?;
         }
         Ok(())
+    }
+
+    fn uncommit(&mut self, plan: &Plan<HeapTag>) {
+        let Some(words) = plan.range else {
+            return;
+        };
+        if plan.service == FREE {
+            self.put_back(plan.note, words);
+        } else {
+            self.hand_back(plan.note);
+        }
     }
 
     fn start_pc(&self, _birth: &Birth) -> HeapTag {

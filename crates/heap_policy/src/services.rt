@@ -1,7 +1,7 @@
 //! What the services do: the plans of a block that is handed out, and of one that is taken back.
 
 ghost use Rattle.std.specs.Prelude.{◌≡◌, ◌≤◌, Err};
-ghost use Rattle.heap_policy.specs.Heap.{freeing, handing_out, none_fits, refused_plan, cell_after, words_of};
+ghost use Rattle.heap_policy.specs.Heap.{block_at, freeing, handing_out, none_fits, refused_plan, cell_after, words_of};
 
 use crate::table::refused;
 use crate::tag::{Content, HeapTag};
@@ -23,6 +23,17 @@ pub(crate) fn words_of(bytes: u32) -> u32
     ensures some { 1 ≤ result }
 {
     bytes.div_ceil(4).max(1)
+}
+
+/// The block of this number at these words.
+pub(crate) fn block_at(number: u32, words: Words) -> Block
+    ensures { result ≡ block_at number words }
+{
+    Block {
+        number,
+        base: words.base,
+        words: words.count,
+    }
 }
 
 /// The block of this number handed out at these words.

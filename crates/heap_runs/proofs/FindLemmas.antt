@@ -15,25 +15,7 @@ use Rattle.heap_runs.specs.HeapInvariant.{is_in_block}
 
 -- ---- a search
 
--- what a search found: an element that passes
-pub record IsFound {X : Type 0} (test : X → Bool) (xs : List X) (x : X) : Type 0 where
-  pub among : Contains xs x
-  pub passes : test x ≡ true
-
 module _ {X : Type 0} (test : X → Bool) where
-  found_by : (y x : X) (ys : List X) (passes : Bool) → test y ≡ passes → (find test ys ≡ Some x → IsFound test ys x)
-      → cond passes (Some y) (find test ys) ≡ Some x → IsFound test (y ∷ ys) x
-  found_by y x ys true is later e =
-      let same : y ≡ x = cc in
-      record { among = (zero, omega arith, same); passes = subst (λ (z : X). test z ≡ true) same is }
-  found_by y x ys false is later e =
-      let found = later e in
-      record { among = (suc found.among.0, omega (arith, found.among.1), found.among.2); passes = found.passes }
-
-  pub found : (xs : List X) (x : X) → find test xs ≡ Some x → IsFound test xs x
-  found [] x e = absurd cc
-  found (y ∷ ys) x e = found_by y x ys (test y) refl (found ys x) e
-
   -- where none is found none passes
   none_by : (y x : X) (ys : List X) (passes : Bool) → test y ≡ passes → cond passes (Some y) (find test ys) ≡ None
       → (find test ys ≡ None → Contains ys x → test x ≡ false) → Contains (y ∷ ys) x → test x ≡ false

@@ -33,7 +33,8 @@ use Rattle.part_turns.proofs.PlaceLemmas.{some_bytes}
 use Rattle.heap_runs.specs.BlockBook.{BlockBook, block_book}
 use Rattle.heap_runs.specs.HeapInvariant.{HeapInvariant, IsCellOf, is_in_block}
 use Rattle.heap_runs.specs.HeapSafe.{HeapTurn, ReachesBlock, is_in_heap}
-use Rattle.heap_runs.proofs.FindLemmas.{found, lies_in}
+use Rattle.live_blocks.proofs.ListLemmas.{found}
+use Rattle.heap_runs.proofs.FindLemmas.{lies_in}
 use Rattle.heap_runs.proofs.RuleLemmas.{IsRow, loads_part_reach, loads_reach, row_is, stores_is, stores_part_is}
 use Rattle.heap_runs.proofs.TagLemmas.{not_both, static_is}
 

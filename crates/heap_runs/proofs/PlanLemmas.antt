@@ -14,7 +14,7 @@ use Rattle.live_blocks.specs.declared.block.Block.{Block}
 use Rattle.heap_policy.specs.Heap.{HeapState, block_limit, free_plan, plan_of_freeing, freeing, handing_out, heap_knows, heap_plan, is_val, malloc_plan, none_fits, plan_at, pointed_to, refused_plan, words_of}
 use Rattle.heap_policy.specs.declared.tag.HeapTag.{HeapTag}
 use Rattle.heap_policy.specs.declared.tag.HeapTag.TheVariants.{Val, Ptr, Static, Cell, Free}
-use Rattle.heap_runs.proofs.FindLemmas.{found}
+use Rattle.live_blocks.proofs.ListLemmas.{found}
 
 module _ (state : HeapState) (number : ℕ) (a : Args HeapTag) (pc : HeapTag) (p : Plan HeapTag) where
   -- what a plan of the policy's own is

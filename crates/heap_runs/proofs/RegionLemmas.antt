@@ -13,7 +13,8 @@ use Rattle.heap_policy.specs.declared.tag.HeapTag.TheVariants.{Cell}
 use Rattle.part_turns.proofs.PlaceLemmas.{nth_tag}
 use Rattle.heap_runs.specs.HeapInvariant.{HeapInvariant, IsBelow, IsCellOf, is_in_block}
 use Rattle.heap_runs.specs.HeapSafe.{is_in_heap}
-use Rattle.heap_runs.proofs.FindLemmas.{IsFound, apart, found, has_word, lies_in, none_passes}
+use Rattle.heap_runs.proofs.FindLemmas.{apart, has_word, lies_in, none_passes}
+use Rattle.live_blocks.proofs.ListLemmas.{IsFound, found}
 
 -- a word from the region's base on and below its top
 pub heap_has : (base top n : ℕ) → base ≤ 4 * n → 4 * n < top → is_in_heap base top (4 * n) ≡ true

@@ -1,7 +1,9 @@
+pub mod BackLemmas
 pub mod GapLemmas
 pub mod InsertLemmas
 pub mod ListLemmas
 pub mod NumberLemmas
+pub mod PlaceLemmas
 pub mod RemoveLemmas
 pub mod RisingLemmas
 pub mod RunLemmas

@@ -1,9 +1,15 @@
 -- What lists keep where an element comes or goes.
-use Rattle.std.proofs.Common.{◌≡◌, ◌≢◌, ℕ, zero, suc, ◌-◌, ◌<◌, ◌≤◌, Bool, true, false, cond, List, [], ◌∷◌, length, get_or, take, drop, Some, None, refl, sym, ap, ◌∙◌, subst, inl, inr, arith}
+use Rattle.std.proofs.Common.{◌≡◌, ◌≢◌, ◌⊎◌, ℕ, zero, suc, ◌-◌, ◌<◌, ◌≤◌, Bool, true, false, cond, List, [], ◌∷◌, ◌++◌, length, get_or, take, drop, Some, None, refl, sym, ap, ◌∙◌, subst, inl, inr, arith}
 use Rattle.std.specs.List.{All, AllPairs, AllWithin, Contains, filter, find, insert, remove}
 use Rattle.std.proofs.lemmas.List.{length-drop, take-append-drop, take_all}
 use Rattle.std.proofs.lemmas.List.Elements.{All-append, All-cons, All-drop, All-take, Contains-append_cases, Contains-append_left, Contains-append_right}
 use Rattle.std.proofs.lemmas.List.Kept.{AllPairs-cons}
+use Rattle.std.proofs.lemmas.Option.{none-some, same_Some}
+
+-- what a search found: an element that passes
+pub record IsFound {X : Type 0} (p : X → Bool) (xs : List X) (x : X) : Type 0 where
+  pub among : Contains xs x
+  pub passes : p x ≡ true
 
 module _ {X : Type 0} where
   -- ---- one element more
@@ -37,6 +43,17 @@ module _ {X : Type 0} where
 
   pub contains_inserted : (xs : List X) (i : ℕ) (y : X) → Contains (insert xs i y) y
   contains_inserted xs i y = Contains-append_right (take i xs) (y ∷ drop i xs) y (zero, omega arith, refl)
+
+  -- what is in the list after that was in it before, or is the new one
+  pub inserted_cases : (xs : List X) (i : ℕ) (y x : X) → Contains (insert xs i y) x → Contains xs x ⊎ (y ≡ x)
+  inserted_cases xs i y x has = elim (Contains-append_cases (take i xs) (y ∷ drop i xs) x has) [
+    | inl before ↦ inl (whole (Contains-append_left (take i xs) (drop i xs) x before))
+    | inr (zero, in_range, is) ↦ inr is
+    | inr (suc k, in_range, is) ↦ inl (whole (Contains-append_right (take i xs) (drop i xs) x (k, omega arith, is)))
+  ]
+    where
+      whole : Contains (take i xs ++ drop i xs) x → Contains xs x
+      whole = subst (λ l. Contains l x) (take-append-drop i xs)
 
   -- ---- one element less
 
@@ -77,6 +94,19 @@ module _ {X : Type 0} where
   pub find_fails : (p : X → Bool) (xs : List X) → All (λ x. p x ≡ false) xs → find p xs ≡ None
   find_fails p [] all = refl
   find_fails p (x ∷ xs) all = rw (all zero x (omega arith)) (find_fails p xs (λ k d in_range. all (suc k) d (omega arith)))
+
+  found_by : (p : X → Bool) (x y : X) (xs : List X) (test : Bool) → p x ≡ test → (find p xs ≡ Some y → IsFound p xs y)
+      → cond test (Some x) (find p xs) ≡ Some y → IsFound p (x ∷ xs) y
+  found_by p x y xs true is later e =
+      let same : x ≡ y = same_Some x y e in
+      record { among = (zero, omega arith, same); passes = subst (λ z. p z ≡ true) same is }
+  found_by p x y xs false is later e =
+      let found = later e in
+      record { among = (suc found.among.0, omega (arith, found.among.1), found.among.2); passes = found.passes }
+
+  pub found : (p : X → Bool) (xs : List X) (y : X) → find p xs ≡ Some y → IsFound p xs y
+  found p [] y e = absurd (none-some y e)
+  found p (x ∷ xs) y e = found_by p x y xs (p x) refl (found p xs y) e
 
   -- ---- a list from a place on
 

@@ -1,6 +1,6 @@
 -- What the order of blocks by their numbers says of a search by number.
 use Rattle.std.proofs.Common.{◌≡◌, ◌≢◌, ℕ, ◌<◌, ◌≤◌, List, length, get_or, Result, Ok, Err, IfNone, IfSome, sym, ap, ◌∙◌, subst, inl, inr, arith}
-use Rattle.std.specs.List.{All, AllPairs, Contains}
+use Rattle.std.specs.List.{All, Contains}
 use Rattle.std.specs.List.Sorted.{IsBinarySearchResult, IsNonDecreasingBy, IsSearchInRange}
 use Rattle.std.specs.Result.{result_ok}
 use Rattle.std.specs.Ordering.{nat_cmp, ordering_index}
@@ -9,14 +9,10 @@ use Rattle.std.proofs.lemmas.Bool.Decides.{nat_tests}
 use Rattle.std.proofs.lemmas.Cmp.{ranked}
 use Rattle.std.proofs.lemmas.List.{get_or_default}
 use Rattle.live_blocks.specs.declared.block.Block.{Block}
-use Rattle.live_blocks.specs.Run.{IsPlaceOf}
-
--- numbers rise along the list
-abbrev pub AreNumbered : List Block → Type 0
-AreNumbered live = AllPairs (λ x y. x.number < y.number) live
+use Rattle.live_blocks.specs.Run.{AreNumbered, IsPlaceOf}
 
 module _ (live : List Block) (numbered : AreNumbered live) where
-  numbers_rise : (i j : ℕ) (d : Block) → i ≤ j → j < length live → (get_or live i d).number ≤ (get_or live j d).number
+  pub numbers_rise : (i j : ℕ) (d : Block) → i ≤ j → j < length live → (get_or live i d).number ≤ (get_or live j d).number
   numbers_rise i j d le in_range = elim (cases_lt i j) [
     | inl earlier ↦ omega (arith, numbered i j d earlier in_range)
     | inr same ↦ subst (λ k. (get_or live i d).number ≤ (get_or live k d).number) {x = i} {y = j} (omega arith) (omega arith)

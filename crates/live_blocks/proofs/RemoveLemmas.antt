@@ -18,7 +18,7 @@ use Rattle.live_blocks.proofs.NumberLemmas.{same_block, same_place}
 pub other_passes : (x number : ℕ) → x ≢ number → not (x == number) ≡ true
 other_passes x number differs = grind (arith, nat_tests)
 
-same_fails : (x number : ℕ) → x ≡ number → not (x == number) ≡ false
+pub same_fails : (x number : ℕ) → x ≡ number → not (x == number) ≡ false
 same_fails x number same = grind (arith, nat_tests)
 
 module _ (space : Space) (by_base : List Block) (full : ℕ) (kept : IsKept space by_base full) (number place : ℕ) (is : IsPlaceOf space.live number place)

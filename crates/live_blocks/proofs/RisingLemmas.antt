@@ -1,12 +1,12 @@
 -- What the order of blocks by their addresses says of where they begin and end.
-use Rattle.std.proofs.Common.{◌⊎◌, ℕ, zero, suc, ◌≤◌, List, ◌∷◌, get_or, subst, inl, inr, arith}
-use Rattle.std.specs.List.{Contains}
+use Rattle.std.proofs.Common.{◌⊎◌, ℕ, zero, suc, ◌^◌, ◌<◌, ◌≤◌, List, ◌∷◌, get_or, subst, inl, inr, arith}
+use Rattle.std.specs.List.{All, Contains}
 use Rattle.std.specs.List.Sorted.{IsNonDecreasingBy}
 use Rattle.std.proofs.lemmas.Bool.{cases_lt}
 use Rattle.std.proofs.lemmas.List.Elements.{All-contains}
 use Rattle.live_blocks.specs.declared.block.Block.{Block}
 use Rattle.live_blocks.specs.Run.{IsRising}
-use Rattle.live_blocks.specs.Space.{end_of}
+use Rattle.live_blocks.specs.Space.{IsSpace, IsWithin, Space, end_of}
 use Rattle.live_blocks.proofs.ListLemmas.{pairs_head}
 
 -- a block begins no later than those after it
@@ -31,3 +31,8 @@ module _ (head : Block) (blocks : List Block) where
   pub ended_or_after : (block : Block) → Contains (head ∷ blocks) block → (end_of block ≤ end_of head) ⊎ Contains blocks block
   ended_or_after block (zero, in_range, is) = inl (subst (λ (other : Block). end_of other ≤ end_of head) is (omega arith))
   ended_or_after block (suc k, in_range, is) = inr (k, omega arith, is)
+
+-- each block of a list ends where a word can tell, if it is one of a region
+pub small_ends : (space : Space) (blocks : List Block) → IsSpace space → All (Contains space.live) blocks → All (λ block. end_of block < 2 ^ 32) blocks
+small_ends space blocks is known k d lower =
+    omega (arith, (All-contains (IsWithin space.base space.top) space.live (get_or blocks k d) is.within (known k d lower)).to, is.small)

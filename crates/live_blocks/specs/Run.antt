@@ -21,6 +21,16 @@ pub record IsPlaceOf (live : List Block) (number place : ℕ) : Type 0 where
   pub in_range : place < length live
   pub has_number : HoldsAt (λ block. block.number ≡ number) live place
 
+-- numbers rise along the list
+abbrev pub AreNumbered : List Block → Type 0
+AreNumbered live = AllPairs (λ x y. x.number < y.number) live
+
+-- so many blocks at the head of a list have a number below this one, and no others
+pub record AreEarlier (live : List Block) (number count : ℕ) : Type 0 where
+  pub within : count ≤ length live
+  pub below : AllWithin (λ block. block.number < number) live 0 count
+  pub others : AllWithin (λ block. number ≤ block.number) live count (length live)
+
 -- each block ends before the next begins
 abbrev pub IsRising : List Block → Type 0
 IsRising blocks = AllPairs (λ x y. end_of x ≤ y.base) blocks

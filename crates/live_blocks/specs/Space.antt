@@ -1,5 +1,5 @@
 -- A heap region and its live blocks. All addresses are of bytes, and a word has four.
-use Rattle.std.specs.Prelude.{◌≡◌, ◌⊎◌, ℕ, zero, suc, ◌+◌, ◌*◌, ◌^◌, ◌%◌, ◌<◌, ◌≤◌, ◌==◌, nat_le, Bool, not, ◌&&◌, ◌||◌, List, [], ◌∷◌, ◌++◌, Option, Some, None, option_map, if◌then◌else◌}
+use Rattle.std.specs.Prelude.{◌≡◌, ◌⊎◌, ℕ, zero, suc, ◌+◌, ◌*◌, ◌^◌, ◌%◌, ◌<◌, ◌≤◌, ◌==◌, nat_le, nat_lt, Bool, not, ◌&&◌, ◌||◌, List, [], ◌∷◌, ◌++◌, Option, Some, None, option_map, if◌then◌else◌}
 use Rattle.std.specs.List.{All, AllPairs, filter, list_all}
 use Rattle.std.specs.Option.{option_or}
 use Rattle.live_blocks.specs.declared.block.Block.{Block}
@@ -77,6 +77,16 @@ pub record IsSpace (space : Space) : Type 0 where
 -- a block more, the newest
 abbrev pub with_block : Space → Block → Space
 with_block space block = region space.base space.top (space.live ++ block ∷ [])
+
+-- the blocks with one more among them, before the first whose number is not below its own
+abbrev pub by_number : List Block → Block → List Block
+by_number [] block = block ∷ []
+by_number (head ∷ others) block =
+    if nat_lt head.number block.number then head ∷ by_number others block else block ∷ head ∷ others
+
+-- a block more, at the place of its number
+abbrev pub put_block : Space → Block → Space
+put_block space block = region space.base space.top (by_number space.live block)
 
 -- all but the block of that number
 abbrev pub without_block : Space → ℕ → Space

@@ -2,7 +2,7 @@
 
 ghost use Rattle.std.specs.Prelude.{◌≡◌, ◌+◌, ◌*◌, ◌<◌, ◌^◌};
 ghost use Rattle.std.specs.List.{All};
-ghost use Rattle.live_blocks.specs.Run.{AreBegun, IsRising, gap_at, run_end};
+ghost use Rattle.live_blocks.specs.Run.{AreBegun, AreEarlier, AreNumbered, IsRising, gap_at, run_end};
 ghost use Rattle.live_blocks.specs.Space.{end_of};
 
 use crate::block::Block;
@@ -20,6 +20,14 @@ pub(crate) fn begun_below(blocks: &[Block], base: u32) -> usize
     ensures { AreBegun blocks.now base result }
 {
     blocks.partition_point(|block| block.base < base)
+}
+
+/// How many of the blocks have a number below `number`.
+pub(crate) fn numbered_below(blocks: &[Block], number: u32) -> usize
+    requires { AreNumbered blocks.now }
+    ensures { AreEarlier blocks.now number result }
+{
+    blocks.partition_point(|block| block.number < number)
 }
 
 /// Where a walk over the blocks from `from` on stops that looks for `words` words.

@@ -3,17 +3,21 @@ use Rattle.std.proofs.Common.{◌≡◌, ℕ, ◌≤◌, Bool, true, false, ◌|
 use Rattle.std.proofs.lemmas.Bool.Decides.{nat_tests}
 use Rattle.image_format.specs.Picture.{Picture}
 use Rattle.sealing_policy.specs.Sealing.{sealing, sealing_knows}
+use Rattle.policy_trait.specs.declared.services.Args.{Args}
 use Rattle.compartment_policy.specs.Compartments.{CompartmentState, compartment_knows, compartments}
+use Rattle.compartment_policy.specs.declared.tag.CompartmentTag.{CompartmentTag}
 use Rattle.flow_policy.specs.Flow.{flow}
+use Rattle.flow_policy.specs.declared.tag.FlowTag.{FlowTag}
 use Rattle.heap_policy.specs.Heap.{HeapState, heap, heap_knows}
-use Rattle.policy_product.specs.Both.{IsApart, both}
+use Rattle.heap_policy.specs.declared.tag.HeapTag.{HeapTag}
+use Rattle.policy_product.specs.Both.{IsApart, both, lent_to_left}
 use Rattle.policy_product.specs.Maybe.{knows_in, lend_in, maybe, room_in}
 use Rattle.policy_product.specs.declared.maybe.Maybe.{Maybe}
 use Rattle.policy_choice.specs.All.{all, choice_state, compartments_of, flat_all, heap_of, pair_of}
 use Rattle.policy_choice.specs.declared.basis.Basis.{Basis}
 use Rattle.policy_choice.specs.Flat.{parts_of}
 use Rattle.policy_choice.specs.Told.{IsToldAs}
-use Rattle.policy_choice.proofs.FlatLemmas.{told_flat}
+use Rattle.policy_choice.proofs.FlatLemmas.{left_lent, lends_both, told_flat}
 
 -- ---- who offers which service
 
@@ -78,6 +82,13 @@ flow_lends (Some edges) tag = refl
 heap_lends : (part : Option HeapState) (tag : _) → lend_in heap part tag ≡ Ok tt
 heap_lends None tag = refl
 heap_lends (Some state) tag = refl
+
+-- the others lend each argument to a service of compartments
+pub lent_to_compartments : (s : Maybe CompartmentState × Others) (k : ℕ) (a : Args (Option CompartmentTag × (Option FlowTag × Option HeapTag))) (pc : Option CompartmentTag)
+    → lent_to_left (maybe compartments) (both (maybe flow) (maybe heap)) s k a pc ≡ Ok tt
+lent_to_compartments s k a pc =
+    left_lent (maybe compartments) (both (maybe flow) (maybe heap)) s
+    (lends_both (maybe flow) (maybe heap) s.1.0 s.1.1 (flow_lends s.1.0.part) (heap_lends s.1.1.part)) k a pc
 
 pub all_told_flat : IsToldAs parts_of parts_of all flat_all
 all_told_flat =

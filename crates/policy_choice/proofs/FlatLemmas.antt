@@ -14,7 +14,7 @@ use Rattle.policy_trait.specs.declared.services.Plan.{Plan}
 use Rattle.policy_trait.specs.declared.services.PlanEnd.{PlanEnd}
 use Rattle.policy_trait.specs.declared.services.Rest.{Rest}
 use Rattle.policy_trait.specs.declared.services.Rest.TheVariants.{AsA0, Plain}
-use Rattle.policy_product.specs.Both.{IsApart, beside_left, beside_right, both, both_outs, joint_text, left, lending_of, lent_if, rest_tag, right, tag_beside}
+use Rattle.policy_product.specs.Both.{IsApart, beside_left, beside_right, both, both_outs, first_declined, joint_text, left, lending_of, lent_if, lent_to_left, rest_tag, right, tag_beside, tags_alone}
 use Rattle.policy_parts.proofs.MapLemmas.{plan_twice}
 use Rattle.policy_choice.specs.Flat.{Four, answer_among, flat, parts_of, plan_among}
 use Rattle.policy_choice.specs.Told.{IsToldAs}
@@ -72,7 +72,7 @@ four_rules (Ok x) (Ok y) (Ok z) (Ok w) = refl
 
 -- ---- lending
 
-abbrev Lends : {T : Type 0} → (T → Result (Unit {0}) Part) → Type 0
+abbrev pub Lends : {T : Type 0} → (T → Result (Unit {0}) Part) → Type 0
 Lends {T} lend = (t : T) → lend t ≡ Ok tt
 
 abbrev lends_all : {T : Type 0} → T → Result (Unit {0}) Part
@@ -94,7 +94,13 @@ lent_always : {T : Type 0} (lend : T → Result (Unit {0}) Part) → Lends lend 
 lent_always lend lends uses a =
     ap (λ (l : _ → Result (Unit {0}) Part). lending_of l uses a) (λ j t. lends t j) ∙ lent_each (nat_le 1 uses) (nat_le 2 uses) (nat_le 3 uses) a.t0 a.t1 a.t2
 
-lends_both : {T U S R : Type 0} (m : PolicyModel T S) (n : PolicyModel U R) (s : S) (r : R) → Lends (m.lend s) → Lends (n.lend r) → Lends ((both m n).lend (s, r))
+-- so where the right part lends every tag, it lends the arguments of each service of the left part
+pub left_lent : {T U S R : Type 0} (m : PolicyModel T S) (n : PolicyModel U R) (s : S × R) → Lends (n.lend s.1) → (k : ℕ) (a : Args (T × U)) (pc : T)
+    → lent_to_left m n s k a pc ≡ Ok tt
+left_lent m n s lends k a pc =
+    ap (λ l. first_declined l (m.plan s.0 k (tags_alone (args_by left a)) pc)) (lent_always (n.lend s.1) lends (m.uses s.0 k) (args_by right a))
+
+pub lends_both : {T U S R : Type 0} (m : PolicyModel T S) (n : PolicyModel U R) (s : S) (r : R) → Lends (m.lend s) → Lends (n.lend r) → Lends ((both m n).lend (s, r))
 lends_both m n s r first second t = ap (λ x. x >>= λ y. n.lend r t.1) (first t.0) ∙ second t.1
 
 -- ---- plans
@@ -259,21 +265,21 @@ module _ {T U V W S R Q P : Type 0} (m0 : PolicyModel T S) (m1 : PolicyModel U R
     module _ (arguments : Args (T × (U × (V × W)))) (pc : T × (U × (V × W))) where
       abbrev plan_2 : Bool → Result (Plan (V × W)) PlanEnd
       plan_2 c = if c
-          then (lending_of (m3.lend s.1.1.1) (m2.uses s.1.1.0 k) (args_by right (args_by right (args_by right arguments))) >>= λ all.
+          then (lent_to_left m2 m3 s.1.1 k (args_by right (args_by right arguments)) pc.1.1.0 >>= λ all.
           ok_by (beside_right pc.1.1.1 (m3.plain s.1.1.1) arguments.t0.1.1.1) (m2.plan s.1.1.0 k (args_by left (args_by right (args_by right arguments))) pc.1.1.0))
           else (lending_of (m2.lend s.1.1.0) (m3.uses s.1.1.1 k) (args_by left (args_by right (args_by right arguments))) >>= λ all.
           ok_by (beside_left pc.1.1.0 (m2.plain s.1.1.0) arguments.t0.1.1.0) (m3.plan s.1.1.1 k (args_by right (args_by right (args_by right arguments))) pc.1.1.1))
 
       abbrev plan_1 : Bool → Bool → Result (Plan (U × (V × W))) PlanEnd
       plan_1 b c = if b
-          then (lending_of (inner.lend s.1.1) (m1.uses s.1.0 k) (args_by right (args_by right arguments)) >>= λ all.
+          then (lent_to_left m1 inner s.1 k (args_by right arguments) pc.1.0 >>= λ all.
           ok_by (beside_right pc.1.1 (inner.plain s.1.1) arguments.t0.1.1) (m1.plan s.1.0 k (args_by left (args_by right arguments)) pc.1.0))
           else (lending_of (m1.lend s.1.0) (uses_2 c) (args_by left (args_by right arguments)) >>= λ all.
           ok_by (beside_left pc.1.0 (m1.plain s.1.0) arguments.t0.1.0) (plan_2 c))
 
       abbrev plan_0 : Bool → Bool → Bool → Result (Plan (T × (U × (V × W)))) PlanEnd
       plan_0 a b c = if a
-          then (lending_of (middle.lend s.1) (m0.uses s.0 k) (args_by right arguments) >>= λ all.
+          then (lent_to_left m0 middle s k arguments pc.0 >>= λ all.
           ok_by (beside_right pc.1 (middle.plain s.1) arguments.t0.1) (m0.plan s.0 k (args_by left arguments) pc.0))
           else (lending_of (m0.lend s.0) (uses_1 b c) (args_by left arguments) >>= λ all.
           ok_by (beside_left pc.0 (m0.plain s.0) arguments.t0.0) (plan_1 b c))
@@ -317,8 +323,8 @@ module _ {T U V W S R Q P : Type 0} (m0 : PolicyModel T S) (m1 : PolicyModel U R
             let r = m0.plan s.0 k (args_by left arguments) pc.0 in
             let uses = m0.uses s.0 k in
             let put = among pc plain arguments.t0 (λ t all. record all { seal = t }) in
-            last (lending_of (middle.lend s.1) uses (args_by right arguments)) (plan_by parts_of) (of_seal pc plain arguments.t0) r (λ x. x) put r (ok_itself r) (seal_plan pc plain arguments.t0)
-            ∙ (ap (λ l. l >>= λ all. ok_by put r) (lent_always (middle.lend s.1) lends_middle uses (args_by right arguments))
+            last (lent_to_left m0 middle s k arguments pc.0) (plan_by parts_of) (of_seal pc plain arguments.t0) r (λ x. x) put r (ok_itself r) (seal_plan pc plain arguments.t0)
+            ∙ (ap (λ l. l >>= λ all. ok_by put r) (left_lent m0 middle s lends_middle k arguments pc.0)
             ∙ sym (passed (Ok tt) _ _ _ (ok_by put r) (lent_1 uses) (lent_2 uses) (lent_3 uses)))
 
         of_comp_same : IsSamePlan false true false false
@@ -329,7 +335,7 @@ module _ {T U V W S R Q P : Type 0} (m0 : PolicyModel T S) (m1 : PolicyModel U R
             let put = among pc plain arguments.t0 (λ t all. record all { comp = t }) in
             let beside = beside_right pc.1.1 plain.1.1 arguments.t0.1.1 in
             last (lending_of (m0.lend s.0) uses (args_by left arguments)) (plan_by parts_of) (beside_left pc.0 plain.0 arguments.t0.0) _ beside put r
-            (ap (λ l. l >>= λ all. ok_by beside r) (lent_always (inner.lend s.1.1) lends_inner uses (args_by right (args_by right arguments)))) (comp_plan pc plain arguments.t0)
+            (ap (λ l. l >>= λ all. ok_by beside r) (left_lent m1 inner s.1 lends_inner k (args_by right arguments) pc.1.0)) (comp_plan pc plain arguments.t0)
             ∙ sym (passed _ (Ok tt) _ _ (ok_by put r) refl (lent_2 uses) (lent_3 uses))
 
         of_flow_same : IsSamePlan false false true false
@@ -341,7 +347,7 @@ module _ {T U V W S R Q P : Type 0} (m0 : PolicyModel T S) (m1 : PolicyModel U R
             let before = beside_left pc.1.0 plain.1.0 arguments.t0.1.0 in
             let beside = beside_right pc.1.1.1 plain.1.1.1 arguments.t0.1.1.1 in
             last (lending_of (m0.lend s.0) uses (args_by left arguments)) (plan_by parts_of) (beside_left pc.0 plain.0 arguments.t0.0) _ (λ x. before (beside x)) put r
-            (behind _ before _ beside r (lent_1 uses) (ap (λ l. l >>= λ all. ok_by beside r) (lent_3 uses))) (flow_plan pc plain arguments.t0)
+            (behind _ before _ beside r (lent_1 uses) (ap (λ l. l >>= λ all. ok_by beside r) (left_lent m2 m3 s.1.1 lends_3 k (args_by right (args_by right arguments)) pc.1.1.0))) (flow_plan pc plain arguments.t0)
             ∙ sym (passed _ _ (Ok tt) _ (ok_by put r) (lent_1 uses) refl (lent_3 uses))
 
         of_heap_same : IsSamePlan false false false true
@@ -436,34 +442,37 @@ module _ {T U V W S R Q P : Type 0} (m0 : PolicyModel T S) (m1 : PolicyModel U R
     abbrev FlatState : Type 0
     FlatState = Four S R Q P
 
-    abbrev commit_0 : Bool → Bool → Bool → S × (R × (Q × P))
-    commit_0 a b c =
-        if a then (m0.commit s.0 (plan_by left p), s.1) else (
-          s.0,
-          if b then (m1.commit s.1.0 (plan_by left (plan_by right p)), s.1.1) else (
-            s.1.0,
-            if c then (m2.commit s.1.1.0 (plan_by left (plan_by right (plan_by right p))), s.1.1.1) else (s.1.1.0, m3.commit s.1.1.1 (plan_by right (plan_by right (plan_by right p)))),
-          ),
-        )
+    -- the owner alone changes what is its own, at a commit as where one is taken back
+    module _ (change_0 : S → Plan T → S) (change_1 : R → Plan U → R) (change_2 : Q → Plan V → Q) (change_3 : P → Plan W → P) where
+      abbrev changed_0 : Bool → Bool → Bool → S × (R × (Q × P))
+      changed_0 a b c =
+          if a then (change_0 s.0 (plan_by left p), s.1) else (
+            s.0,
+            if b then (change_1 s.1.0 (plan_by left (plan_by right p)), s.1.1) else (
+              s.1.0,
+              if c then (change_2 s.1.1.0 (plan_by left (plan_by right (plan_by right p))), s.1.1.1)
+                  else (s.1.1.0, change_3 s.1.1.1 (plan_by right (plan_by right (plan_by right p)))),
+            ),
+          )
 
-    abbrev flat_commit_at : Bool → Bool → Bool → Bool → FlatState
-    flat_commit_at a b c d = record {
-      seal = if a then m0.commit s.0 (plan_by (λ t. t.seal) of_parts) else s.0;
-      comp = if b then m1.commit s.1.0 (plan_by (λ t. t.comp) of_parts) else s.1.0;
-      flow = if c then m2.commit s.1.1.0 (plan_by (λ t. t.flow) of_parts) else s.1.1.0;
-      heap = if d then m3.commit s.1.1.1 (plan_by (λ t. t.heap) of_parts) else s.1.1.1;
-    }
+      abbrev flat_changed_at : Bool → Bool → Bool → Bool → FlatState
+      flat_changed_at a b c d = record {
+        seal = if a then change_0 s.0 (plan_by (λ t. t.seal) of_parts) else s.0;
+        comp = if b then change_1 s.1.0 (plan_by (λ t. t.comp) of_parts) else s.1.0;
+        flow = if c then change_2 s.1.1.0 (plan_by (λ t. t.flow) of_parts) else s.1.1.0;
+        heap = if d then change_3 s.1.1.1 (plan_by (λ t. t.heap) of_parts) else s.1.1.1;
+      }
 
-    abbrev IsSameCommit : Bool → Bool → Bool → Bool → Type 0
-    IsSameCommit a b c d = parts_of (commit_0 a b c) ≡ flat_commit_at a b c d
+      abbrev IsSameChange : Bool → Bool → Bool → Bool → Type 0
+      IsSameChange a b c d = parts_of (changed_0 a b c) ≡ flat_changed_at a b c d
 
-    same_commit : (a b c d : Bool) → IsOneOf a b c d → IsSameCommit a b c d
-    same_commit a b c d one = by_owner IsSameCommit
-        (ap (λ q. record (parts_of s) { seal = m0.commit s.0 q }) (sym (seal_told p)))
-        (ap (λ q. record (parts_of s) { comp = m1.commit s.1.0 q }) (sym (comp_told p ∙ comp_nested p)))
-        (ap (λ q. record (parts_of s) { flow = m2.commit s.1.1.0 q }) (sym (flow_told p ∙ flow_nested p)))
-        (ap (λ q. record (parts_of s) { heap = m3.commit s.1.1.1 q }) (sym (heap_told p ∙ heap_nested p)))
-        a b c d one
+      same_change : (a b c d : Bool) → IsOneOf a b c d → IsSameChange a b c d
+      same_change a b c d one = by_owner IsSameChange
+          (ap (λ q. record (parts_of s) { seal = change_0 s.0 q }) (sym (seal_told p)))
+          (ap (λ q. record (parts_of s) { comp = change_1 s.1.0 q }) (sym (comp_told p ∙ comp_nested p)))
+          (ap (λ q. record (parts_of s) { flow = change_2 s.1.1.0 q }) (sym (flow_told p ∙ flow_nested p)))
+          (ap (λ q. record (parts_of s) { heap = change_3 s.1.1.1 q }) (sym (heap_told p ∙ heap_nested p)))
+          a b c d one
 
   -- ---- all of it
 
@@ -492,7 +501,8 @@ module _ {T U V W S R Q P : Type 0} (m0 : PolicyModel T S) (m1 : PolicyModel U R
       plan = λ s k a pc known. same_plan s k a pc (lends_1 s.1.0) (lends_2 s.1.1.0) (lends_3 s.1.1.1) _ _ _ _ (owned s k known);
       retag = λ s p old known. same_retag s p old _ _ _ _ (owned s p.service known);
       wipe = λ s pc old. four_in_a_row _ _ _ _;
-      commit = λ s p known. same_commit s p p.pc _ _ _ _ (owned s p.service known);
+      commit = λ s p known. same_change s p p.pc m0.commit m1.commit m2.commit m3.commit _ _ _ _ (owned s p.service known);
+      uncommit = λ s p known. same_change s p p.pc m0.uncommit m1.uncommit m2.uncommit m3.uncommit _ _ _ _ (owned s p.service known);
       start_pc = λ s b. refl;
       start_word = λ s b. refl;
       text = λ s t. ap (λ text. joint_text (m0.text s.0 t.0) (joint_text (m1.text s.1.0 t.1.0) (joint_text (m2.text s.1.1.0 t.1.1.0) text))) (sym (joined_nothing (m3.text s.1.1.1 t.1.1.1)));

@@ -1,5 +1,5 @@
--- All policies together, each of the four asked by itself: what its `retag` and `commit` require, and what the answers are
--- together.
+-- All policies together, each of the four asked by itself: what its `retag`, `commit` and `uncommit` require, and what the
+-- answers are together.
 use Rattle.std.proofs.Common.{◌≡◌, ℕ, Bool, true, false, ◌||◌, List, Option, Some, None, Result, Ok, Err, option_map, refl, sym, ap, ◌∙◌, subst}
 use Rattle.sealing_policy.specs.Sealing.{sealing}
 use Rattle.sealing_policy.specs.declared.tag.SealTag.{SealTag}
@@ -10,7 +10,7 @@ use Rattle.flow_policy.specs.declared.tag.FlowTag.{FlowTag}
 use Rattle.heap_policy.specs.Heap.{HeapState, heap}
 use Rattle.heap_policy.specs.declared.tag.HeapTag.{HeapTag}
 use Rattle.policy_trait.specs.Maps.{answer_by, args_by, ok_by, plan_by}
-use Rattle.policy_trait.specs.Model.{IsGiven}
+use Rattle.policy_trait.specs.Model.{IsCommitted, IsGiven}
 use Rattle.policy_trait.specs.declared.rules.Refused.{Refused}
 use Rattle.policy_trait.specs.declared.services.Answer.{Answer}
 use Rattle.policy_trait.specs.declared.services.Args.{Args}
@@ -18,12 +18,12 @@ use Rattle.policy_trait.specs.declared.services.Plan.{Plan}
 use Rattle.policy_trait.specs.declared.services.PlanEnd.{PlanEnd}
 use Rattle.shared_terms.specs.Steps.{◌>>=◌}
 use Rattle.policy_product.specs.Both.{both, right}
-use Rattle.policy_product.specs.BothLaws.{left_part, right_part}
+use Rattle.policy_product.specs.BothLaws.{left_committed, left_part, right_committed, right_part}
 use Rattle.policy_product.specs.Maybe.{maybe}
 use Rattle.policy_product.specs.declared.maybe.Maybe.{Maybe}
 use Rattle.policy_parts.specs.Part.{word_tag}
 use Rattle.policy_choice.specs.All.{AllState, AllTag, TagParts, all, all_lent, all_owner_plan}
-use Rattle.policy_choice.specs.AllLaws.{CompHolds, FlowHolds, HeapHolds, LastHold, RestHold, SealHolds, comp_keeps, flow_keeps, heap_keeps, last_keep, rest_keep, seal_keeps}
+use Rattle.policy_choice.specs.AllLaws.{AllHold, CompHolds, FlowHolds, HeapHolds, LastHold, RestHold, SealHolds, comp_keeps, flow_keeps, heap_keeps, last_keep, rest_keep, seal_keeps}
 use Rattle.policy_choice.specs.Flat.{flat_lent, lent_to_others, parts_of}
 use Rattle.policy_choice.proofs.AllLemmas.{all_told_flat, comp_apart, flow_offers_none, seal_apart}
 use Rattle.policy_choice.proofs.FlatLemmas.{comp_nested, comp_told, flow_told, heap_nested, heap_told, in_a_row, seal_told}
@@ -90,6 +90,46 @@ module _ (s : AllState) (s0 : Maybe ℕ) (s1 : Maybe CompartmentState) (s2 : May
   pub heap_owns : (maybe sealing).knows s0 p.service ≡ false → (maybe compartments).knows s1 p.service ≡ false → (maybe flow).knows s2 p.service ≡ false → (maybe heap).knows s3 p.service ≡ true
   heap_owns not nor none =
       last_knows _ _ _ _ (subst (λ (t : AllState). all.knows t p.service ≡ true) (sym is) given.can.known) not nor none
+
+-- ---- commits taken back
+
+module _ (s : AllState) (s0 : Maybe ℕ) (s1 : Maybe CompartmentState) (s2 : Maybe (List (ℕ × ℕ))) (s3 : Maybe HeapState) (is : (s0, (s1, (s2, s3))) ≡ s)
+    (p : Plan AllTag) (committed : IsCommitted all AllHold s p) where
+  rest_committed : (maybe sealing).knows s0 p.service ≡ false
+      → IsCommitted (both (maybe compartments) (both (maybe flow) (maybe heap))) RestHold (s1, (s2, s3)) (plan_by right p)
+  rest_committed not =
+      right_committed (maybe sealing) (both (maybe compartments) (both (maybe flow) (maybe heap))) SealHolds RestHold
+      seal_keeps rest_keep s s0 (s1, (s2, s3)) is p (plan_by right p) committed not refl
+
+  last_committed : (maybe sealing).knows s0 p.service ≡ false → (maybe compartments).knows s1 p.service ≡ false
+      → IsCommitted (both (maybe flow) (maybe heap)) LastHold (s2, s3) (plan_by right (plan_by right p))
+  last_committed not nor =
+      right_committed (maybe compartments) (both (maybe flow) (maybe heap)) CompHolds LastHold
+      comp_keeps last_keep (s1, (s2, s3)) s1 (s2, s3) refl (plan_by right p) (plan_by right (plan_by right p)) (rest_committed not) nor refl
+
+  -- the plan of the owner, by its components, where no earlier one owns the service
+
+  pub seal_committed : (q : Plan (Option SealTag)) → q ≡ plan_by (λ (t : AllTag). t.0) p → (maybe sealing).knows s0 p.service ≡ true
+      → IsCommitted (maybe sealing) SealHolds s0 q
+  seal_committed q q_is owns =
+      left_committed (maybe sealing) (both (maybe compartments) (both (maybe flow) (maybe heap))) SealHolds RestHold
+      seal_keeps rest_keep s s0 (s1, (s2, s3)) is p q committed owns q_is
+
+  pub comp_committed : (q : Plan (Option CompartmentTag)) → q ≡ plan_by (λ (t : AllTag). t.1.0) p → (maybe sealing).knows s0 p.service ≡ false
+      → (maybe compartments).knows s1 p.service ≡ true → IsCommitted (maybe compartments) CompHolds s1 q
+  comp_committed q q_is not owns =
+      left_committed (maybe compartments) (both (maybe flow) (maybe heap)) CompHolds LastHold
+      comp_keeps last_keep (s1, (s2, s3)) s1 (s2, s3) refl (plan_by right p) q (rest_committed not) owns (q_is ∙ comp_nested p)
+
+  -- control flow owns none
+  pub flow_committed : (q : Plan (Option FlowTag)) → (maybe flow).knows s2 p.service ≡ true → IsCommitted (maybe flow) FlowHolds s2 q
+  flow_committed q owns = let none = flow_offers_none s2.part p.service in absurd (cc (none, owns))
+
+  pub heap_committed : (q : Plan (Option HeapTag)) → q ≡ plan_by (λ (t : AllTag). t.1.1.1) p → (maybe sealing).knows s0 p.service ≡ false
+      → (maybe compartments).knows s1 p.service ≡ false → (maybe flow).knows s2 p.service ≡ false → IsCommitted (maybe heap) HeapHolds s3 q
+  heap_committed q q_is not nor none =
+      right_committed (maybe flow) (maybe heap) FlowHolds HeapHolds
+      flow_keeps heap_keeps (s2, s3) s2 s3 refl (plan_by right (plan_by right p)) q (last_committed not nor) none (q_is ∙ heap_nested p)
 
 -- ---- what is told flat is told
 

@@ -13,7 +13,7 @@ use Rattle.policy_trait.specs.declared.services.Args.{Args}
 use Rattle.policy_trait.specs.declared.services.Plan.{Plan}
 use Rattle.policy_trait.specs.declared.services.PlanEnd.{PlanEnd}
 use Rattle.policy_product.specs.Both.{both_ignore, joint_text, lending_of, or_else, rest_tag}
-use Rattle.policy_parts.specs.Part.{value_after, word_tag}
+use Rattle.policy_parts.specs.Part.{value_after, value_before, word_tag}
 
 -- one for each policy, in the order in which they are asked
 pub record Four (A B C D : Type 0) : Type 0 where
@@ -115,6 +115,12 @@ module _ {T U V W S R Q P : Type 0} (seal : PolicyModel T S) (comp : PolicyModel
       comp = value_after comp s.comp (plan_by (λ t. t.comp) p);
       flow = value_after flow s.flow (plan_by (λ t. t.flow) p);
       heap = value_after heap s.heap (plan_by (λ t. t.heap) p);
+    };
+    uncommit = λ s p. record {
+      seal = value_before seal s.seal (plan_by (λ t. t.seal) p);
+      comp = value_before comp s.comp (plan_by (λ t. t.comp) p);
+      flow = value_before flow s.flow (plan_by (λ t. t.flow) p);
+      heap = value_before heap s.heap (plan_by (λ t. t.heap) p);
     };
     start_pc = λ s b. record { seal = seal.start_pc s.seal b; comp = comp.start_pc s.comp b; flow = flow.start_pc s.flow b; heap = heap.start_pc s.heap b };
     start_word = λ s b. record { seal = seal.start_word s.seal b; comp = comp.start_word s.comp b; flow = flow.start_word s.flow b; heap = heap.start_word s.heap b };

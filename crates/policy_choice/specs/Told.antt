@@ -25,6 +25,7 @@ pub record IsToldAs {T U S R : Type 0} (tag : T → U) (value : S → R) (m : Po
   pub retag : (s : S) (p : Plan T) (old : T) → m.knows s p.service ≡ true → ok_by tag (m.retag s p old) ≡ n.retag (value s) (plan_by tag p) (tag old)
   pub wipe : (s : S) (pc old : T) → ok_by tag (m.wipe s pc old) ≡ n.wipe (value s) (tag pc) (tag old)
   pub commit : (s : S) (p : Plan T) → m.knows s p.service ≡ true → value (m.commit s p) ≡ n.commit (value s) (plan_by tag p)
+  pub uncommit : (s : S) (p : Plan T) → m.knows s p.service ≡ true → value (m.uncommit s p) ≡ n.uncommit (value s) (plan_by tag p)
   pub start_pc : (s : S) (b : Birth) → tag (m.start_pc s b) ≡ n.start_pc (value s) b
   pub start_word : (s : S) (b : Birth) → tag (m.start_word s b) ≡ n.start_word (value s) b
   pub text : (s : S) (t : T) → m.text s t ≡ n.text (value s) (tag t)

@@ -341,6 +341,18 @@ impl Policy for Together<AllTag> {
         }
     }
 
+    fn uncommit(&mut self, plan: &Plan<AllTag>) {
+        if self.seal.knows(plan.service) {
+            self.seal.uncommit(&seal_plan(plan));
+        } else if self.comp.knows(plan.service) {
+            self.comp.uncommit(&comp_plan(plan));
+        } else if self.flow.knows(plan.service) {
+            self.flow.uncommit(&flow_plan(plan));
+        } else {
+            self.heap.uncommit(&heap_plan(plan));
+        }
+    }
+
     fn start_pc(&self, birth: &Birth) -> AllTag {
         AllTag {
             seal: self.seal.start_pc(birth),

@@ -12,7 +12,7 @@ use Rattle.policy_trait.specs.declared.services.Answer.{Answer}
 use Rattle.policy_trait.specs.declared.services.Args.{Args}
 use Rattle.policy_trait.specs.declared.services.Plan.{Plan}
 use Rattle.policy_trait.specs.declared.services.PlanEnd.{PlanEnd}
-use Rattle.policy_product.specs.Both.{IsApart, answer_before, answer_beside, beside_left, beside_right, both, both_outs, left, lending_of, plan_of_left, plan_of_right, rest_tag, retag_of_left, retag_of_right, right, tag_beside}
+use Rattle.policy_product.specs.Both.{IsApart, answer_before, answer_beside, beside_left, beside_right, both, both_outs, left, lending_of, lent_to_left, plan_of_left, plan_of_right, rest_tag, retag_of_left, retag_of_right, right, tag_beside}
 use Rattle.policy_product.specs.BothLaws.{both_laws}
 use Rattle.policy_parts.specs.Part.{IsPart, Planned, value_after, others, own, word_tag}
 use Rattle.policy_parts.specs.Lens.{Lens, left_lens, right_lens}
@@ -125,7 +125,7 @@ module _ {T U S R : Type 0} (m : PolicyModel T S) (n : PolicyModel U R) (holds :
   left_planned true s k a pc p owned number values e =
       own owned number
       (plan_came (λ r q. r ≡ Ok (plan_by left q)) _ (λ q. ap ok (sym (left_again pc.1 (n.plain s.1) a.t0.1 q)))
-      (lending_of (n.lend s.1) (m.uses s.0 k) (args_by right a)) _ p e)
+      (lent_to_left m n s k a pc.0) _ p e)
   left_planned false s k a pc p owned number values e =
       of_others m s.0 left k a pc p number values owned
       (plan_came (λ r. IsBeside left pc.0 (m.plain s.0) a.t0.0) _ (left_beside pc.0 (m.plain s.0) a.t0.0)
@@ -173,7 +173,7 @@ module _ {T U S R : Type 0} (m : PolicyModel T S) (n : PolicyModel U R) (holds :
     right_planned true s k a pc p owned number values e =
         of_others n s.1 right k a pc p number values owned
         (plan_came (λ r. IsBeside right pc.1 (n.plain s.1) a.t0.1) _ (right_beside pc.1 (n.plain s.1) a.t0.1)
-        (lending_of (n.lend s.1) (m.uses s.0 k) (args_by right a)) _ p e)
+        (lent_to_left m n s k a pc.0) _ p e)
     right_planned false s k a pc p owned number values e =
         own owned number
         (plan_came (λ r q. r ≡ Ok (plan_by right q)) _ (λ q. ap ok (sym (right_again pc.0 (m.plain s.0) a.t0.0 q)))

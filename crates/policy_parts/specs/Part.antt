@@ -26,9 +26,13 @@ module _ {U V : Type 0} (m : PolicyModel U V) where
   abbrev pub value_after : V → Plan U → V
   value_after v p = if m.knows v p.service then m.commit v p else v
 
+  -- and only their commits are taken back
+  abbrev pub value_before : V → Plan U → V
+  value_before v p = if m.knows v p.service then m.uncommit v p else v
+
   -- the policy with its words and its value as any service leaves them
   abbrev pub beside_others : PolicyModel U V
-  beside_others = record m { retag = word_tag; commit = value_after }
+  beside_others = record m { retag = word_tag; commit = value_after; uncommit = value_before }
 
 -- an answer of another's service has the plain tag here, or that of a0, whose value it then has too
 pub record IsOthers {U : Type 0} (plain : U) (a : Args U) (answer : Answer U) : Type 0 where

@@ -7,6 +7,7 @@ use Rattle.policy_trait.specs.declared.rules.Mask.{Mask}
 use Rattle.policy_trait.specs.declared.rules.Outs.{Outs}
 use Rattle.policy_trait.specs.declared.rules.Part.{Part}
 use Rattle.policy_trait.specs.declared.rules.Refused.{Refused}
+use Rattle.policy_trait.specs.declared.rules.Why.{Why}
 use Rattle.policy_trait.specs.declared.rules.Why.TheVariants.{Lend}
 use Rattle.policy_trait.specs.declared.services.Answer.{Answer}
 use Rattle.policy_trait.specs.declared.services.Args.{Args}
@@ -38,7 +39,7 @@ both_outs x y = record { pc = (x.pc, y.pc); result = (x.result, y.result) }
 abbrev pub both_ignore : Mask → Mask → Mask
 both_ignore a b = record { pc = a.pc && b.pc; ci = a.ci && b.ci; t1 = a.t1 && b.t1; t2 = a.t2 && b.t2; tm = a.tm && b.tm }
 
--- ---- the services: the part that does not own the service lends its arguments first
+-- ---- the services: the parts that do not own the service lend its arguments first, from left to right
 
 -- one tag, where it is used
 abbrev pub lent_if : {T : Type 0} → (T → Result (Unit {0}) Part) → Bool → T → Result (Unit {0}) PlanEnd
@@ -52,6 +53,26 @@ lent_if lend true tag = or_refused (lend tag)
 -- the arguments that are used, one by one
 abbrev pub lending_of : {T : Type 0} → (T → Result (Unit {0}) Part) → ℕ → Args T → Result (Unit {0}) PlanEnd
 lending_of lend uses a = lent_if lend (nat_le 1 uses) a.t0 >>= λ first. lent_if lend (nat_le 2 uses) a.t1 >>= λ second. lent_if lend (nat_le 3 uses) a.t2
+
+-- the arguments with values of 0, of which the tags alone are left
+abbrev pub tags_alone : {T : Type 0} → Args T → Args T
+tags_alone a = record a { a0 = 0; a1 = 0; a2 = 0 }
+
+-- the reason is that an argument was not lent
+abbrev pub is_lend : Why → Bool
+is_lend Lend = true
+is_lend _ = false
+
+-- the plan ends since an argument was not lent
+abbrev pub is_unlent : PlanEnd → Bool
+is_unlent (plan_end.Refused refused) = is_lend refused.why
+is_unlent _ = false
+
+-- of two that decline, an owner's own part is asked before those beside the owner
+abbrev pub first_declined : {T : Type 0} → Result (Unit {0}) PlanEnd → Result (Plan T) PlanEnd → Result (Unit {0}) PlanEnd
+first_declined (Ok x) own = Ok x
+first_declined (Err beside) (Ok plan) = Err beside
+first_declined (Err beside) (Err own) = Err (if is_unlent own then own else beside)
 
 -- the other component of an answer: plain, or that of a0
 abbrev pub rest_tag : {U : Type 0} → Rest → U → U → U
@@ -90,10 +111,16 @@ or_else None other = other
 or_else (Some x) other = Some x
 
 module _ {T U S R : Type 0} (m : PolicyModel T S) (n : PolicyModel U R) where
+  -- whether the right part lends the arguments of a service that the left part owns. The parts within the left part are asked before it:
+  -- where one of them declines too, that one is told. Who declines is seen by tags alone
+  abbrev pub lent_to_left : S × R → ℕ → Args (T × U) → T → Result (Unit {0}) PlanEnd
+  lent_to_left s number a pc =
+      first_declined (lending_of (n.lend s.1) (m.uses s.0 number) (args_by right a)) (m.plan s.0 number (tags_alone (args_by left a)) pc)
+
   -- the plan of a service that the left part owns, to which the right part lends its arguments
   abbrev pub plan_of_left : S × R → ℕ → Args (T × U) → T × U → Result (Plan (T × U)) PlanEnd
   plan_of_left s number a pc =
-      lending_of (n.lend s.1) (m.uses s.0 number) (args_by right a) >>= λ all.
+      lent_to_left s number a pc.0 >>= λ all.
       ok_by (beside_right pc.1 (n.plain s.1) a.t0.1) (m.plan s.0 number (args_by left a) pc.0)
 
   -- the same for the right part
@@ -128,6 +155,7 @@ module _ {T U S R : Type 0} (m : PolicyModel T S) (n : PolicyModel U R) where
     retag = λ s p old. if m.knows s.0 p.service then retag_of_left s p old else retag_of_right s p old;
     wipe = λ s pc old. m.wipe s.0 pc.0 old.0 >>= λ x. n.wipe s.1 pc.1 old.1 >>= λ y. Ok (x, y);
     commit = λ s p. if m.knows s.0 p.service then (m.commit s.0 (plan_by left p), s.1) else (s.0, n.commit s.1 (plan_by right p));
+    uncommit = λ s p. if m.knows s.0 p.service then (m.uncommit s.0 (plan_by left p), s.1) else (s.0, n.uncommit s.1 (plan_by right p));
     start_pc = λ s birth. (m.start_pc s.0 birth, n.start_pc s.1 birth);
     start_word = λ s birth. (m.start_word s.0 birth, n.start_word s.1 birth);
     text = λ s tag. joint_text (m.text s.0 tag.0) (n.text s.1 tag.1);

@@ -8,7 +8,7 @@ use Rattle.rv_decode.specs.declared.groups.Group.{Group}
 use Rattle.policy_trait.specs.PolicyLaws.{AgreesOnUsed, AreWords, HasWord, IsRange, KeepsLaws, KeepsValue, SameRules}
 use Rattle.policy_trait.specs.UseLaws.{agrees_by, rule_by_key, uses_a0, words_by}
 use Rattle.policy_trait.specs.Maps.{answer_by, args_by, ins_by, ok_by, plan_by}
-use Rattle.policy_trait.specs.Model.{CanPlan, IsGiven, PolicyModel, masked_inputs}
+use Rattle.policy_trait.specs.Model.{CanPlan, IsCommitted, IsGiven, PolicyModel, masked_inputs}
 use Rattle.shared_terms.specs.Steps.{◌>>=◌}
 use Rattle.policy_trait.specs.declared.rules.Ins.{Ins}
 use Rattle.policy_trait.specs.declared.rules.Outs.{Outs}
@@ -22,7 +22,7 @@ use Rattle.policy_trait.specs.declared.services.PlanEnd.{PlanEnd}
 use Rattle.policy_trait.specs.declared.services.Rest.{Rest}
 use Rattle.policy_trait.specs.declared.services.Rest.TheVariants.{AsA0, Plain}
 use Rattle.policy_trait.specs.declared.services.Words.{Words}
-use Rattle.policy_product.specs.Both.{BothHold, answer_before, answer_beside, beside_left, beside_right, both, both_ignore, both_outs, joint_text, left, lending_of, lent_if, plan_of_left, plan_of_right, rest_tag, retag_of_left, retag_of_right, right, tag_beside}
+use Rattle.policy_product.specs.Both.{BothHold, answer_before, answer_beside, beside_left, beside_right, both, both_ignore, both_outs, first_declined, joint_text, left, lending_of, lent_if, lent_to_left, plan_of_left, plan_of_right, rest_tag, retag_of_left, retag_of_right, right, tag_beside, tags_alone}
 
 -- ---- a plan of one part
 
@@ -89,6 +89,18 @@ lending_as lend uses a b same =
     let third = lent_as lend (nat_le 3 uses) a.t2 b.t2 (λ used. same.t2 (leb-true 3 uses used)) in
     λ j. first j >>= λ x. second j >>= λ y. third j
 
+-- where the tags alone are left, the used ones agree still
+tags_agree : {T : Type 0} (uses : ℕ) (a b : Args T) → AgreesOnUsed uses a b → AgreesOnUsed uses (tags_alone a) (tags_alone b)
+tags_agree uses a b same = record {
+  a0 = λ used. refl;
+  t0 = same.t0;
+  a1 = λ used. refl;
+  t1 = same.t1;
+  a2 = λ used. refl;
+  t2 = same.t2;
+  ram = same.ram;
+}
+
 -- an answer that leaves the others a0's tags has the same ones where a0 has
 abbrev SameRest : {T U : Type 0} → U → U → Answer T → Type 0
 SameRest t u x = x.rest ≡ AsA0 → t ≡ u
@@ -146,7 +158,7 @@ module _ {T U S R : Type 0} (m : PolicyModel T S) (n : PolicyModel U R) (holds :
   -- whose service it is decides whose plan it is
   of_left : (owns : Bool) (s : S × R) (k : ℕ) (a : Args (T × U)) (pc : T × U) (p : Plan (T × U)) → owns ≡ true
       → (if owns then plan_of_left m n s k a pc else plan_of_right m n s k a pc) ≡ Ok p → FromLeft s k a pc p
-  of_left true s k a pc p owned e = from_plan (lending_of (n.lend s.1) (m.uses s.0 k) (args_by right a)) _ _ p e
+  of_left true s k a pc p owned e = from_plan (lent_to_left m n s k a pc.0) _ _ p e
   of_left false s k a pc p owned e = absurd (cc owned)
 
   of_right : (owns : Bool) (s : S × R) (k : ℕ) (a : Args (T × U)) (pc : T × U) (p : Plan (T × U)) → owns ≡ false
@@ -314,6 +326,62 @@ module _ {T U S R : Type 0} (m : PolicyModel T S) (n : PolicyModel U R) (holds :
   stays true s p owned given held = (laws.stays s.0 (plan_by left p) (left_given s p given owned) held.0, held.1)
   stays false s p owned given held = (held.0, also_laws.stays s.1 (plan_by right p) (right_given s p given owned) held.1)
 
+  -- ---- a commit is taken back
+
+  abbrev uncommitted : Bool → S × R → Plan (T × U) → S × R
+  uncommitted owns s p = if owns then (m.uncommit s.0 (plan_by left p), s.1) else (s.0, n.uncommit s.1 (plan_by right p))
+
+  -- after a commit of its own plan too, the left part owns what it owned
+  still_owns : (s : S × R) (p : Plan (T × U)) → m.knows s.0 p.service ≡ true → IsGiven (both m n) s p → m.knows (m.commit s.0 (plan_by left p)) p.service ≡ true
+  still_owns s p owned given = (laws.keeps s.0 (plan_by left p) (left_given s p given owned)).knows p.service ∙ owned
+
+  undoes : (owns : Bool) (s : S × R) (p : Plan (T × U)) → m.knows s.0 p.service ≡ owns → IsGiven (both m n) s p → BothHold holds also s
+      → uncommitted (m.knows (committed owns s p).0 p.service) (committed owns s p) p ≡ s
+  undoes true s p owned given held =
+      ap (λ owns. uncommitted owns (committed true s p) p) (still_owns s p owned given)
+      ∙ ap (λ (value : S). (value, s.1)) (laws.undoes s.0 (plan_by left p) (left_given s p given owned) held.0)
+  undoes false s p owned given held =
+      ap (λ owns. uncommitted owns (committed false s p) p) owned
+      ∙ ap (λ (value : R). (s.0, value)) (also_laws.undoes s.1 (plan_by right p) (right_given s p given owned) held.1)
+
+  -- a plan that was committed is one of the part that owns its service
+  left_committed_by : (owns : Bool) (b s : S × R) (p : Plan (T × U)) → m.knows b.0 p.service ≡ owns → IsGiven (both m n) b p → BothHold holds also b
+      → s ≡ committed owns b p → m.knows s.0 p.service ≡ true → IsCommitted m holds s.0 (plan_by left p)
+  left_committed_by true b s p owned given held left_is owns = record {
+    before = b.0;
+    held = held.0;
+    given = left_given b p given owned;
+    left = ap left left_is;
+  }
+  left_committed_by false b s p owned given held left_is owns =
+      let other : m.knows s.0 p.service ≡ false = ap (λ (t : S × R). m.knows t.0 p.service) left_is ∙ owned in
+      absurd (cc (other, owns))
+
+  right_committed_by : (owns : Bool) (b s : S × R) (p : Plan (T × U)) → m.knows b.0 p.service ≡ owns → IsGiven (both m n) b p → BothHold holds also b
+      → s ≡ committed owns b p → m.knows s.0 p.service ≡ false → IsCommitted n also s.1 (plan_by right p)
+  right_committed_by false b s p owned given held left_is owns = record {
+    before = b.1;
+    held = held.1;
+    given = right_given b p given owned;
+    left = ap right left_is;
+  }
+  right_committed_by true b s p owned given held left_is owns =
+      let other : m.knows s.0 p.service ≡ true = ap (λ (t : S × R). m.knows t.0 p.service) left_is ∙ still_owns b p owned given in
+      absurd (cc (other, owns))
+
+  -- the same where the two policies are seen apart
+  pub left_committed : (s : S × R) (l : S) (r : R) → (l, r) ≡ s → (p : Plan (T × U)) (q : Plan T) → IsCommitted (both m n) (BothHold holds also) s p
+      → m.knows l p.service ≡ true → q ≡ plan_by left p → IsCommitted m holds l q
+  left_committed s l r view p q committed owned is =
+      subst (IsCommitted m holds l) (sym is)
+      (left_committed_by (m.knows committed.before.0 p.service) committed.before (l, r) p refl committed.given committed.held (view ∙ committed.left) owned)
+
+  pub right_committed : (s : S × R) (l : S) (r : R) → (l, r) ≡ s → (p : Plan (T × U)) (q : Plan U) → IsCommitted (both m n) (BothHold holds also) s p
+      → m.knows l p.service ≡ false → q ≡ plan_by right p → IsCommitted n also r q
+  right_committed s l r view p q committed owned is =
+      subst (IsCommitted n also r) (sym is)
+      (right_committed_by (m.knows committed.before.0 p.service) committed.before (l, r) p refl committed.given committed.held (view ∙ committed.left) owned)
+
   -- ---- what a plan is
 
   -- the plan, by whether the left part owns the service
@@ -405,11 +473,13 @@ module _ {T U S R : Type 0} (m : PolicyModel T S) (n : PolicyModel U R) (holds :
       → AgreesOnUsed (if owns then m.uses s.0 k else n.uses s.1 k) a b → planned owns s k a pc ≡ planned owns s k b pc
   unused true s k a b pc owned known same =
       let lending = lending_as (n.lend s.1) (m.uses s.0 k) (args_by right a) (args_by right b) (agrees_by right (m.uses s.0 k) a b same) in
-      let plan = laws.unused s.0 k (args_by left a) (args_by left b) pc.0 owned (agrees_by left (m.uses s.0 k) a b same) in
+      let agree = agrees_by left (m.uses s.0 k) a b same in
+      let plan = laws.unused s.0 k (args_by left a) (args_by left b) pc.0 owned agree in
+      let declined = laws.unused s.0 k (tags_alone (args_by left a)) (tags_alone (args_by left b)) pc.0 owned (tags_agree (m.uses s.0 k) (args_by left a) (args_by left b) agree) in
       let put_on = beside_right pc.1 (n.plain s.1) b.t0.1 in
       let put = put_as (beside_right pc.1 (n.plain s.1) a.t0.1) put_on (m.plan s.0 k (args_by left a) pc.0) (left_put s k a b pc owned same) in
-      (λ j. lending j >>= λ all. put j)
-      ∙ (λ j. lending_of (n.lend s.1) (m.uses s.0 k) (args_by right b) >>= λ all. ok_by put_on (plan j))
+      (λ j. first_declined (lending j) (declined j) >>= λ all. put j)
+      ∙ (λ j. lent_to_left m n s k b pc.0 >>= λ all. ok_by put_on (plan j))
   unused false s k a b pc owned known same =
       let owns : IsTrue (n.knows s.1 k) = either_known (m.knows s.0 k) (n.knows s.1 k) known owned in
       let lending = lending_as (m.lend s.0) (n.uses s.1 k) (args_by left a) (args_by left b) (agrees_by left (n.uses s.1 k) a b same) in
@@ -445,6 +515,7 @@ module _ {T U S R : Type 0} (m : PolicyModel T S) (n : PolicyModel U R) (holds :
     unpeeked = unpeeked;
     keeps = λ s p given. keeps (m.knows s.0 p.service) s p refl given;
     stays = λ s p given held. stays (m.knows s.0 p.service) s p refl given held;
+    undoes = λ s p given held. undoes (m.knows s.0 p.service) s p refl given held;
     ranges = λ s k a pc p can held e. ranges (m.knows s.0 k) s k a pc p refl can held e;
     few = λ s k known. few (m.knows s.0 k) s k refl known;
     service = λ s k a pc p known e. service (m.knows s.0 k) s k a pc p refl known e;

@@ -92,6 +92,10 @@ module _ {T S : Type 0} (m : PolicyModel T S) where
   commit_in None p = None
   commit_in (Some s) p = Some (m.commit s (plan_by (read_by s) p))
 
+  abbrev pub uncommit_in : Option S → Plan (Option T) → Option S
+  uncommit_in None p = None
+  uncommit_in (Some s) p = Some (m.uncommit s (plan_by (read_by s) p))
+
   abbrev pub start_pc_in : Option S → Birth → Option T
   start_pc_in None b = None
   start_pc_in (Some s) b = Some (m.start_pc s b)
@@ -124,6 +128,7 @@ module _ {T S : Type 0} (m : PolicyModel T S) where
     retag = λ s. retag_in s.part;
     wipe = λ s. wipe_in s.part;
     commit = λ s p. record { part = commit_in s.part p };
+    uncommit = λ s p. record { part = uncommit_in s.part p };
     start_pc = λ s. start_pc_in s.part;
     start_word = λ s. start_word_in s.part;
     text = λ s. text_in s.part;

@@ -5,7 +5,7 @@ use Rattle.std.specs.Option.{ForSome}
 use Rattle.rv_decode.specs.declared.groups.Group.{Group}
 use Rattle.policy_trait.specs.PolicyLaws.{AgreesOnUsed, AreWords, HasWord, IsRange, KeepsLaws, KeepsValue, SameRules}
 use Rattle.policy_trait.specs.UseLaws.{agrees_by, words_by}
-use Rattle.policy_trait.specs.Model.{CanPlan, IsGiven, PolicyModel, masked_inputs}
+use Rattle.policy_trait.specs.Model.{CanPlan, IsCommitted, IsGiven, PolicyModel, masked_inputs}
 use Rattle.policy_trait.specs.declared.rules.Ins.{Ins}
 use Rattle.policy_trait.specs.declared.rules.Mask.{Mask}
 use Rattle.policy_trait.specs.declared.rules.Shape.{Shape}
@@ -15,7 +15,7 @@ use Rattle.policy_trait.specs.declared.services.Plan.{Plan}
 use Rattle.policy_trait.specs.declared.services.PlanEnd.{PlanEnd}
 use Rattle.policy_trait.specs.declared.services.Words.{Words}
 use Rattle.policy_trait.specs.Maps.{answer_by, args_by, ins_by, ok_by, outs_by, plan_by}
-use Rattle.policy_product.specs.Maybe.{HoldsIn, MaybeHolds, commit_in, ignores_in, knows_in, maybe, peek_in, peeks_in, plain_in, plan_in, read_by, retag_in, rule_in, some_tag, tag_or, uses_in}
+use Rattle.policy_product.specs.Maybe.{HoldsIn, MaybeHolds, commit_in, ignores_in, knows_in, maybe, peek_in, peeks_in, plain_in, plan_in, read_by, retag_in, rule_in, some_tag, tag_or, uncommit_in, uses_in}
 use Rattle.policy_product.specs.declared.maybe.Maybe.{Maybe}
 
 -- an answer put on and read again is the answer
@@ -134,6 +134,42 @@ module _ {T S : Type 0} (m : PolicyModel T S) (holds : S → Type 0) (laws : Kee
   stays None p given held = tt
   stays (Some s) p given held = laws.stays s (plan_by (read_by m s) p) (on_given s p given) held
 
+  -- ---- a commit is taken back
+
+  -- the plan is read after it as before it
+  read_before : (s : S) (p : Plan (Option T)) → IsGiven m s (plan_by (read_by m s) p)
+      → plan_by (read_by m (m.commit s (plan_by (read_by m s) p))) p ≡ plan_by (read_by m s) p
+  read_before s p given = ap (λ plain. plan_by (tag_or plain) p) (laws.keeps s (plan_by (read_by m s) p) given).plain
+
+  undoes : (part : Option S) (p : Plan (Option T)) → IsGiven (maybe m) (record { part = part }) p → HoldsIn holds part → uncommit_in m (commit_in m part p) p ≡ part
+  undoes None p given held = refl
+  undoes (Some s) p given held =
+      let on = on_given s p given in
+      let read = plan_by (read_by m s) p in
+      ap (λ q. value_on (m.uncommit (m.commit s read) q)) (read_before s p on) ∙ ap value_on (laws.undoes s read on held)
+    where
+      value_on : S → Option S
+      value_on value = Some value
+
+  committed_by : (before : Option S) (s : S) (p : Plan (Option T)) → HoldsIn holds before → IsGiven (maybe m) (record { part = before }) p
+      → Some s ≡ commit_in m before p → IsCommitted m holds s (plan_by (read_by m s) p)
+  committed_by None s p held given left = absurd cc
+  committed_by (Some before) s p held given left =
+      let on = on_given before p given in
+      let again = sym (read_before before p on) in
+      subst (λ t. IsCommitted m holds t (plan_by (read_by m t) p)) (sym (same_Some s (m.commit before (plan_by (read_by m before) p)) left)) (record {
+        before = before;
+        held = held;
+        given = subst (IsGiven m before) again on;
+        left = ap (m.commit before) again;
+      })
+
+  -- a committed plan of the policy that is on, read, is one that it committed
+  pub on_committed : (state : Maybe S) (s : S) (p : Plan (Option T)) → state.part ≡ Some s → IsCommitted (maybe m) (MaybeHolds holds) state p
+      → IsCommitted m holds s (plan_by (read_by m s) p)
+  on_committed state s p on committed =
+      committed_by committed.before.part s p committed.held committed.given (sym on ∙ ap (λ (t : Maybe S). t.part) committed.left)
+
   off_knows : {P : Type 0} → false ≡ true → P
   off_knows e = cc
 
@@ -217,6 +253,7 @@ module _ {T S : Type 0} (m : PolicyModel T S) (holds : S → Type 0) (laws : Kee
     unpeeked = λ s shape first second none. unpeeked s.part shape first second none;
     keeps = λ s p given. keeps s.part p given;
     stays = λ s p given held. stays s.part p given held;
+    undoes = λ s p given held. ap off_or_on (undoes s.part p given held);
     ranges = λ s k a pc p can held e. ranges s.part k a pc p can held e;
     few = λ s k known. few s.part k known;
     service = λ s k a pc p known e. service s.part k a pc p known e;

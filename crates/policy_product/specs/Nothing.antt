@@ -21,6 +21,7 @@ nothing = record {
   retag = λ s p old. Ok tt;
   wipe = λ s pc old. Ok tt;
   commit = λ s p. s;
+  uncommit = λ s p. s;
   start_pc = λ s birth. tt;
   start_word = λ s birth. tt;
   text = λ s tag. [];

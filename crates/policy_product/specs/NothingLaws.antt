@@ -24,6 +24,7 @@ nothing_laws = record {
     text = λ t. refl;
   };
   stays = λ s p given holds. tt;
+  undoes = λ s p given holds. refl;
   ranges = λ s k a pc p can holds given. absurd (cc given);
   few = λ s k known. let e : 0 ≤ 3 = omega arith in e;
   service = λ s k a pc p known given. absurd (cc given);

@@ -1,9 +1,11 @@
 //! Two policies as one.
 
 ghost use Rattle.std.specs.Prelude.{◌≡◌, ◌+◌, ◌≤◌, ◌++◌, Ok, Err, IsTrue, OnErr, OnOk};
-ghost use Rattle.policy_product.specs.Both.{IsApart, answer_before, answer_beside, beside_left, beside_right, both, both_ignore, left, right, tag_beside};
+ghost use Rattle.policy_trait.specs.Maps.{args_by};
+ghost use Rattle.policy_trait.specs.Model.{CanPlan};
+ghost use Rattle.policy_product.specs.Both.{IsApart, answer_before, answer_beside, beside_left, beside_right, both, both_ignore, left, lent_to_left, right, tag_beside, tags_alone};
 
-use crate::others::{lend_all, rest_of};
+use crate::others::{first_declined, lend_all, rest_of};
 use policy_trait::{
     Answer, Args, Birth, Ins, Mask, Outs, Part, Plan, PlanEnd, Policy, Refused, Shape, TagMap,
 };
@@ -86,6 +88,43 @@ impl<P: Policy, Q: Policy> Both<P, Q> {
         ensures { result.now ≡ self.now.1 }
     {
         &self.right
+    }
+
+    /// Whether the right policy lends the arguments of a service of the left one. The parts within the left one are asked before it:
+    /// where one of them declines too, that one is told. Who declines is seen by tags alone.
+    fn lend_to_left(
+        &self,
+        number: u32,
+        arguments: &Args<(P::Tag, Q::Tag)>,
+        pc: P::Tag,
+    ) -> Result<(), PlanEnd>
+        requires { CanPlan P.model self.now.0 number (args_by left arguments.now) }
+        ensures { result ≡ lent_to_left P.model Q.model self.now number arguments.now pc }
+    {
+        let second = arguments.map(&Right { of: PhantomData });
+        match lend_all(&self.right, self.left.uses(number), &second) {
+            Ok(()) => Ok(()),
+            Err(end) => {
+                let first = arguments.map(&Left { of: PhantomData });
+                let own = self.left.plan(number, &tags_alone(&first), pc);
+                Err(first_declined(end, &own))
+            }
+        }
+    }
+}
+
+/// The arguments with values of 0.
+fn tags_alone<T: Copy>(arguments: &Args<T>) -> Args<T>
+    ensures { result ≡ tags_alone arguments.now }
+{
+    Args {
+        a0: 0,
+        a1: 0,
+        a2: 0,
+        t0: arguments.t0,
+        t1: arguments.t1,
+        t2: arguments.t2,
+        ram: arguments.ram,
     }
 }
 
@@ -224,7 +263,7 @@ impl<P: Policy, Q: Policy> Policy for Both<P, Q> {
         let first = arguments.map(&Left { of: PhantomData });
         let second = arguments.map(&Right { of: PhantomData });
         if self.left.knows(number) {
-            lend_all(&self.right, self.left.uses(number), &second)?;
+            self.lend_to_left(number, arguments, pc.0)?;
             let plan = self.left.plan(number, &first, pc.0)?;
             Ok(with_right(&plan, pc.1, self.right.plain(), second.t0))
         } else {
@@ -268,6 +307,14 @@ impl<P: Policy, Q: Policy> Policy for Both<P, Q> {
             self.left.commit(&plan.map(&Left { of: PhantomData }))
         } else {
             self.right.commit(&plan.map(&Right { of: PhantomData }))
+        }
+    }
+
+    fn uncommit(&mut self, plan: &Plan<(P::Tag, Q::Tag)>) {
+        if self.left.knows(plan.service) {
+            self.left.uncommit(&plan.map(&Left { of: PhantomData }));
+        } else {
+            self.right.uncommit(&plan.map(&Right { of: PhantomData }));
         }
     }
 

@@ -263,6 +263,14 @@ impl<P: Policy> Policy for Maybe<P> {
         }
     }
 
+    fn uncommit(&mut self, plan: &Plan<Option<P::Tag>>) {
+        if let Some(part) = &mut self.part {
+            let reading = reading_of(part);
+            let read = plan.map(&reading);
+            part.uncommit(&read);
+        }
+    }
+
     fn start_pc(&self, birth: &Birth) -> Option<P::Tag> {
         match &self.part {
             None => None,

@@ -89,6 +89,10 @@ impl Policy for Nothing {
         Ok(())
     }
 
+    fn uncommit(&mut self, _plan: &Plan<()>)
+        ensures { self.new ≡ self.old }
+    {}
+
     fn start_pc(&self, _birth: &Birth) {}
 
     fn start_word(&self, _birth: &Birth) {}

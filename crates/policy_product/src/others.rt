@@ -1,9 +1,9 @@
 //! What a policy says to a service that is another's.
 
-ghost use Rattle.std.specs.Prelude.{◌≡◌};
-ghost use Rattle.policy_product.specs.Both.{lending_of, lent_if, rest_tag};
+ghost use Rattle.std.specs.Prelude.{◌≡◌, Err};
+ghost use Rattle.policy_product.specs.Both.{first_declined, is_unlent, lending_of, lent_if, rest_tag};
 
-use policy_trait::{Args, PlanEnd, Policy, Refused, Rest, Why};
+use policy_trait::{Args, Plan, PlanEnd, Policy, Refused, Rest, Why};
 
 /// Whether the tag is lent by the policy, where it is used.
 fn lend_if<P: Policy>(policy: &P, used: bool, tag: P::Tag) -> Result<(), PlanEnd>
@@ -29,6 +29,27 @@ pub fn lend_all<P: Policy>(policy: &P, uses: u8, arguments: &Args<P::Tag>) -> Re
     lend_if(policy, 1 <= uses, arguments.t0)?;
     lend_if(policy, 2 <= uses, arguments.t1)?;
     lend_if(policy, 3 <= uses, arguments.t2)
+}
+
+/// Whether the plan ends since an argument was not lent.
+fn is_unlent(end: &PlanEnd) -> bool
+    ensures { result ≡ is_unlent end.now }
+{
+    match end {
+        PlanEnd::Refused(refused) => matches!(refused.why, Why::Lend),
+        _ => false,
+    }
+}
+
+/// What is told where a policy beside the owner declines to lend: that a part within the owner declines, where its plan ended so,
+/// since that part is asked before.
+pub(crate) fn first_declined<T>(beside: PlanEnd, own: &Result<Plan<T>, PlanEnd>) -> PlanEnd
+    ensures { first_declined (Err beside) own.now ≡ Err result }
+{
+    match own {
+        Err(end) if is_unlent(end) => *end,
+        _ => beside,
+    }
 }
 
 /// The tag that those who do not own a service have for its answer: the plain one, or that of a0.

@@ -29,6 +29,8 @@ pub record PolicyModel (T S : Type 0) : Type 0 where
   pub retag : S → Plan T → T → Result T Refused
   pub wipe : S → T → T → Result T Refused
   pub commit : S → Plan T → S
+  -- takes back the commit of a plan, the last one
+  pub uncommit : S → Plan T → S
   pub start_pc : S → Birth → T
   pub start_word : S → Birth → T
   pub text : S → T → List ℕ
@@ -55,3 +57,11 @@ pub record IsGiven {T S : Type 0} (m : PolicyModel T S) (s : S) (plan : Plan T) 
   pub pc : T
   pub can : CanPlan m s plan.service arguments
   pub given : m.plan s plan.service arguments pc ≡ Ok plan
+
+-- the plan is the last one that was committed: an earlier value, of which the invariant holds, gave it, and its commit left
+-- the present one
+pub record IsCommitted {T S : Type 0} (m : PolicyModel T S) (holds : S → Type 0) (s : S) (plan : Plan T) : Type 0 where
+  pub before : S
+  pub held : holds before
+  pub given : IsGiven m before plan
+  pub left : s ≡ m.commit before plan

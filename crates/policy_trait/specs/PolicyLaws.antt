@@ -68,6 +68,8 @@ pub record KeepsLaws {T S : Type 0} (m : PolicyModel T S) (holds : S → Type 0)
   pub keeps : (s : S) (p : Plan T) → IsGiven m s p → SameRules m s (m.commit s p)
   -- and leaves the policy's invariant
   pub stays : (s : S) (p : Plan T) → IsGiven m s p → holds s → holds (m.commit s p)
+  -- and can be taken back
+  pub undoes : (s : S) (p : Plan T) → IsGiven m s p → holds s → m.uncommit (m.commit s p) p ≡ s
   -- a plan's range is one within memory
   pub ranges : (s : S) (k : ℕ) (a : Args T) (pc : T) (p : Plan T) → CanPlan m s k a → holds s → m.plan s k a pc ≡ Ok p → ForSome p.range (IsRange a.ram)
   -- at most the three arguments are used

@@ -4,7 +4,7 @@ use Rattle.std.proofs.lemmas.Bool.{false≢true}
 use Rattle.std.specs.Option.{ForSome}
 use Rattle.rv_decode.specs.declared.groups.Group.{Group}
 use Rattle.policy_trait.specs.Maps.{args_by}
-use Rattle.policy_trait.specs.Model.{CanPlan, IsGiven, PolicyModel, masked_inputs}
+use Rattle.policy_trait.specs.Model.{CanPlan, IsCommitted, IsGiven, PolicyModel, masked_inputs}
 use Rattle.policy_trait.specs.PolicyLaws.{AgreesOnUsed, AreWords, KeepsLaws}
 use Rattle.policy_trait.specs.Uses.{ChangesNothing, Input, Pc, Instruction, First, Second, Word, is_ignored, with_input}
 use Rattle.policy_trait.specs.declared.rules.Ins.{Ins}
@@ -24,6 +24,19 @@ given_plan m holds laws s k a pc p can given =
       can = subst (λ n. CanPlan m s n a) (sym number) can;
       given = ap (λ n. m.plan s n a pc) number ∙ given;
     }
+
+-- a commit that is taken back leaves the value before it
+pub taken_back : {T S : Type 0} (m : PolicyModel T S) (holds : S → Type 0) (laws : KeepsLaws m holds) (s : S) (p : Plan T)
+    (committed : IsCommitted m holds s p) → m.uncommit s p ≡ committed.before
+taken_back m holds laws s p committed =
+    ap (λ n. m.uncommit n p) committed.left ∙ laws.undoes committed.before p committed.given committed.held
+
+-- so it knows the same services
+pub taken_back_knows : {T S : Type 0} (m : PolicyModel T S) (holds : S → Type 0) (laws : KeepsLaws m holds) (s : S) (p : Plan T)
+    → IsCommitted m holds s p → (k : ℕ) → m.knows (m.uncommit s p) k ≡ m.knows s k
+taken_back_knows m holds laws s p committed k =
+    ap (λ n. m.knows n k) (taken_back m holds laws s p committed)
+    ∙ sym (ap (λ n. m.knows n k) committed.left ∙ (laws.keeps committed.before p committed.given).knows k)
 
 -- inputs with one masked key have one rule
 pub rule_by_key : {T S : Type 0} (m : PolicyModel T S) (holds : S → Type 0) (laws : KeepsLaws m holds) (s : S) (g : Group) (x y : Ins T)

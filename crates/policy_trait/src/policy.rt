@@ -14,7 +14,7 @@ use std::alloc::AllocError;
 /// configuration and its state together; `holds` is the invariant that the policy keeps; no text of `show` is longer
 /// than `longest`.
 pub trait Policy: Drop {
-    ghost use Rattle.policy_trait.specs.Model.{CanPlan, IsGiven, PolicyModel};
+    ghost use Rattle.policy_trait.specs.Model.{CanPlan, IsCommitted, IsGiven, PolicyModel};
     ghost use Rattle.policy_trait.specs.PolicyLaws.{KeepsLaws};
 
     type Tag: Same;
@@ -97,6 +97,11 @@ pub trait Policy: Drop {
         requires { IsGiven model self.old plan.now }
         ensures ok { OnOk result (self.new ≡ model.commit self.old plan.now) }
         ensures err { OnErr result (self.new ≡ self.old) };
+
+    /// Takes back the commit of the plan, the last one: the policy is then as it was before. It takes no memory.
+    fn uncommit(&mut self, plan: &Plan<Self::Tag>)
+        requires { IsCommitted model holds self.old plan.now }
+        ensures { self.new ≡ model.uncommit self.old plan.now };
 
     /// The tag of the pc of a hart whose entry is the word of this birth.
     fn start_pc(&self, birth: &Birth) -> Self::Tag

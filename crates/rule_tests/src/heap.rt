@@ -344,6 +344,41 @@ fn plans_and_the_words_they_retag(rt: HostRuntime) -> Result<(), Fail> {
     Ok(())
 }
 
+/// The live blocks at the first four places.
+fn listing(heap: &Heap) -> [Option<(u32, u32, u32)>; 4] {
+    [
+        heap.listed(0),
+        heap.listed(1),
+        heap.listed(2),
+        heap.listed(3),
+    ]
+}
+
+#[test]
+fn services_taken_back(rt: HostRuntime) -> Result<(), Fail> {
+    let mut heap = heap(rt.alloc());
+    for (base, number) in [(64, 0), (72, 1), (80, 2)] {
+        let block = Some((base, HeapTag::Ptr(number)));
+        assert!(rt; answered(&mut heap, MALLOC, 8, VAL)? == Ok(block));
+    }
+    let live = [Some((0, 64, 2)), Some((1, 72, 2)), Some((2, 80, 2)), None];
+    // a block that was freed comes back among the others, and one that was handed out goes
+    for (service, a0, t0) in [
+        (TAKE_BACK, 72, HeapTag::Ptr(1)),
+        (TAKE_BACK, 64, HeapTag::Ptr(0)),
+        (TAKE_BACK, 80, HeapTag::Ptr(2)),
+        (MALLOC, 8, VAL),
+        (MALLOC, 12, VAL),
+    ] {
+        assert!(rt; is_taken_back(&mut heap, service, a0, t0)?);
+        assert!(rt; listing(&heap) == live, "{service} of {a0}");
+    }
+    // and so does its number
+    let next = Some((88, HeapTag::Ptr(3)));
+    assert!(rt; answered(&mut heap, MALLOC, 8, VAL)? == Ok(next));
+    Ok(())
+}
+
 /// Whether block after block of the whole region gets these numbers, each but the last taken back before the next.
 fn are_numbered(heap: &mut Heap, count: u32) -> Result<bool, Fail> {
     for number in 0..count {
@@ -435,5 +470,29 @@ fn carried_out(
             Ok(Ok((plan, tag)))
         }
         Err(end) => Ok(Err(end)),
+    }
+}
+
+/// Whether there is a plan of a service that finds this value and this tag in a0. The plan is carried out and taken back.
+fn is_taken_back(heap: &mut Heap, service: u32, a0: u32, t0: HeapTag) -> Result<bool, Fail> {
+    if !heap.knows(service) {
+        return Ok(false);
+    }
+    let arguments = Args {
+        a0,
+        a1: 0,
+        a2: 0,
+        t0,
+        t1: VAL,
+        t2: VAL,
+        ram: 4_294_967_295,
+    };
+    match heap.plan(service, &arguments, heap.plain()) {
+        Ok(plan) => {
+            heap.commit(&plan)?;
+            heap.uncommit(&plan);
+            Ok(true)
+        }
+        Err(_) => Ok(false),
     }
 }

@@ -126,6 +126,34 @@ fn next_answer(secrecy: &mut Secrecy) -> Result<Option<u32>, AllocError> {
     }
 }
 
+/// Has service 64 answer, and takes that back.
+fn answer_and_take_back(secrecy: &mut Secrecy) -> Result<(), AllocError> {
+    let arguments = Args {
+        a0: 0,
+        a1: 0,
+        a2: 0,
+        t0: OPEN,
+        t1: OPEN,
+        t2: OPEN,
+        ram: 256,
+    };
+    if let Ok(plan) = secrecy.plan(64, &arguments, secrecy.plain()) {
+        secrecy.commit(&plan)?;
+        secrecy.uncommit(&plan);
+    }
+    Ok(())
+}
+
+#[test]
+fn an_answer_taken_back_comes_again(rt: HostRuntime) -> Result<(), Fail> {
+    let mut secrecy = Secrecy::new(rt.alloc(), &[7, 255])?;
+    for answer in [7, 255, 0xFFFF_FFFF, 0xFFFF_FFFF] {
+        answer_and_take_back(&mut secrecy)?;
+        assert!(rt; next_answer(&mut secrecy)? == Some(answer));
+    }
+    Ok(())
+}
+
 #[test]
 fn bytes_are_answered_in_order(rt: HostRuntime) -> Result<(), Fail> {
     let mut secrecy = Secrecy::new(rt.alloc(), &[7, 255])?;

@@ -1,6 +1,6 @@
 //! Calls on the live blocks of a region, each with what first fit says of it.
 
-ghost use Rattle.std.specs.Prelude.{◌≡◌, ◌+◌, ◌<◌, []};
+ghost use Rattle.std.specs.Prelude.{◌≡◌, ◌+◌, ◌<◌, ◌^◌, []};
 ghost use Rattle.std.specs.List.{All};
 
 use live_blocks::{Block, LiveBlocks};
@@ -17,7 +17,7 @@ pub(crate) enum Step {
 
 /// Whether each step that asks for words gets the base that it states.
 pub(crate) fn go_as_stated(blocks: &mut LiveBlocks, steps: &[Step]) -> Result<bool, AllocError>
-    requires { blocks.old.live ≡ [] }
+    requires { blocks.old.space.live ≡ [] }
 {
     let mut number: u32 = 0;
     for step in steps {
@@ -34,8 +34,9 @@ pub(crate) fn go_as_stated(blocks: &mut LiveBlocks, steps: &[Step]) -> Result<bo
 
 /// Whether a step, which may make a block of this number, gets the base that it states.
 fn goes_as_stated(blocks: &mut LiveBlocks, number: u32, step: Step) -> Result<bool, AllocError>
-    requires { All (λ other. other.number < number) blocks.old.live }
-    ensures { All (λ other. other.number < number + 1) blocks.new.live }
+    requires numbers { All (λ other. other.number < number) blocks.old.space.live }
+    requires small { number + 1 < 2 ^ 32 }
+    ensures { All (λ other. other.number < number + 1) blocks.new.space.live }
 {
     match step {
         Step::Malloc(words, base) => Ok(malloc(blocks, number, words)? == base),
@@ -48,8 +49,9 @@ fn goes_as_stated(blocks: &mut LiveBlocks, number: u32, step: Step) -> Result<bo
 
 /// Makes a block of at least one word live where it fits first, and tells its base.
 fn malloc(blocks: &mut LiveBlocks, number: u32, words: u32) -> Result<Option<u32>, AllocError>
-    requires { All (λ other. other.number < number) blocks.old.live }
-    ensures { All (λ other. other.number < number + 1) blocks.new.live }
+    requires numbers { All (λ other. other.number < number) blocks.old.space.live }
+    requires small { number + 1 < 2 ^ 32 }
+    ensures { All (λ other. other.number < number + 1) blocks.new.space.live }
 {
     let words = words.max(1);
     let Some(base) = blocks.first_fit(words) else {
@@ -60,6 +62,9 @@ fn malloc(blocks: &mut LiveBlocks, number: u32, words: u32) -> Result<Option<u32
         base,
         words,
     };
-    blocks.insert(block)?;
+    // read for the proof alone: who reads the region's end knows that numbers rise, so that there is room
+    blocks.top();
+    blocks.make_room(number + 1)?;
+    blocks.insert(block);
     Ok(Some(base))
 }

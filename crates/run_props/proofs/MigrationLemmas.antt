@@ -18,18 +18,19 @@ use Rattle.policy_trait.specs.declared.services.PlanEnd.{PlanEnd}
 use Rattle.policy_trait.specs.declared.services.PlanEnd.TheVariants as plan_end
 use Rattle.sealing_policy.specs.Sealing.{sealing}
 use Rattle.flow_policy.specs.Flow.{flow}
-use Rattle.compartment_policy.specs.Compartments.{CompartmentState, compartment_knows, compartment_plan, compartment_uses, compartments, is_range, let_plan, refused_plan, split_plan, split_service, splitting, words_of}
+use Rattle.compartment_policy.specs.Compartments.{CompartmentState, compartment_knows, compartment_plan, compartments, is_range, let_plan, refused_plan, split_plan, split_service, splitting, words_of}
 use Rattle.compartment_policy.specs.declared.tag.CompartmentTag.{CompartmentTag}
 use Rattle.compartment_policy.specs.declared.tag.CompartmentTag.TheVariants.{Plain}
 use Rattle.flow_policy.specs.declared.tag.FlowTag.{FlowTag}
 use Rattle.heap_policy.specs.declared.tag.HeapTag.{HeapTag}
 use Rattle.policy_trait.specs.declared.rules.Why.TheVariants as why
 use Rattle.heap_policy.specs.Heap.{HeapState, heap}
-use Rattle.policy_product.specs.Both.{beside_left, beside_right, both, left, lending_of, plan_of_left, plan_of_right, right}
+use Rattle.policy_product.specs.Both.{beside_left, beside_right, both, left, lending_of, lent_to_left, plan_of_left, plan_of_right, right}
 use Rattle.policy_product.specs.Maybe.{maybe, some_tag, tag_or}
 use Rattle.policy_product.specs.declared.maybe.Maybe.{Maybe}
 use Rattle.policy_choice.specs.All.{AllState, AllTag, all, choice_state, compartment_count, part_if}
 use Rattle.policy_choice.specs.declared.basis.Basis.{Basis}
+use Rattle.policy_choice.proofs.AllLemmas.{lent_to_compartments}
 use Rattle.tag_loader.specs.Births.{birth_of}
 use Rattle.tag_loader.specs.Start.{memory_of, start_harts, start_machine, start_ram, start_tags}
 use Rattle.turn_steps.specs.Feeds.{Tape}
@@ -52,6 +53,13 @@ same_after : {A X : Type 0} (number : ℕ) (before : Result X PlanEnd) (first se
     → IsSame number (before >>= λ given. first) (before >>= λ given. second)
 same_after number (Ok x) first second same = same
 same_after number (Err end) first second same = inr refl
+
+-- where both lend
+same_lent : {A : Type 0} (number : ℕ) (before also : Result (Unit {0}) PlanEnd) (first second : Result A PlanEnd) → before ≡ Ok tt → also ≡ Ok tt → IsSame number first second
+    → IsSame number (before >>= λ given. first) (also >>= λ given. second)
+same_lent number (Ok x) (Ok y) first second is also_is same = same
+same_lent number (Ok x) (Err end) first second is also_is same = absurd (let h : Err end ≡ Ok tt = also_is in cc)
+same_lent number (Err end) also first second is also_is same = absurd (let h : Err end ≡ Ok tt = is in cc)
 
 same_if : {A : Type 0} (number : ℕ) (test : Bool) (first second other another : Result A PlanEnd) → IsSame number first second → IsSame number other another
     → IsSame number (if test then first else other) (if test then second else another)
@@ -126,7 +134,9 @@ module _ (limit : ℕ) (seal : Maybe ℕ) (rest : Maybe (List (ℕ × ℕ)) × M
         same_if number (compartment_knows number)
         (plan_of_left (maybe compartments) last (on_by state, rest) number a pc) (plan_of_left (maybe compartments) last (on_by wide, rest) number a pc)
         (plan_of_right (maybe compartments) last (on_by state, rest) number a pc) (plan_of_right (maybe compartments) last (on_by wide, rest) number a pc)
-        (same_after number (lending_of (last.lend rest) (compartment_uses number) (args_by right a)) (ok_by beside own) (ok_by beside wide_own)
+        (same_lent number (lent_to_left (maybe compartments) last (on_by state, rest) number a pc.0) (lent_to_left (maybe compartments) last (on_by wide, rest) number a pc.0)
+        (ok_by beside own) (ok_by beside wide_own)
+        (lent_to_compartments (on_by state, rest) number a pc.0) (lent_to_compartments (on_by wide, rest) number a pc.0)
         (same_by number beside own wide_own
         (same_by number (plan_by some_tag) (compartment_plan state number read at) (compartment_plan wide number read at) (compartments_same state limit fits number read at))))
         (inr refl)

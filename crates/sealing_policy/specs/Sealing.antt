@@ -1,5 +1,5 @@
 -- Dynamic sealing: values sealed by a key, which only that key unseals. The policy's value is how many keys were made.
-use Rattle.std.specs.Prelude.{ℕ, ◌+◌, ◌≤◌, ◌==◌, nat_lt, Bool, true, false, not, ◌&&◌, ◌||◌, List, ◌++◌, codes, Some, None, Result, Ok, Err, if◌then◌else◌}
+use Rattle.std.specs.Prelude.{ℕ, ◌+◌, ◌-◌, ◌≤◌, ◌==◌, nat_lt, Bool, true, false, not, ◌&&◌, ◌||◌, List, ◌++◌, codes, Some, None, Result, Ok, Err, if◌then◌else◌}
 use Rattle.std.specs.Fmt.{decimal}
 use Rattle.rv_decode.specs.declared.groups.Group.{Group}
 use Rattle.rv_decode.specs.declared.groups.Group.TheVariants as group
@@ -180,6 +180,9 @@ sealing_plan keys number a pc =
 abbrev pub sealing_commit : ℕ → Plan SealTag → ℕ
 sealing_commit keys plan = if plan.service == make_key_service then keys + 1 else keys
 
+abbrev pub sealing_uncommit : ℕ → Plan SealTag → ℕ
+sealing_uncommit keys plan = if plan.service == make_key_service then keys - 1 else keys
+
 abbrev pub sealing_text : SealTag → List ℕ
 sealing_text Data = codes "data"
 sealing_text (Key k) = codes "key(" ++ decimal k ++ codes ")"
@@ -200,6 +203,7 @@ sealing = record {
   retag = λ keys plan old. Ok old;
   wipe = λ keys pc old. Ok Data;
   commit = sealing_commit;
+  uncommit = sealing_uncommit;
   start_pc = λ keys birth. Data;
   start_word = λ keys birth. Data;
   text = λ keys tag. sealing_text tag;

@@ -1,5 +1,5 @@
 -- Sealing keeps the laws of a policy.
-use Rattle.std.proofs.Common.{◌≡◌, ℕ, ◌+◌, ◌^◌, ◌<◌, ◌≤◌, ◌==◌, Bool, true, false, Some, None, Result, Ok, Err, IsTrue, nat_lt, if◌then◌else◌, refl, sym, ap, ◌∙◌, subst, arith}
+use Rattle.std.proofs.Common.{◌≡◌, ℕ, ◌+◌, ◌-◌, ◌^◌, ◌<◌, ◌≤◌, ◌==◌, Bool, true, false, Some, None, Result, Ok, Err, IsTrue, nat_lt, if◌then◌else◌, refl, sym, ap, ◌∙◌, subst, arith}
 use Rattle.std.proofs.lemmas.Bool.Decides.{nat_tests}
 use Rattle.std.proofs.lemmas.Option.{none-some, same_Some}
 use Rattle.std.specs.Option.{ForSome}
@@ -161,6 +161,11 @@ uses_by : (sixteen : Bool) → (if sixteen then 0 else 2) ≤ 3
 uses_by true = omega arith
 uses_by false = omega arith
 
+-- a key less is as many as there were
+undone_by : (makes : Bool) (keys : ℕ) → (let after : ℕ = if makes then keys + 1 else keys in if makes then after - 1 else after) ≡ keys
+undone_by true keys = omega arith
+undone_by false keys = refl
+
 pub sealing_laws : KeepsLaws sealing HasFewKeys
 sealing_laws = record {
   masks = λ keys g x. rule_masked g x;
@@ -183,6 +188,7 @@ sealing_laws = record {
   stays = λ keys p given few.
       let plan : IsSealPlan keys p.service given.arguments.a0 p = planned keys p.service given.arguments given.pc p given.can.known given.given in
       stays_by (p.service == make_key_service) keys (λ sixteen. plan.below (grind (arith, nat_tests))) few;
+  undoes = λ keys p given few. undone_by (p.service == make_key_service) keys;
   ranges = λ keys k a pc p can few given x x_is.
       let plan : IsSealPlan keys k a.a0 p = planned keys k a pc p can.known given in
       absurd (none-some x (sym plan.range ∙ x_is));

@@ -145,6 +145,12 @@ impl Policy for Sealing {
         Ok(())
     }
 
+    fn uncommit(&mut self, plan: &Plan<SealTag>) {
+        if plan.service == MAKE_KEY {
+            self.keys -= 1;
+        }
+    }
+
     fn start_pc(&self, _birth: &Birth) -> SealTag {
         SealTag::Data
     }

@@ -1,5 +1,5 @@
 -- Secrecy: what may be told, and what may not. The value is the secret file's bytes, and how many of them were answered.
-use Rattle.std.specs.Prelude.{ℕ, ◌+◌, ◌%◌, ◌^◌, ◌≤◌, ◌==◌, nat_lt, Bool, true, false, not, ◌&&◌, ◌||◌, List, codes, Some, None, Result, Ok, Err, length, slice_index, if◌then◌else◌}
+use Rattle.std.specs.Prelude.{ℕ, ◌+◌, ◌-◌, ◌%◌, ◌^◌, ◌≤◌, ◌==◌, nat_lt, Bool, true, false, not, ◌&&◌, ◌||◌, List, codes, Some, None, Result, Ok, Err, length, slice_index, if◌then◌else◌}
 use Rattle.rv_decode.specs.declared.groups.Group.{Group}
 use Rattle.rv_decode.specs.declared.groups.Group.TheVariants as group
 use Rattle.policy_trait.specs.Model.{PolicyModel}
@@ -150,12 +150,16 @@ no_secret = 4294967295
 abbrev pub next_secret : SecretState → ℕ
 next_secret s = if nat_lt s.next (length s.bytes) then slice_index s.bytes s.next % 2 ^ 8 else no_secret
 
--- the answer is secret, and plain to every other policy
+-- how many bytes are answered: one, or none where none is left
+abbrev pub answered : SecretState → ℕ
+answered s = if nat_lt s.next (length s.bytes) then 1 else 0
+
+-- The answer is secret, and plain to every other policy. How many bytes are answered is noted, so that the commit can be taken back.
 abbrev pub secret_plan : SecretState → ℕ → SecretTag → Plan SecretTag
 secret_plan s number pc = record {
   service = number;
   pc = pc;
-  note = 0;
+  note = answered s;
   range = None;
   zero = false;
   answer = Some (record { value = next_secret s; tag = Secret; rest = rest.Plain });
@@ -164,6 +168,10 @@ secret_plan s number pc = record {
 -- where a byte was left, it was answered
 abbrev pub after_secret : SecretState → SecretState
 after_secret s = if nat_lt s.next (length s.bytes) then record s { next = s.next + 1 } else s
+
+-- as many less as the plan notes
+abbrev pub before_secret : SecretState → Plan SecretTag → SecretState
+before_secret s plan = record s { next = s.next - plan.note }
 
 -- only what is open is lent
 abbrev pub secret_lend : SecretTag → Result (Unit {0}) Part
@@ -191,6 +199,7 @@ secrecy = record {
   retag = λ s plan old. Ok old;
   wipe = λ s pc old. Ok Open;
   commit = λ s plan. after_secret s;
+  uncommit = before_secret;
   start_pc = λ s birth. Open;
   start_word = λ s birth. Open;
   text = λ s tag. secret_text tag;

@@ -1,19 +1,18 @@
 -- Secrecy keeps the laws of a policy.
-use Rattle.std.proofs.Common.{◌≡◌, ℕ, ◌+◌, ◌%◌, ◌^◌, ◌<◌, ◌≤◌, ◌==◌, nat_lt, Bool, true, false, Option, Some, None, Result, Ok, IsTrue, length, slice_index, if◌then◌else◌, refl, sym, ap, ◌∙◌, subst, arith}
+use Rattle.std.proofs.Common.{◌≡◌, ℕ, ◌+◌, ◌-◌, ◌%◌, ◌^◌, ◌<◌, ◌≤◌, nat_lt, Bool, true, false, Some, Ok, length, slice_index, if◌then◌else◌, refl, sym, ap, ◌∙◌, subst, arith}
 use Rattle.std.proofs.lemmas.Bool.{ltb-true, true≢false}
 use Rattle.std.proofs.lemmas.Option.{none-some, same_Some}
-use Rattle.std.specs.Option.{ForSome}
 use Rattle.shared_terms.proofs.StepLemmas.{ok_is}
 use Rattle.rv_decode.specs.declared.groups.Group.{Group}
 use Rattle.rv_decode.specs.declared.groups.Group.TheVariants as group
-use Rattle.policy_trait.specs.PolicyLaws.{HasWord, KeepsLaws, KeepsValue}
-use Rattle.policy_trait.specs.Model.{masked_inputs}
+use Rattle.policy_trait.specs.PolicyLaws.{HasWord, KeepsLaws}
+use Rattle.policy_trait.specs.Model.{IsCommitted, IsGiven, masked_inputs}
 use Rattle.policy_trait.specs.declared.rules.Ins.{Ins}
 use Rattle.policy_trait.specs.declared.services.Answer.{Answer}
 use Rattle.policy_trait.specs.declared.services.Args.{Args}
 use Rattle.policy_trait.specs.declared.services.Plan.{Plan}
 use Rattle.policy_trait.specs.declared.services.Rest.TheVariants as rest
-use Rattle.secrecy_policy.specs.Secrecy.{IsLeft, SecretState, next_secret, no_secret, secrecy, secret_ignores, secret_plan, secret_rule}
+use Rattle.secrecy_policy.specs.Secrecy.{IsLeft, SecretState, after_secret, answered, before_secret, next_secret, no_secret, secrecy, secret_ignores, secret_plan, secret_rule}
 use Rattle.secrecy_policy.specs.declared.tag.SecretTag.{SecretTag}
 use Rattle.secrecy_policy.specs.declared.tag.SecretTag.TheVariants.{Open, Secret}
 
@@ -63,6 +62,31 @@ stays_by : (left : Bool) (s : SecretState) → nat_lt s.next (length s.bytes) �
 stays_by true s is holds = let below : s.next < length s.bytes = ltb-true s.next (length s.bytes) is in omega (arith, below)
 stays_by false s is holds = holds
 
+-- as many less as were answered are as many as before
+undone_by : (left : Bool) (s : SecretState) → (let after : SecretState = if left then record s { next = s.next + 1 } else s in
+    record after { next = after.next - (if left then 1 else 0) }) ≡ s
+undone_by true s = ap (λ (next : ℕ). record s { next = next }) (omega arith)
+undone_by false s = ap (λ (next : ℕ). record s { next = next }) (omega arith)
+
+noted : (s : SecretState) (p : Plan SecretTag) → IsGiven secrecy s p → answered s ≡ p.note
+noted s p given = ap (λ (q : Plan SecretTag). q.note) (plan_is s p.service given.arguments given.pc p given.given)
+
+undone : (s : SecretState) (p : Plan SecretTag) → IsGiven secrecy s p → before_secret (after_secret s) p ≡ s
+undone s p given =
+    ap (λ (note : ℕ). record (after_secret s) { next = (after_secret s).next - note }) (sym (noted s p given))
+    ∙ undone_by (nat_lt s.next (length s.bytes)) s
+
+-- as many can be taken back
+at_least_by : (left : Bool) (s : SecretState) → (if left then 1 else 0) ≤ (if left then record s { next = s.next + 1 } else s).next
+at_least_by true s = omega arith
+at_least_by false s = omega arith
+
+pub can_take_back : (s : SecretState) (p : Plan SecretTag) → IsCommitted secrecy IsLeft s p → p.note ≤ s.next
+can_take_back s p committed =
+    let before : SecretState = committed.before in
+    let fits = at_least_by (nat_lt before.next (length before.bytes)) before in
+    omega (arith, fits, noted before p committed.given, ap (λ (after : SecretState). after.next) committed.left)
+
 pub secrecy_laws : KeepsLaws secrecy IsLeft
 secrecy_laws = record {
   masks = λ s g x. rule_masked g x;
@@ -83,6 +107,7 @@ secrecy_laws = record {
     text = λ t. refl;
   };
   stays = λ s p given holds. stays_by (nat_lt s.next (length s.bytes)) s refl holds;
+  undoes = λ s p given holds. undone s p given;
   ranges = λ s k a pc p can holds given x x_is.
       absurd (none-some x (ap (λ (q : Plan SecretTag). q.range) (plan_is s k a pc p given) ∙ x_is));
   few = λ s k known. let e : 0 ≤ 3 = omega arith in e;

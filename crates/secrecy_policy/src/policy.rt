@@ -148,7 +148,7 @@ impl Policy for Secrecy {
         Ok(Plan {
             service: number,
             pc,
-            note: 0,
+            note: u32::from(self.next < self.bytes.len()),
             range: None,
             zero: false,
             answer: Some(Answer {
@@ -172,6 +172,11 @@ impl Policy for Secrecy {
             self.next += 1;
         }
         Ok(())
+    }
+
+    #[tactic(auto, using(crate::specs::SecrecyLaws::can_take_back))]
+    fn uncommit(&mut self, plan: &Plan<SecretTag>) {
+        self.next -= plan.note as usize;
     }
 
     fn start_pc(&self, _birth: &Birth) -> SecretTag {

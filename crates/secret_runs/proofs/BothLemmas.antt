@@ -15,7 +15,7 @@ use Rattle.policy_trait.specs.declared.services.Answer.{Answer}
 use Rattle.policy_trait.specs.declared.services.Args.{Args}
 use Rattle.policy_trait.specs.declared.services.Plan.{Plan}
 use Rattle.policy_trait.specs.declared.services.PlanEnd.{PlanEnd}
-use Rattle.policy_product.specs.Both.{answer_before, beside_left, beside_right, both, both_ignore, both_outs, left, lending_of, lent_if, plan_of_left, plan_of_right, rest_tag, retag_of_left, retag_of_right, right, tag_beside}
+use Rattle.policy_product.specs.Both.{answer_before, beside_left, beside_right, both, both_ignore, both_outs, first_declined, left, lending_of, lent_if, lent_to_left, plan_of_left, plan_of_right, rest_tag, retag_of_left, retag_of_right, right, tag_beside, tags_alone}
 use Rattle.secret_runs.specs.Hides.{AlikeAnswers, AlikeArgs, AlikePlans, ComesOfOpen, Hides, OkBy}
 
 -- where two steps are both good
@@ -138,18 +138,42 @@ module _ {T U S R : Type 0} (m : PolicyModel T S) (n : PolicyModel U R) (holds :
       >>= λ first. lend_same r q alike (nat_le 2 uses) a.t1.1 b.t1.1 (ap right args.t1) i
       >>= λ second. lend_same r q alike (nat_le 3 uses) a.t2.1 b.t2.1 (ap right args.t2) i
 
+  -- where the tags alone are left, they are the same
+  tags_same : (a b : Args (T × U)) → AlikeArgs opens a b → tags_alone (args_by left b) ≡ tags_alone (args_by left a)
+  tags_same a b args = λ i. record {
+    a0 = 0;
+    a1 = 0;
+    a2 = 0;
+    t0 = left (args.t0 i);
+    t1 = left (args.t1 i);
+    t2 = left (args.t2 i);
+    ram = args.ram i;
+  }
+
+  -- so the same part declines first
+  left_lent_same : (x : S) (r q : R) → like r q → (k : ℕ) (a b : Args (T × U)) (pc : T × U) → AlikeArgs opens a b
+      → lent_to_left m n (x, q) k b pc.0 ≡ lent_to_left m n (x, r) k a pc.0
+  left_lent_same x r q alike k a b pc args = λ i. first_declined (lending_same r q alike (m.uses x k) a b args i) (m.plan x k (tags_same a b args i) pc.0)
+
+  -- what no part declines the right policy lends
+  lent_beside : (beside : Result (Unit {0}) PlanEnd) (own : Result (Plan T) PlanEnd) → first_declined beside own ≡ Ok tt → beside ≡ Ok tt
+  lent_beside (Ok lent) own e = refl
+  lent_beside (Err why) (Ok plan) e = absurd cc
+  lent_beside (Err why) (Err end) e = absurd cc
+
   -- the plan of a service that the left policy owns is the same: its arguments were lent
   left_planned : (x : S) (r q : R) → like r q → (k : ℕ) (a b : Args (T × U)) (pc : T × U) → IsTrue (m.knows x k) → AlikeArgs opens a b
       → plan_of_left m n (x, q) k b pc ≡ plan_of_left m n (x, r) k a pc
   left_planned x r q alike k a b pc known args =
-      ap (λ lent. lent >>= λ all. ok_by (beside_right pc.1 (n.plain q) b.t0.1) (m.plan x k (args_by left b) pc.0)) (lending_same r q alike (m.uses x k) a b args)
-      ∙ by (lending_of (n.lend r) (m.uses x k) (args_by right a)) refl
+      ap (λ lent. lent >>= λ all. ok_by (beside_right pc.1 (n.plain q) b.t0.1) (m.plan x k (args_by left b) pc.0)) (left_lent_same x r q alike k a b pc args)
+      ∙ by (lent_to_left m n (x, r) k a pc.0) refl
     where
-      by : (lent : Result (Unit {0}) PlanEnd) → lending_of (n.lend r) (m.uses x k) (args_by right a) ≡ lent
+      by : (lent : Result (Unit {0}) PlanEnd) → lent_to_left m n (x, r) k a pc.0 ≡ lent
           → (lent >>= λ all. ok_by (beside_right pc.1 (n.plain q) b.t0.1) (m.plan x k (args_by left b) pc.0))
           ≡ (lent >>= λ all. ok_by (beside_right pc.1 (n.plain r) a.t0.1) (m.plan x k (args_by left a) pc.0))
       by (Ok all) is =
-          let unused = laws.unused x k (args_by left a) (args_by left b) pc.0 known (agrees r q alike (m.uses x k) a b args is) in
+          let lent = lent_beside (lending_of (n.lend r) (m.uses x k) (args_by right a)) (m.plan x k (tags_alone (args_by left a)) pc.0) is in
+          let unused = laws.unused x k (args_by left a) (args_by left b) pc.0 known (agrees r q alike (m.uses x k) a b args lent) in
           λ i. ok_by (beside_right pc.1 (hides.plain r q alike i) (ap right args.t0 i)) (sym unused i)
       by (Err why) is = refl
 
@@ -159,7 +183,7 @@ module _ {T U S R : Type 0} (m : PolicyModel T S) (n : PolicyModel U R) (holds :
 
   -- the service of such a plan is the left policy's
   left_serves : (x : S) (r : R) (k : ℕ) (a : Args (T × U)) (pc : T × U) → m.knows x k ≡ true → (p : Plan (T × U)) → plan_of_left m n (x, r) k a pc ≡ Ok p → m.knows x p.service ≡ true
-  left_serves x r k a pc known p planned = by (lending_of (n.lend r) (m.uses x k) (args_by right a)) (m.plan x k (args_by left a) pc.0) refl planned
+  left_serves x r k a pc known p planned = by (lent_to_left m n (x, r) k a pc.0) (m.plan x k (args_by left a) pc.0) refl planned
     where
       by : (lent : Result (Unit {0}) PlanEnd) (given : Result (Plan T) PlanEnd) → m.plan x k (args_by left a) pc.0 ≡ given
           → (lent >>= λ all. ok_by (beside_right pc.1 (n.plain r) a.t0.1) given) ≡ Ok p → m.knows x p.service ≡ true
@@ -197,7 +221,7 @@ module _ {T U S R : Type 0} (m : PolicyModel T S) (n : PolicyModel U R) (holds :
     same = λ i. record {
       service = (plans.same i).service;
       pc = (pc, (plans.same i).pc);
-      note = (plans.same i).note;
+      note = q.note;
       range = (plans.same i).range;
       zero = (plans.same i).zero;
       answer = option_map (answer_before plain a0) q.answer;
@@ -274,7 +298,7 @@ module _ {T U S R : Type 0} (m : PolicyModel T S) (n : PolicyModel U R) (holds :
       by (Err why) given is planned = absurd cc
 
   left_number : (x : S) (r : R) (k : ℕ) (a : Args (T × U)) (pc : T × U) → m.knows x k ≡ true → (p : Plan (T × U)) → plan_of_left m n (x, r) k a pc ≡ Ok p → p.service ≡ k
-  left_number x r k a pc known p planned = by (lending_of (n.lend r) (m.uses x k) (args_by right a)) (m.plan x k (args_by left a) pc.0) refl planned
+  left_number x r k a pc known p planned = by (lent_to_left m n (x, r) k a pc.0) (m.plan x k (args_by left a) pc.0) refl planned
     where
       by : (lent : Result (Unit {0}) PlanEnd) (given : Result (Plan T) PlanEnd) → m.plan x k (args_by left a) pc.0 ≡ given
           → (lent >>= λ all. ok_by (beside_right pc.1 (n.plain r) a.t0.1) given) ≡ Ok p → p.service ≡ k

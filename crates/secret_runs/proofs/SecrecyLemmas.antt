@@ -188,7 +188,7 @@ comes_by group.Call x outs met = record {
 kept_open : (old new : SecretTag) → ◌≡◌ {A = Result SecretTag Refused} (Ok old) (Ok new) → is_open new ≡ true → is_open old ≡ true
 kept_open old new e clear = let same : old ≡ new = cc in subst (λ tag. is_open tag ≡ true) (sym same) clear
 
--- plans that differ in their answer's secret value alone
+-- plans that differ in their note and their answer's secret value alone
 abbrev pub AlikeSecrecyPlans : SecretState → Plan SecretTag → Plan SecretTag → Type 0
 AlikeSecrecyPlans s p q = AlikePlans is_open p q
 

@@ -70,9 +70,9 @@ module _ {T : Type 0} (is_open : T → Bool) where
   AlikeAnswers (Some x) (Some y) = (y.tag ≡ x.tag) × ((y.rest ≡ x.rest) × (is_open x.tag ≡ true → y.value ≡ x.value))
   AlikeAnswers _ _ = ⊥
 
-  -- plans that differ in their answer's secret value alone
+  -- plans that differ in what the policy notes and in their answer's secret value alone
   pub record AlikePlans (p q : Plan T) : Type 0 where
-    pub same : q ≡ record p { answer = q.answer }
+    pub same : q ≡ record p { note = q.note; answer = q.answer }
     pub answer : AlikeAnswers p.answer q.answer
 
 -- both answer, alike; or neither does, for the same reason
@@ -82,8 +82,8 @@ OkBy Alike (Err e) (Err f) = f ≡ e
 OkBy Alike _ _ = ⊥
 
 -- What is looked at before a rule is open, an open result comes of what is open, and two values of the policy that are alike answer
--- alike. Its plans are of a kind that may differ in their answer's secret value alone, and what they do to words and to the policy is
--- the same or alike.
+-- alike. Its plans are of a kind that may differ in its note and in their answer's secret value alone, and what they do to words and
+-- to the policy is the same or alike.
 pub record Hides {T S : Type 0} (is_open : T → Bool) (m : PolicyModel T S) (like : S → S → Type 0) (kin : S → Plan T → Plan T → Type 0) : Type 0 where
   pub first_open : (s t : S) → like s t → (shape : Shape) (x y : T) → m.peek s shape x y ≡ Ok tt → is_open x ≡ true
   pub second_open : (s t : S) → like s t → (shape : Shape) (x y : T) → m.peek s shape x y ≡ Ok tt → is_open y ≡ true

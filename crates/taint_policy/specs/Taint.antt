@@ -131,8 +131,8 @@ abbrev pub taint_text : TaintTag → List ℕ
 taint_text Clean = codes "clean"
 taint_text Tainted = codes "tainted"
 
--- No service is offered, so `uses`, `plan`, `retag` and `commit` are asked of none. Every value is lent to the services of
--- others, tainted ones too; a word that such a service makes zero is clean, and so is all of an image.
+-- No service is offered, so `uses`, `plan`, `retag`, `commit` and `uncommit` are asked of none. Every value is lent to the
+-- services of others, tainted ones too; a word that such a service makes zero is clean, and so is all of an image.
 abbrev pub taint : PolicyModel TaintTag Taint
 taint = record {
   plain = λ policy. Clean;
@@ -148,6 +148,7 @@ taint = record {
   retag = λ policy plan old. Ok old;
   wipe = λ policy pc old. Ok Clean;
   commit = λ policy plan. policy;
+  uncommit = λ policy plan. policy;
   start_pc = λ policy birth. Clean;
   start_word = λ policy birth. Clean;
   text = λ policy tag. taint_text tag;

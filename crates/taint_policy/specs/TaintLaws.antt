@@ -56,6 +56,7 @@ taint_laws = record {
     text = λ t. refl;
   };
   stays = λ policy p given held. held;
+  undoes = λ policy p given held. refl;
   ranges = λ policy k a pc p can held given. absurd (false≢true can.known);
   few = λ policy k known. absurd (false≢true known);
   service = λ policy k a pc p known given. absurd (false≢true known);

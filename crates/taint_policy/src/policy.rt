@@ -108,6 +108,12 @@ impl Policy for Taint {
         Ok(())
     }
 
+    fn uncommit(&mut self, plan: &Plan<TaintTag>)
+        ensures { self.new ≡ taint.uncommit self.old plan.now }
+    {
+        let _ = plan.service;
+    }
+
     fn start_pc(&self, _birth: &Birth) -> TaintTag {
         TaintTag::Clean
     }

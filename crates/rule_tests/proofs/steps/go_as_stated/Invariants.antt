@@ -5,4 +5,4 @@ use Rattle.live_blocks.specs.declared.block.Block.{Block}
 use Rattle.rule_tests.proofs.steps.go_as_stated.Given as goal
 
 abbrev pub invariant-loop-step : goal.invariant-loop-step
-invariant-loop-step l = All (λ (block : Block). block.number < l.number) l.blocks.live
+invariant-loop-step l = All (λ (block : Block). block.number < l.number) l.blocks.space.live

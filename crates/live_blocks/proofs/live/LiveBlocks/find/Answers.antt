@@ -4,10 +4,9 @@ use Rattle.std.specs.List.{All, find}
 use Rattle.std.proofs.lemmas.Bool.{eq-eqb}
 use Rattle.std.proofs.lemmas.Bool.Decides.{nat_tests}
 use Rattle.live_blocks.specs.declared.block.Block.{Block}
-use Rattle.live_blocks.specs.Run.{IsPlaceOf}
-use Rattle.live_blocks.specs.Space.{Space}
+use Rattle.live_blocks.specs.Room.{Blocks}
+use Rattle.live_blocks.specs.Run.{AreNumbered, IsPlaceOf}
 use Rattle.live_blocks.proofs.ListLemmas.{find_fails, find_passes}
-use Rattle.live_blocks.proofs.NumberLemmas.{AreNumbered}
 use Rattle.live_blocks.proofs.live.LiveBlocks.find.Goals as goal
 
 differs : (x number : ℕ) → x ≢ number → (x == number) ≡ false
@@ -24,11 +23,11 @@ one_has live number place block numbered is read =
     ∙ ap Some (sym read)
 
 pub returns-in_err-place : goal.returns-in_err-place
-returns-in_err-place c = c.from_residual.ensures ∙ sym (none_has c.args.self.now.live c.args.number c.in_err-place.ensures.absent)
+returns-in_err-place c = c.from_residual.ensures ∙ sym (none_has c.args.self.now.space.live c.args.number c.in_err-place.ensures.absent)
 
 pub returns : goal.returns
 returns c = sym (
-    let now = λ (s : Space). find (λ (block : Block). block.number == c.args.number) s.live in
-    ap now (sym c.self.view_is)
-    ∙ one_has c.self.inside.by_number.items c.args.number c.in_ok-place.place c.index.result.now c.self.invariant.sound.numbered
-    (subst (λ (s : Space). IsPlaceOf s.live c.args.number c.in_ok-place.place) (sym c.self.view_is) c.in_ok-place.ensures.found) c.index.ensures)
+    let found = λ (b : Blocks). find (λ (block : Block). block.number == c.args.number) b.space.live in
+    ap found (sym c.self.view_is)
+    ∙ one_has c.self.inside.by_number.items c.args.number c.in_ok-place.place c.index.result.now c.self.invariant.kept.sound.numbered
+    (subst (λ (b : Blocks). IsPlaceOf b.space.live c.args.number c.in_ok-place.place) (sym c.self.view_is) c.in_ok-place.ensures.found) c.index.ensures)

@@ -9,7 +9,7 @@ pub returns-clause-found : goal.returns-clause-found
 returns-clause-found c =
     let call = c.binary_search_by_key in
     let by_number = call.ensures.position (λ (block : Block). block.number) (answers_always _ _ _ (λ f a r g called. search rules)) in
-    let is = searched c.deref.result.now (rw c.deref.ensures.value c.self.invariant.sound.numbered) c.args.number
+    let is = searched c.deref.result.now (rw c.deref.ensures.value c.self.invariant.kept.sound.numbered) c.args.number
     call.result call.ensures.bound by_number in
     rw (c.ok.ensures.value, ← c.self.view_is, ← c.deref.ensures.value) is.found
 
@@ -17,6 +17,6 @@ pub returns-clause-absent : goal.returns-clause-absent
 returns-clause-absent c =
     let call = c.binary_search_by_key in
     let by_number = call.ensures.position (λ (block : Block). block.number) (answers_always _ _ _ (λ f a r g called. search rules)) in
-    let is = searched c.deref.result.now (rw c.deref.ensures.value c.self.invariant.sound.numbered) c.args.number
+    let is = searched c.deref.result.now (rw c.deref.ensures.value c.self.invariant.kept.sound.numbered) c.args.number
     call.result call.ensures.bound by_number in
     rw (c.ok.ensures.value, ← c.self.view_is, ← c.deref.ensures.value) is.absent
