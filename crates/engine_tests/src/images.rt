@@ -10,6 +10,7 @@ use rule_cache::RuleCache;
 use std::alloc::Global;
 use std::test::Fail;
 use tag_intern::Interner;
+use undo_log::NoLog;
 use word_loader::start_cached;
 
 /// The image with `ram` bytes of memory and harts at these entries, whose one segment has these words at 0.
@@ -40,13 +41,13 @@ pub(crate) fn keeping<P: Policy>(
     image: &Image,
     cache: u32,
     limit: u32,
-) -> Result<Pump<P, Interner<P::Tag>, RuleCache>, Fail>
+) -> Result<Pump<P, Interner<P::Tag>, RuleCache, NoLog<P::Tag>>, Fail>
     requires { P.model.room policy ≤ image.now.ram }
 {
     if cache == 0 || limit == 0 {
         return Err("no room")?;
     }
-    let Ok(engine) = start_cached(alloc, policy, image, 1, cache, limit) else {
+    let Ok(engine) = start_cached(alloc, policy, image, 1, cache, limit, NoLog::new()) else {
         return Err(Fail::from("no engine"));
     };
     Ok(engine)

@@ -9,11 +9,13 @@ use Rattle.policy_trait.specs.declared.rules.Outs.{Outs}
 use Rattle.monitor_calls.specs.Service.{Job}
 use Rattle.turn_steps.specs.declared.look.Look.{Look}
 use Rattle.turn_steps.specs.declared.stop.Stop.{Stop}
-use Rattle.engine_trait.specs.Accounts.{Account, IsUncached, Key, account_after_turn, after_look, after_rule, after_service, is_kept, is_over, keeping, key_of, look_counted, looked_up, rule_counted, rule_kept, same_key, seeing, served_tags, service_counted, set_keys, set_of, standing_tags, with_room, with_tags, written_tags}
+use Rattle.engine_trait.specs.Accounts.{Account, IsUncached, Key, account_after_turn, after_look, after_rule, after_service, is_kept, is_over, keeping, key_of, look_counted, looked_up, rule_counted, rule_kept, same_key, seeing, served_tags, service_counted, set_keys, set_of, standing_tags, with_room, with_tags, written_tags, account_out, swept}
 use Rattle.shared_terms.specs.Counts.{next_count}
+use Rattle.undo_log.specs.Past.{Past}
 use Rattle.engine_trait.specs.Machine.{Machine}
+use Rattle.engine_trait.specs.declared.ends.Halt.{Halt}
 use Rattle.engine_trait.specs.Turn.{rule_answer, job_at, preparation}
-use Rattle.engine_trait.proofs.RoomLemmas.{either_halt, either_same, room_halt, room_kept}
+use Rattle.engine_trait.proofs.RoomLemmas.{either_kept, either_same, kept_of, room_kept, room_leaves}
 
 -- room for some rules is not room for none
 pub keeps_some : (rules : ℕ) → 1 ≤ rules → (rules == 0) ≡ false
@@ -128,50 +130,65 @@ module _ {S T : Type 0} (eq : T → T → Bool) (m : PolicyModel T S) (s : Machi
       let looked = look_counted_plain a plain in
       (looked.0, settled_account a (record a { misses = looked.0 }) (record { ways = plain.ways; table = plain.table; sets = plain.sets }) looked.1)
 
--- ---- any account: a turn leaves the halt, and counts itself once
+-- ---- any account: a turn leaves why the engine is stopped, and its records, and counts itself once
 
-seeing_halt : {T : Type 0} (eq : T → T → Bool) (tags : List T) (a : Account T) → (seeing eq tags a).halt ≡ a.halt
-seeing_halt eq tags a = either_halt a.halt (a.ways == 0) a (record a { table = with_tags eq a.table tags }) refl refl
+seeing_leaves : {T : Type 0} (eq : T → T → Bool) (tags : List T) (a : Account T) → kept_of (seeing eq tags a) ≡ kept_of a
+seeing_leaves eq tags a = either_kept (kept_of a) (a.ways == 0) a (record a { table = with_tags eq a.table tags }) refl refl
 
-looked_up_halt : {T : Type 0} (eq : T → T → Bool) (key : Key T) (a : Account T) → (looked_up eq key a).halt ≡ a.halt
-looked_up_halt eq key a = either_halt a.halt (is_kept eq key a) (record (keeping eq key a) { hits = next_count a.hits }) (record a { misses = next_count a.misses }) refl refl
+looked_up_leaves : {T : Type 0} (eq : T → T → Bool) (key : Key T) (a : Account T) → kept_of (looked_up eq key a) ≡ kept_of a
+looked_up_leaves eq key a = either_kept (kept_of a) (is_kept eq key a) (record (keeping eq key a) { hits = next_count a.hits }) (record a { misses = next_count a.misses }) refl refl
 
-rule_kept_halt : {T E : Type 0} (eq : T → T → Bool) (key : Key T) (answer : Result (Outs T) E) (a : Account T) → (rule_kept eq key answer a).halt ≡ a.halt
-rule_kept_halt eq key (Ok outs) a = seeing_halt eq (outs.pc ∷ outs.result ∷ []) (keeping eq key a)
-rule_kept_halt eq key (Err why) a = refl
+rule_kept_leaves : {T E : Type 0} (eq : T → T → Bool) (key : Key T) (answer : Result (Outs T) E) (a : Account T) → kept_of (rule_kept eq key answer a) ≡ kept_of a
+rule_kept_leaves eq key (Ok outs) a = seeing_leaves eq (outs.pc ∷ outs.result ∷ []) (keeping eq key a)
+rule_kept_leaves eq key (Err why) a = refl
 
 module _ {S T : Type 0} (eq : T → T → Bool) (m : PolicyModel T S) (s : Machine S T) (h : ℕ) where
-  after_look_halt : (found : Result Look Stop) (a : Account T) → (after_look eq m s h found a).halt ≡ a.halt
-  after_look_halt (Ok look) a = looked_up_halt eq (key_of eq m s h look) a
-  after_look_halt (Err why) a = refl
+  after_look_leaves : (found : Result Look Stop) (a : Account T) → kept_of (after_look eq m s h found a) ≡ kept_of a
+  after_look_leaves (Ok look) a = looked_up_leaves eq (key_of eq m s h look) a
+  after_look_leaves (Err why) a = refl
 
-  after_rule_halt : (found : Result Look Stop) (a : Account T) → (after_rule eq m s h found a).halt ≡ a.halt
-  after_rule_halt (Ok look) a = rule_kept_halt eq (key_of eq m s h look) (rule_answer m s h look) a
-  after_rule_halt (Err why) a = refl
+  after_rule_leaves : (found : Result Look Stop) (a : Account T) → kept_of (after_rule eq m s h found a) ≡ kept_of a
+  after_rule_leaves (Ok look) a = rule_kept_leaves eq (key_of eq m s h look) (rule_answer m s h look) a
+  after_rule_leaves (Err why) a = refl
 
-  after_service_halt : (job : Result (Option (Job T)) Stop) (a : Account T) → (after_service eq m s h job a).halt ≡ a.halt
-  after_service_halt (Ok (Some job)) a = seeing_halt eq (written_tags job) a
-  after_service_halt (Ok None) a = refl
-  after_service_halt (Err why) a = refl
+  after_service_leaves : (job : Result (Option (Job T)) Stop) (a : Account T) → kept_of (after_service eq m s h job a) ≡ kept_of a
+  after_service_leaves (Ok (Some job)) a = seeing_leaves eq (written_tags job) a
+  after_service_leaves (Ok None) a = refl
+  after_service_leaves (Err why) a = refl
 
-  look_counted_halt : (a : Account T) → (look_counted eq m s h a).halt ≡ a.halt
+  look_counted_leaves : (a : Account T) → kept_of (look_counted eq m s h a) ≡ kept_of a
   unfolding look_counted
-  look_counted_halt a = after_look_halt (preparation m s h) a
+  look_counted_leaves a = after_look_leaves (preparation m s h) a
 
-  rule_counted_halt : (a : Account T) → (rule_counted eq m s h a).halt ≡ a.halt
+  rule_counted_leaves : (a : Account T) → kept_of (rule_counted eq m s h a) ≡ kept_of a
   unfolding rule_counted
-  rule_counted_halt a =
-      room_halt eq (standing_tags m s) (after_rule eq m s h (preparation m s h)) (look_counted eq m s h a) (after_rule_halt (preparation m s h)) ∙ look_counted_halt a
+  rule_counted_leaves a =
+      room_leaves eq (standing_tags m s) (after_rule eq m s h (preparation m s h)) (look_counted eq m s h a) (after_rule_leaves (preparation m s h)) ∙ look_counted_leaves a
 
-  service_counted_halt : (a : Account T) → (service_counted eq m s h a).halt ≡ a.halt
+  service_counted_leaves : (a : Account T) → kept_of (service_counted eq m s h a) ≡ kept_of a
   unfolding service_counted
-  service_counted_halt a =
-      room_halt eq (served_tags m s h) (after_service eq m s h (job_at m s h)) (rule_counted eq m s h a) (after_service_halt (job_at m s h)) ∙ rule_counted_halt a
+  service_counted_leaves a =
+      room_leaves eq (served_tags m s h) (after_service eq m s h (job_at m s h)) (rule_counted eq m s h a) (after_service_leaves (job_at m s h)) ∙ rule_counted_leaves a
+
+  accounted_leaves : (a : Account T) → kept_of (account_after_turn eq m s h a) ≡ kept_of a
+  unfolding account_after_turn
+  accounted_leaves a =
+      either_kept (kept_of a) (is_over (rule_counted eq m s h a)) (rule_counted eq m s h a) (service_counted eq m s h a) (rule_counted_leaves a) (service_counted_leaves a)
 
   pub accounted_halt : (a : Account T) → (account_after_turn eq m s h a).halt ≡ a.halt
-  unfolding account_after_turn
-  accounted_halt a =
-      either_halt a.halt (is_over (rule_counted eq m s h a)) (rule_counted eq m s h a) (service_counted eq m s h a) (rule_counted_halt a) (service_counted_halt a)
+  accounted_halt a = ap (λ (kept : Option Halt × Past T T). kept.0) (accounted_leaves a)
+
+  pub accounted_past : (a : Account T) → (account_after_turn eq m s h a).past ≡ a.past
+  accounted_past a = ap (λ (kept : Option Halt × Past T T). kept.1) (accounted_leaves a)
+
+  -- nor does a step that needs more words than there may be
+  out_leaves : (a : Account T) → kept_of (account_out eq m s h a) ≡ kept_of a
+  out_leaves a =
+      either_kept (kept_of a) (is_over (rule_counted eq m s h a)) (swept eq (standing_tags m s) (look_counted eq m s h a)) (swept eq (served_tags m s h) (rule_counted eq m s h a))
+      (look_counted_leaves a) (rule_counted_leaves a)
+
+  pub out_past : (a : Account T) → (account_out eq m s h a).past ≡ a.past
+  out_past a = ap (λ (kept : Option Halt × Past T T). kept.1) (out_leaves a)
 
   pub accounted_turns : (a : Account T) → (account_after_turn eq m s h a).turns ≡ next_count a.turns
   unfolding account_after_turn

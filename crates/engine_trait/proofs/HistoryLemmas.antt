@@ -25,7 +25,7 @@ use Rattle.tag_memory.specs.Ram.{IsPlace, RamState, ram_bytes, ram_tag, ram_word
 use Rattle.monitor_calls.specs.Service.{Job}
 use Rattle.monitor_calls.proofs.JobLemmas.{job_places}
 use Rattle.turn_steps.specs.Effects.{Carried, carried_by, effect_result, result_value}
-use Rattle.turn_steps.specs.Feeds.{Tape, fed_after, fed_value, first_fed, with_fed}
+use Rattle.turn_steps.specs.Feeds.{Tape, fed_after, fed_value, first_fed, unread, with_fed}
 use Rattle.turn_steps.specs.Services.{args_on, with_answer, with_words}
 use Rattle.turn_steps.proofs.LookLemmas.{looked_is_sound}
 use Rattle.turn_steps.specs.Looks.{is_call}
@@ -33,7 +33,7 @@ use Rattle.turn_steps.specs.declared.look.Look.{Look}
 use Rattle.turn_steps.specs.declared.stop.Stop.{Stop}
 use Rattle.undo_log.specs.declared.record.Record.{Record}
 use Rattle.undo_log.specs.declared.record.Replaced.{Replaced}
-use Rattle.engine_trait.specs.History.{answer_before, bare_record, core_undone, policy_undone, record_by, record_done, record_of, record_or_bare, reg_before, replaced, unread, with_old_reg, with_old_word, with_old_words, word_at, word_before, words_before}
+use Rattle.engine_trait.specs.History.{answer_before, bare_record, core_undone, policy_undone, record_by, record_done, record_of, record_or_bare, reg_before, replaced, with_old_reg, with_old_word, with_old_words, word_at, word_before, words_before}
 use Rattle.engine_trait.specs.HistoryLaws.{IsFit, TakesBack}
 use Rattle.engine_trait.specs.Machine.{CoreState, IsMachine, Machine, has_no_stop, hart_at, is_ready_in, stop_at, stopping, with_hart}
 use Rattle.engine_trait.specs.Turn.{Turned, attempt, carried_at, core_effected, core_ended, core_served, preparation, rule_answer, service_on, settlement, turn_effect, turn_job, turn_of}
@@ -106,7 +106,7 @@ module _ {T : Type 0} (core : CoreState T) (h : ℕ) (ready : is_ready_in core h
       λ j. record { harts = harts_again hart ram reg hart_is j; stops = stops_are j; ram = ram_is j }
 
   -- a hart that stopped before its effect
-  stopped_again : (why : Stop) → core_undone (stopping core h why) (bare_record core h) ≡ core
+  stopped_again : (why : Stop) → core_undone {U = T} (stopping core h why) (bare_record core h) ≡ core
   unfolding core_undone
   stopped_again why = λ j. record {
     harts = set-get_or core.harts h (fresh_hart 0 core.ram.plain core.ram.plain) j;
@@ -135,7 +135,7 @@ module _ {T : Type 0} (core : CoreState T) (h : ℕ) (ready : is_ready_in core h
     carried called = carried_by called (hart_at core h) core.ram feed look outs
 
     abbrev record_by_group : Group → Record T T
-    record_by_group called = record_by called core feed.left h look
+    record_by_group called = record_by called core (first_fed feed.left) h look
 
     result_again : moved_to (with_old_reg (carried group.Break).hart (reg_before (hart_at core h) look.places.result)) (hart_at core h).pc (hart_at core h).pc_tag ≡ hart_at core h
     result_again =
@@ -233,7 +233,7 @@ module _ {S T : Type 0} (m : PolicyModel T S) (holds : S → Type 0) (laws : Kee
   }
 
   abbrev planned_record : Look → Outs T → Result (Record T T) Stop
-  planned_record look outs = turn_job m s h look outs >>= λ job. Ok (record_done s.core feed.left h look job)
+  planned_record look outs = turn_job m s h look outs >>= λ job. Ok (record_done s.core (first_fed feed.left) h look job)
 
   abbrev allowed_record : Look → Result (Record T T) Stop
   allowed_record look = rule_answer m s h look >>= planned_record look
@@ -254,7 +254,7 @@ module _ {S T : Type 0} (m : PolicyModel T S) (holds : S → Type 0) (laws : Kee
     result_place = reg_place (hart_at s.core h) look.places.result (looked_small (hart_at s.core h) s.core.ram look found.looked_is)
 
     -- of any instruction but a service
-    effect_fit : (called : Group) → EndsWithin (ram_bytes s.core.ram) look.effect.access → Fits (record_by called s.core feed.left h look)
+    effect_fit : (called : Group) → EndsWithin (ram_bytes s.core.ram) look.effect.access → Fits (record_by called s.core (first_fed feed.left) h look)
     effect_fit group.Exit within = fits_wordless None None (nowhere IsRegister)
     effect_fit group.Put within = fits_wordless None None (nowhere IsRegister)
     effect_fit group.Get within = fits_wordless (reg_before (hart_at s.core h) a0) (first_fed feed.left) (reg_place (hart_at s.core h) a0 (omega arith))
@@ -264,14 +264,14 @@ module _ {S T : Type 0} (m : PolicyModel T S) (holds : S → Type 0) (laws : Kee
         (store_place s.core.ram look.effect.access within) (All-nil IsWord)
 
     -- which commits no plan
-    uncommitted : (called : Group) → (record_by called s.core feed.left h look).plan ≡ None
+    uncommitted : (called : Group) → (record_by {U = T} called s.core (first_fed feed.left) h look).plan ≡ None
     uncommitted group.Exit = refl
     uncommitted group.Put = refl
     uncommitted group.Get = refl
     uncommitted group.Break = refl
     uncommitted _ = refl
 
-    job_back : (outs : Outs T) (job : Option (Job T)) → turn_job m s h look outs ≡ Ok job → TakenBy (Ok (turn_effect m s feed h look outs job)) (Ok (record_done s.core feed.left h look job))
+    job_back : (outs : Outs T) (job : Option (Job T)) → turn_job m s h look outs ≡ Ok job → TakenBy (Ok (turn_effect m s feed h look outs job)) (Ok (record_done s.core (first_fed feed.left) h look job))
     job_back outs (Some job) e =
         let given = planned_given m s h holds laws is look outs job found e in
         record {
@@ -288,7 +288,7 @@ module _ {S T : Type 0} (m : PolicyModel T S) (holds : S → Type 0) (laws : Kee
     }
 
     planned_back : (outs : Outs T) (job : Result (Option (Job T)) Stop) → turn_job m s h look outs ≡ job
-        → TakenBy (job >>= λ j. Ok (turn_effect m s feed h look outs j)) (job >>= λ j. Ok (record_done s.core feed.left h look j))
+        → TakenBy (job >>= λ j. Ok (turn_effect m s feed h look outs j)) (job >>= λ j. Ok (record_done s.core (first_fed feed.left) h look j))
     planned_back outs (Ok job) e = job_back outs job e
     planned_back outs (Err why) e = stop_back why
 

@@ -3,6 +3,7 @@ pub mod HistoryLemmas
 pub mod MachineLemmas
 pub mod MapLemmas
 pub mod MirrorLemmas
+pub mod PastLemmas
 pub mod RegisterLemmas
 pub mod RestoredLemmas
 pub mod RoomLemmas

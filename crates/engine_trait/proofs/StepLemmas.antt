@@ -3,15 +3,17 @@ use Rattle.std.proofs.Common.{◌≡◌, ℕ, Bool, true, false, Option, Some, N
 use Rattle.std.proofs.lemmas.Bool.{false≢true}
 use Rattle.policy_trait.specs.Model.{PolicyModel}
 use Rattle.turn_steps.specs.Feeds.{Tape}
-use Rattle.engine_trait.specs.Accounts.{IsUncached, account_after_turn, is_over}
+use Rattle.undo_log.specs.Past.{Past, pushed}
+use Rattle.engine_trait.specs.Accounts.{IsUncached, account_after_turn, is_over, remembering}
 use Rattle.shared_terms.specs.Counts.{next_count}
 use Rattle.engine_trait.specs.EngineLaws.{FollowsTurn, RunsOut, StaysIdle, is_made}
+use Rattle.engine_trait.specs.History.{record_of}
 use Rattle.engine_trait.specs.Machine.{is_ready_in}
 use Rattle.engine_trait.specs.Standing.{Standing, idle, is_ready, is_running, made_step, out_of_words, step, step_by}
 use Rattle.engine_trait.specs.declared.ends.Halt.{Halt}
 use Rattle.engine_trait.specs.declared.ends.TurnEnd.{TurnEnd}
 use Rattle.engine_trait.specs.declared.ends.TurnEnd.TheVariants as ends
-use Rattle.engine_trait.proofs.AccountLemmas.{accounted_halt, accounted_plain, accounted_turns, never_over}
+use Rattle.engine_trait.proofs.AccountLemmas.{accounted_halt, accounted_past, accounted_plain, accounted_turns, never_over, out_past}
 use Rattle.engine_trait.proofs.TurnLemmas.{turn_made}
 
 -- ---- an engine that is ready
@@ -75,6 +77,7 @@ module _ {S T : Type 0} (eq : T → T → Bool) (m : PolicyModel T S) (e : Stand
     account = refl;
     halt = accounted_halt eq m e.machine h e.account ∙ (ready_parts e h ready).0;
     turns = accounted_turns eq m e.machine h e.account;
+    past = ap (λ (past : Past T T). pushed past (record_of m e.machine feed h)) (accounted_past eq m e.machine h e.account);
   }
 
   made_is_turn : is_ready e h ≡ true → is_made (made_step eq m e feed h).ended ≡ true
@@ -97,7 +100,7 @@ module _ {S T : Type 0} (eq : T → T → Bool) (m : PolicyModel T S) (e : Stand
   out_by : (ready over : Bool) → is_ready e h ≡ ready → is_over (account_after_turn eq m e.machine h e.account) ≡ over → (step_by eq m e feed h ready over).ended ≡ ends.TagsOut
       → RunsOut eq m e feed h (step_by eq m e feed h ready over)
   out_by false over waits is_so is = absurd (false≢true (ap is_out is))
-  out_by true true ready is_so is = record { ready = ready; over = is_so; out = refl }
+  out_by true true ready is_so is = record { ready = ready; over = is_so; out = refl; past = out_past eq m e.machine h e.account }
   out_by true false ready is_so is = absurd (false≢true (not_turn ends.TagsOut ready is))
 
   pub step_runs_out : (step eq m e feed h).ended ≡ ends.TagsOut → RunsOut eq m e feed h (step eq m e feed h)
@@ -149,10 +152,10 @@ module _ {S T : Type 0} (eq : T → T → Bool) (m : PolicyModel T S) (e : Stand
   pub plain_step : IsUncached e.account → is_ready e h ≡ true → step eq m e feed h ≡ made_step eq m e feed h
   plain_step plain ready = step_made ready (plain_within plain)
 
-  plain_made : IsUncached e.account → IsUncached (account_after_turn eq m e.machine h e.account)
+  plain_made : IsUncached e.account → IsUncached (remembering (record_of m e.machine feed h) (account_after_turn eq m e.machine h e.account))
   plain_made plain =
       let after = accounted_plain eq m e.machine h e.account plain in
-      subst IsUncached (sym after.1) (record { ways = plain.ways; table = plain.table; sets = plain.sets })
+      subst (λ account. IsUncached (remembering (record_of m e.machine feed h) account)) (sym after.1) (record { ways = plain.ways; table = plain.table; sets = plain.sets })
 
   plain_hits : IsUncached e.account → (account_after_turn eq m e.machine h e.account).hits ≡ e.account.hits
   plain_hits plain = ap (λ account. account.hits) (accounted_plain eq m e.machine h e.account plain).1

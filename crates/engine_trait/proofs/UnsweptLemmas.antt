@@ -10,7 +10,8 @@ use Rattle.turn_steps.specs.Feeds.{Tape}
 use Rattle.turn_steps.specs.declared.look.Look.{Look}
 use Rattle.turn_steps.specs.declared.stop.Stop.{Stop}
 use Rattle.shared_terms.specs.Counts.{next_count}
-use Rattle.engine_trait.specs.Accounts.{Account, Key, account_after_turn, after_look, after_rule, after_service, is_kept, is_over, keeping, key_of, look_counted, looked_up, rule_counted, rule_kept, seeing, served_tags, service_counted, standing_tags, with_room, with_tag, with_tags, written_tags}
+use Rattle.engine_trait.specs.Accounts.{Account, Key, account_after_turn, after_look, after_rule, after_service, is_kept, is_over, keeping, key_of, look_counted, looked_up, remembering, rule_counted, rule_kept, seeing, served_tags, service_counted, standing_tags, with_room, with_tag, with_tags, written_tags}
+use Rattle.engine_trait.specs.History.{record_of}
 use Rattle.engine_trait.specs.Machine.{Machine}
 use Rattle.engine_trait.specs.Standing.{Standing, Stepped, is_ready, step}
 use Rattle.engine_trait.specs.Turn.{job_at, preparation, rule_answer, turn_of}
@@ -156,10 +157,13 @@ module _ {S T : Type 0} (eq : T → T → Bool) (m : PolicyModel T S) (s : Machi
 -- ---- the step of a ready hart
 
 module _ {S T : Type 0} (eq : T → T → Bool) (m : PolicyModel T S) (e : Standing S T) (feed : Tape) (h : ℕ) where
-  -- the turn, with the account of an engine that never sweeps
+  -- the turn, remembered, with the account of an engine that never sweeps
   abbrev pub unswept_made : Stepped S T
   unswept_made = record {
-    standing = record { machine = (turn_of m e.machine feed h).machine; account = unswept_after eq m e.machine h e.account };
+    standing = record {
+      machine = (turn_of m e.machine feed h).machine;
+      account = remembering (record_of m e.machine feed h) (unswept_after eq m e.machine h e.account);
+    };
     feed = (turn_of m e.machine feed h).feed;
     ended = (turn_of m e.machine feed h).ended;
   }
@@ -172,12 +176,12 @@ module _ {S T : Type 0} (eq : T → T → Bool) (m : PolicyModel T S) (e : Stand
     step_unswept =
         step_made eq m e feed h ready (ap is_over accounted ∙ within)
         ∙ λ j. record {
-          standing = record { machine = (turn_of m e.machine feed h).machine; account = accounted j };
+          standing = record { machine = (turn_of m e.machine feed h).machine; account = remembering (record_of m e.machine feed h) (accounted j) };
           feed = (turn_of m e.machine feed h).feed;
           ended = (turn_of m e.machine feed h).ended;
         }
 
-    pub step_account : (step eq m e feed h).standing.account ≡ unswept_after eq m e.machine h e.account
+    pub step_account : (step eq m e feed h).standing.account ≡ remembering (record_of m e.machine feed h) (unswept_after eq m e.machine h e.account)
     step_account = ap (λ (stepped : Stepped S T). stepped.standing.account) step_unswept
 
     -- so no sweep is counted

@@ -12,6 +12,8 @@ use Rattle.monitor_calls.specs.Service.{Job}
 use Rattle.turn_steps.specs.declared.look.Look.{Look}
 use Rattle.turn_steps.specs.declared.stop.Stop.{Stop}
 use Rattle.shared_terms.specs.Counts.{next_count}
+use Rattle.undo_log.specs.Past.{Past, past_of, past_tags, pushed}
+use Rattle.undo_log.specs.declared.record.Record.{Record}
 use Rattle.engine_trait.specs.Machine.{Machine, core_tags}
 use Rattle.engine_trait.specs.Turn.{job_at, preparation, rule_answer, rule_at, rule_inputs}
 use Rattle.engine_trait.specs.declared.ends.Counts.{Counts}
@@ -68,6 +70,8 @@ pub record Account (T : Type 0) : Type 0 where
   pub misses : ℕ
   pub sweeps : ℕ
   pub halt : Option Halt
+  -- the records of the last turns, by which they can be taken back
+  pub past : Past T T
 
 -- the account of an engine that keeps no rules: no tag has a word
 pub record IsUncached {T : Type 0} (account : Account T) : Type 0 where
@@ -79,9 +83,17 @@ pub record IsUncached {T : Type 0} (account : Account T) : Type 0 where
 abbrev pub counts_of : {T : Type 0} → Account T → Counts
 counts_of account = record { turns = account.turns; hits = account.hits; misses = account.misses; sweeps = account.sweeps }
 
--- an engine that keeps no rules, at the start
+-- an engine that keeps no rules and no records, at the start
 abbrev pub plain_account : {T : Type 0} → Account T
-plain_account = record { table = []; limit = 0; sets = [] ∷ []; ways = 0; turns = 0; hits = 0; misses = 0; sweeps = 0; halt = None }
+plain_account = record { table = []; limit = 0; sets = [] ∷ []; ways = 0; turns = 0; hits = 0; misses = 0; sweeps = 0; halt = None; past = past_of [] 0 }
+
+-- with room for so many records, and none kept yet
+abbrev pub with_history : {T : Type 0} → ℕ → Account T → Account T
+with_history most account = record account { past = past_of [] most }
+
+-- with one record more, the newest
+abbrev pub remembering : {T : Type 0} → Record T T → Account T → Account T
+remembering made account = record account { past = pushed account.past made }
 
 -- more tags have words than may have
 abbrev pub is_over : {T : Type 0} → Account T → Bool
@@ -136,10 +148,10 @@ module _ {T : Type 0} (eq : T → T → Bool) where
   rule_kept key (Ok outs) account = seeing (outs.pc ∷ outs.result ∷ []) (keeping key account)
   rule_kept key (Err why) account = account
 
-  -- a sweep, which is counted: just these tags have words from now on, and no rule is kept
+  -- a sweep, which is counted: just these tags and those in the records have words from now on, and no rule is kept
   abbrev pub swept : List T → Account T → Account T
   swept tags account =
-      record account { table = with_tags [] tags; sets = map (λ keys. []) account.sets; sweeps = next_count account.sweeps }
+      record account { table = with_tags [] (tags ++ past_tags account.past); sets = map (λ keys. []) account.sets; sweeps = next_count account.sweeps }
 
   -- A step in which tags get words. Where more would have one than may, a sweep comes first, which leaves theirs to the tags that
   -- stand somewhere.

@@ -4,8 +4,10 @@ use Rattle.policy_trait.specs.Model.{PolicyModel}
 use Rattle.tag_memory.specs.Hart.{reg_tag, reg_value}
 use Rattle.tag_memory.specs.Ram.{ram_bytes}
 use Rattle.turn_steps.specs.Feeds.{Tape}
-use Rattle.engine_trait.specs.Accounts.{account_after_turn, is_over}
+use Rattle.engine_trait.specs.Accounts.{account_after_turn, is_over, remembering}
 use Rattle.shared_terms.specs.Counts.{next_count}
+use Rattle.undo_log.specs.Past.{pushed}
+use Rattle.engine_trait.specs.History.{record_of}
 use Rattle.engine_trait.specs.Machine.{IsMachine, Machine, hart_at}
 use Rattle.engine_trait.specs.Standing.{Standing, Stepped, is_ready, out_of_words}
 use Rattle.engine_trait.specs.Turn.{turn_of}
@@ -35,21 +37,23 @@ is_made ends.TagsOut = false
 is_made ends.Memory = false
 
 module _ {S T : Type 0} (eq : T → T → Bool) (m : PolicyModel T S) (e : Standing S T) (feed : Tape) (h : ℕ) where
-  -- the step is the machine's turn, it is counted, and the engine runs on
+  -- the step is the machine's turn, it is counted and remembered, and the engine runs on
   pub record FollowsTurn (f : Stepped S T) : Type 0 where
     pub ready : is_ready e h ≡ true
     pub machine : f.standing.machine ≡ (turn_of m e.machine feed h).machine
     pub fed : f.feed ≡ (turn_of m e.machine feed h).feed
     pub ended : f.ended ≡ (turn_of m e.machine feed h).ended
-    pub account : f.standing.account ≡ account_after_turn eq m e.machine h e.account
+    pub account : f.standing.account ≡ remembering (record_of m e.machine feed h) (account_after_turn eq m e.machine h e.account)
     pub halt : f.standing.account.halt ≡ None
     pub turns : f.standing.account.turns ≡ next_count e.account.turns
+    pub past : f.standing.account.past ≡ pushed e.account.past (record_of m e.machine feed h)
 
   -- the turn would give more tags a word than may have one
   pub record RunsOut (f : Stepped S T) : Type 0 where
     pub ready : is_ready e h ≡ true
     pub over : is_over (account_after_turn eq m e.machine h e.account) ≡ true
     pub out : f ≡ out_of_words eq m e feed h
+    pub past : f.standing.account.past ≡ e.account.past
 
   -- nothing changed
   pub record StaysIdle (f : Stepped S T) : Type 0 where

@@ -1,5 +1,5 @@
 -- What a turn replaces, and what takes it back.
-use Rattle.std.specs.Prelude.{◌≡◌, ℕ, ◌-◌, ◌%◌, ◌==◌, Bool, true, false, List, [], ◌∷◌, ◌++◌, drop, length, map, take, Option, Some, None, Result, Ok, Err, if◌then◌else◌, slice_set}
+use Rattle.std.specs.Prelude.{◌≡◌, ℕ, zero, suc, ◌-◌, ◌%◌, ◌==◌, Bool, true, false, List, [], ◌∷◌, map, Option, Some, None, Result, Ok, Err, if◌then◌else◌, slice_set}
 use Rattle.rv_decode.specs.Groups.{a0}
 use Rattle.rv_decode.specs.declared.groups.Group.{Group}
 use Rattle.rv_decode.specs.declared.groups.Group.TheVariants as group
@@ -13,7 +13,7 @@ use Rattle.tag_memory.specs.Hart.{HartState, moved_to, reg_tag, reg_value}
 use Rattle.tag_memory.specs.Ram.{RamState, ram_tag, ram_word, with_ram_tag, with_ram_word}
 use Rattle.monitor_calls.specs.Service.{Job}
 use Rattle.turn_steps.specs.Effects.{with_tagged}
-use Rattle.turn_steps.specs.Feeds.{Tape, first_fed, with_fed}
+use Rattle.turn_steps.specs.Feeds.{Tape, first_fed, unread, with_fed}
 use Rattle.turn_steps.specs.declared.look.Look.{Look}
 use Rattle.turn_steps.specs.declared.stop.Stop.{Stop}
 use Rattle.undo_log.specs.declared.record.Record.{Record}
@@ -33,7 +33,7 @@ module _ {T : Type 0} where
   reg_before hart r = if r == 0 then None else Some (replaced r (reg_value hart r) (reg_tag hart r))
 
   -- a0, where a service answers
-  abbrev pub answer_before : HartState T → Option (Answer T) → Option (Replaced T)
+  abbrev pub answer_before : {U : Type 0} → HartState T → Option (Answer U) → Option (Replaced T)
   answer_before hart None = None
   answer_before hart (Some answer) = reg_before hart a0
 
@@ -48,14 +48,14 @@ module _ {T : Type 0} where
   word_before ram (access.Store addr width value) = Some (word_at ram (addr - addr % 4))
 
   -- the words of a service's range
-  abbrev pub words_before : RamState T → List (ℕ × ℕ × T) → List (Replaced T)
-  words_before ram words = map (λ (word : ℕ × ℕ × T). word_at ram word.0) words
+  abbrev pub words_before : {U : Type 0} → RamState T → List (ℕ × ℕ × U) → List (Replaced T)
+  words_before {U} ram words = map (λ (word : ℕ × ℕ × U). word_at ram word.0) words
 
 -- ---- the record of a turn
 
-module _ {T : Type 0} where
+module _ {T U : Type 0} where
   -- of a turn that left all but the pc
-  abbrev pub bare_record : CoreState T → ℕ → Record T T
+  abbrev pub bare_record : CoreState T → ℕ → Record T U
   bare_record core h = record {
     hart = h;
     pc = (hart_at core h).pc;
@@ -67,25 +67,30 @@ module _ {T : Type 0} where
     fed = None;
   }
 
-  -- of an instruction, by its group; these bytes are left in the feed
-  abbrev pub record_by : Group → CoreState T → List ℕ → ℕ → Look → Record T T
-  record_by group.Exit core left h look = bare_record core h
-  record_by group.Put core left h look = bare_record core h
-  record_by group.Get core left h look = record (bare_record core h) { reg = reg_before (hart_at core h) a0; fed = first_fed left }
-  record_by group.Break core left h look = record (bare_record core h) { reg = reg_before (hart_at core h) look.places.result }
-  record_by _ core left h look = record (bare_record core h) {
+  -- of an instruction, by its group; this is the next byte of the feed, if one is left
+  abbrev pub record_by : Group → CoreState T → Option ℕ → ℕ → Look → Record T U
+  record_by group.Exit core next h look = bare_record core h
+  record_by group.Put core next h look = bare_record core h
+  record_by group.Get core next h look = record (bare_record core h) { reg = reg_before (hart_at core h) a0; fed = next }
+  record_by group.Break core next h look = record (bare_record core h) { reg = reg_before (hart_at core h) look.places.result }
+  record_by _ core next h look = record (bare_record core h) {
     reg = reg_before (hart_at core h) look.places.result;
     word = word_before core.ram look.effect.access;
   }
 
-  -- of a service, or of any other instruction
-  abbrev pub record_done : CoreState T → List ℕ → ℕ → Look → Option (Job T) → Record T T
-  record_done core left h look (Some job) = record (bare_record core h) {
-    reg = answer_before (hart_at core h) job.plan.answer;
-    range = words_before core.ram job.words;
-    plan = Some job.plan;
+  -- of a service by this plan, which writes these words
+  abbrev pub record_served : {V : Type 0} → CoreState T → ℕ → List (ℕ × ℕ × V) → Plan U → Record T U
+  record_served core h words plan = record (bare_record core h) {
+    reg = answer_before (hart_at core h) plan.answer;
+    range = words_before core.ram words;
+    plan = Some plan;
   }
-  record_done core left h look None = record_by look.group core left h look
+
+module _ {T : Type 0} where
+  -- of a service, or of any other instruction
+  abbrev pub record_done : CoreState T → Option ℕ → ℕ → Look → Option (Job T) → Record T T
+  record_done core next h look (Some job) = record_served core h job.words job.plan
+  record_done core next h look None = record_by look.group core next h look
 
   -- of a turn that may have stopped before its effect
   abbrev pub record_or_bare : CoreState T → ℕ → Result (Record T T) Stop → Record T T
@@ -99,7 +104,7 @@ module _ {S T : Type 0} (m : PolicyModel T S) where
     look ← preparation m s h
     outs ← rule_answer m s h look
     job ← turn_job m s h look outs
-    Ok (record_done s.core feed.left h look job))
+    Ok (record_done s.core (first_fed feed.left) h look job))
 
 -- ---- what a record takes back
 
@@ -134,17 +139,6 @@ module _ {S T : Type 0} (m : PolicyModel T S) where
   abbrev pub undone : Machine S T → Record T T → Machine S T
   undone s r = record { policy = policy_undone s.policy r.plan; core = core_undone s.core r }
 
--- the last byte that was read is the next one again
-abbrev pub byte_unread : Tape → Tape
-byte_unread tape = record {
-  read = take (length tape.read - 1) tape.read;
-  left = drop (length tape.read - 1) tape.read ++ tape.left;
-}
-
-abbrev pub unread : Option ℕ → Tape → Tape
-unread None tape = tape
-unread (Some byte) tape = byte_unread tape
-
 -- ---- runs of which the last turn is taken back
 
 -- whether a list has a turn
@@ -158,6 +152,11 @@ abbrev pub without_last : List Item → List Item
 without_last [] = []
 without_last (turn h ∷ items) = if has_turn items then turn h ∷ without_last items else items
 without_last (fed byte ∷ items) = fed byte ∷ without_last items
+
+-- without its last turns, so many of them
+abbrev pub without_lasts : ℕ → List Item → List Item
+without_lasts zero items = items
+without_lasts (suc n) items = without_last (without_lasts n items)
 
 module _ {S T : Type 0} (m : PolicyModel T S) where
   -- the records of a run's turns, the oldest first

@@ -3,10 +3,10 @@ use Rattle.std.specs.Prelude.{◌≡◌, ℕ, ◌%◌, ◌<◌, List, All, lengt
 use Rattle.std.specs.Option.{ForSome}
 use Rattle.policy_trait.specs.Model.{IsCommitted, PolicyModel}
 use Rattle.tag_memory.specs.Ram.{IsPlace, ram_bytes}
-use Rattle.turn_steps.specs.Feeds.{Tape, with_fed}
+use Rattle.turn_steps.specs.Feeds.{Tape, unread, with_fed}
 use Rattle.undo_log.specs.declared.record.Record.{Record}
 use Rattle.undo_log.specs.declared.record.Replaced.{Replaced}
-use Rattle.engine_trait.specs.History.{AreMade, records_along, undone, unread}
+use Rattle.engine_trait.specs.History.{AreMade, records_along, undone}
 use Rattle.engine_trait.specs.Machine.{Machine}
 use Rattle.engine_trait.specs.Runs.{Item, run_along}
 use Rattle.engine_trait.specs.Turn.{Turned}

@@ -1,4 +1,5 @@
 pub mod Accounts
+pub mod Back
 pub mod Events
 pub mod EngineLaws
 pub mod History

@@ -2,7 +2,8 @@
 use Rattle.std.specs.Prelude.{◌≡◌, ◌⊎◌, ℕ, Bool, true, false, ◌&&◌, List, Option, Some, None, Ok, IsOk}
 use Rattle.policy_trait.specs.Model.{PolicyModel}
 use Rattle.monitor_calls.specs.Service.{Job}
-use Rattle.engine_trait.specs.Accounts.{Account, account_after_turn, account_out, after_rule, first_written, is_over, look_counted, rule_counted, seeing, served_tags, standing_tags, swept}
+use Rattle.engine_trait.specs.Accounts.{Account, account_after_turn, account_out, after_rule, first_written, is_over, look_counted, remembering, rule_counted, seeing, served_tags, standing_tags, swept, with_history}
+use Rattle.engine_trait.specs.History.{record_of}
 use Rattle.engine_trait.specs.Machine.{Machine, is_ready_in}
 use Rattle.engine_trait.specs.Turn.{job_at, preparation, rule_at, stopped_at, turn_of}
 use Rattle.engine_trait.specs.declared.ends.Halt.{Halt}
@@ -17,6 +18,10 @@ use Rattle.engine_trait.specs.declared.ends.TurnEnd.TheVariants as ends
 pub record Standing (S T : Type 0) : Type 0 where
   pub machine : Machine S T
   pub account : Account T
+
+-- with room for so many records, and none kept yet
+abbrev pub with_history_for : {S T : Type 0} → ℕ → Standing S T → Standing S T
+with_history_for most e = record e { account = with_history most e.account }
 
 -- after a step: the standing, the feed, and how the turn ended
 pub record Stepped (S T : Type 0) : Type 0 where
@@ -61,10 +66,13 @@ module _ {S T : Type 0} (eq : T → T → Bool) (m : PolicyModel T S) (e : Stand
     pub wants : Wants eq (served_tags m e.machine h) (seeing eq (first_written job)) (rule_counted eq m e.machine h e.account) account
 
 module _ {S T : Type 0} (eq : T → T → Bool) (m : PolicyModel T S) (e : Standing S T) (feed : Tape) (h : ℕ) where
-  -- the turn is made: it is the machine's, and it is counted
+  -- the turn is made: it is the machine's, it is counted, and what it replaced is remembered
   abbrev pub made_step : Stepped S T
   made_step = record {
-    standing = record { machine = (turn_of m e.machine feed h).machine; account = account_after_turn eq m e.machine h e.account };
+    standing = record {
+      machine = (turn_of m e.machine feed h).machine;
+      account = remembering (record_of m e.machine feed h) (account_after_turn eq m e.machine h e.account);
+    };
     feed = (turn_of m e.machine feed h).feed;
     ended = (turn_of m e.machine feed h).ended;
   }

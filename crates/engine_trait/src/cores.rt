@@ -32,9 +32,9 @@ pub const MOST_HARTS: usize = 8;
 /// Harts, their stops, and memory, for any type of tags: what every engine stands on. Contracts see it as a `CoreState`.
 #[derive(Drop)]
 pub struct Core<T: Copy> {
-    harts: Vec<Hart<T>>,
-    stops: [Option<Stop>; MOST_HARTS],
-    ram: Ram<T>,
+    pub(crate) harts: Vec<Hart<T>>,
+    pub(crate) stops: [Option<Stop>; MOST_HARTS],
+    pub(crate) ram: Ram<T>,
 }
 
 impl<T: Copy> Model for Core<T> {

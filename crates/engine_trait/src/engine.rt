@@ -4,7 +4,9 @@ ghost use Rattle.std.specs.Prelude.{◌≡◌, ◌≢◌, ◌+◌, ◌%◌, ◌<
 ghost use Rattle.tag_memory.specs.Hart.{reg_tag, reg_value};
 ghost use Rattle.tag_memory.specs.Ram.{ram_bytes, ram_tag, ram_word};
 ghost use Rattle.engine_trait.specs.Machine.{IsMachine, hart_at, stop_at};
+ghost use Rattle.undo_log.specs.Past.{newest};
 ghost use Rattle.engine_trait.specs.Accounts.{counts_of, is_over};
+ghost use Rattle.engine_trait.specs.Back.{back};
 ghost use Rattle.engine_trait.specs.Standing.{GivesUp, IsFailure, StopsOnly, Unchanged, is_ready, step};
 
 use crate::ends::{Counts, Halt, LoadEnd, TurnEnd};
@@ -52,6 +54,22 @@ pub trait Engine {
         ensures failure { (why : Stop) → IsFailure why → result ≡ TurnEnd.Stopped why
             → StopsOnly (standing self.old) feed.old h why (standing self.new) feed.new }
         ensures busy { result ≢ TurnEnd.Idle }
+        ensures harts { length (standing self.new).machine.core.harts
+            ≡ length (standing self.old).machine.core.harts }
+        ensures ram { ram_bytes (standing self.new).machine.core.ram
+            ≡ ram_bytes (standing self.old).machine.core.ram };
+
+    /// How many turns can be taken back: those that are remembered, 0 to 65,536.
+    fn remembered(&self) -> u32
+        ensures { result ≡ length (standing self.now).account.past.kept };
+
+    /// Takes the newest turn back that is remembered; `false` exactly where none is. A byte that it read is the next one of the feed
+    /// again: the last that was read of it, if this is the feed that the turn was made with. What the turn put out stays, and so do the
+    /// counts and the kept rules. It takes no memory.
+    fn back(&mut self, feed: &mut Feed) -> bool
+        ensures back { back Self.P.model (standing self.old) feed.old
+            ≡ record { standing = standing self.new; feed = feed.new } }
+        ensures some { result ≡ is_some (newest (standing self.old).account.past) }
         ensures harts { length (standing self.new).machine.core.harts
             ≡ length (standing self.old).machine.core.harts }
         ensures ram { ram_bytes (standing self.new).machine.core.ram

@@ -8,6 +8,7 @@ mod cores;
 mod ends;
 mod engine;
 mod law;
+mod recording;
 
 pub use cores::{Core, MOST_HARTS};
 pub use ends::{Counts, Halt, LoadEnd, TurnEnd};

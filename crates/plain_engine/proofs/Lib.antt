@@ -1,1 +1,3 @@
+mod NotedLemmas
 mod PlainLemmas
+mod RememberingLemmas

@@ -1,5 +1,5 @@
 -- Steps of an engine that keeps no rules, by where the turn ended.
-use Rattle.std.proofs.Common.{◌≡◌, ℕ, Bool, true, false, Option, Some, None, Result, Ok, Err, IsOk, refl, ap, sym, ◌∙◌, inl, inr, subst, if◌then◌else◌}
+use Rattle.std.proofs.Common.{◌≡◌, ℕ, [], Bool, true, false, Option, Some, None, Result, Ok, Err, IsOk, refl, ap, sym, ◌∙◌, inl, inr, subst, if◌then◌else◌}
 use Rattle.std.proofs.lemmas.Bool.{false≢true}
 use Rattle.policy_trait.specs.Model.{PolicyModel}
 use Rattle.shared_terms.specs.Steps.{◌>>=◌}
@@ -10,8 +10,10 @@ use Rattle.turn_steps.specs.Feeds.{Tape}
 use Rattle.turn_steps.specs.Looks.{is_call}
 use Rattle.turn_steps.specs.declared.look.Look.{Look}
 use Rattle.turn_steps.specs.declared.stop.Stop.{Stop}
-use Rattle.engine_trait.specs.Accounts.{Account, IsUncached, account_after_turn, is_over}
+use Rattle.undo_log.specs.Past.{past_of}
+use Rattle.engine_trait.specs.Accounts.{Account, IsUncached, account_after_turn, is_over, remembering}
 use Rattle.shared_terms.specs.Counts.{next_count}
+use Rattle.engine_trait.specs.History.{record_of}
 use Rattle.engine_trait.specs.Machine.{Machine, hart_at}
 use Rattle.engine_trait.specs.Standing.{GivesUp, Standing, Stepped, is_ready, step, wanting}
 use Rattle.engine_trait.specs.Turn.{Turned, rule_answer, turn_effect, is_job, is_served, job_at, or_unserved, turn_job, preparation, service_on, settlement, stopped_at, turn_of}
@@ -19,6 +21,7 @@ use Rattle.engine_trait.specs.declared.ends.TurnEnd.{TurnEnd}
 use Rattle.engine_trait.specs.declared.ends.TurnEnd.TheVariants as ends
 use Rattle.engine_trait.proofs.AccountLemmas.{accounted_checked, accounted_missed, never_over, rule_counted_missed}
 use Rattle.engine_trait.proofs.StepLemmas.{plain_step, ready_parts}
+use Rattle.engine_trait.proofs.PastLemmas.{remembering_none}
 use Rattle.engine_trait.proofs.TurnLemmas.{job_ruled, rule_looked, turn_checked, turn_refused, turn_ruled}
 use Rattle.plain_engine.specs.Plain.{EndsService, after_asked, after_look_up, after_turn, allowed_turn, given_up}
 
@@ -56,15 +59,18 @@ pub told : {S T : Type 0} (s : Stepped S T) (e f : Standing S T) (feed fed : Tap
     → f ≡ e → fed ≡ feed → ended ≡ end → s ≡ record { standing = f; feed = fed; ended = ended }
 told s e f feed fed end ended s_is f_is fed_is ended_is = s_is ∙ λ j. record { standing = sym f_is j; feed = sym fed_is j; ended = sym ended_is j }
 
-module _ {S T : Type 0} (eq : T → T → Bool) (m : PolicyModel T S) (e : Standing S T) (feed : Tape) (h : ℕ) (plain : IsUncached e.account) (ready : is_ready e h ≡ true) where
+-- of an engine that keeps no record
+module _ {S T : Type 0} (eq : T → T → Bool) (m : PolicyModel T S) (e : Standing S T) (feed : Tape) (h : ℕ) (plain : IsUncached e.account) (bare : e.account.past ≡ past_of [] 0) (ready : is_ready e h ≡ true) where
   abbrev stepped_to : Account T → Turned S T → Stepped S T
   stepped_to account turned = record { standing = record { machine = turned.machine; account = account }; feed = turned.feed; ended = turned.ended }
 
-  by_turn : (account : Account T) (turned : Turned S T) → account_after_turn eq m e.machine h e.account ≡ account → turn_of m e.machine feed h ≡ turned
-      → step eq m e feed h ≡ stepped_to account turned
-  by_turn account turned counted_is turned_is =
+  by_turn : (account : Account T) (turned : Turned S T) → account.past ≡ past_of [] 0 → account_after_turn eq m e.machine h e.account ≡ account
+      → turn_of m e.machine feed h ≡ turned → step eq m e feed h ≡ stepped_to account turned
+  by_turn account turned none counted_is turned_is =
+      let made = record_of m e.machine feed h in
       plain_step eq m e feed h plain ready
-      ∙ ap (λ a. stepped_to a (turn_of m e.machine feed h)) counted_is
+      ∙ ap (λ a. stepped_to (remembering made a) (turn_of m e.machine feed h)) counted_is
+      ∙ ap (λ a. stepped_to a (turn_of m e.machine feed h)) (remembering_none made account none)
       ∙ ap (λ t. stepped_to account t) turned_is
 
   -- one of the checks failed
@@ -72,7 +78,7 @@ module _ {S T : Type 0} (eq : T → T → Bool) (m : PolicyModel T S) (e : Stand
       → step eq m e feed h ≡ record { standing = f; feed = feed; ended = ended }
   checked_step why f ended looked f_is ended_is =
       told (step eq m e feed h) (after_turn e (stopped_at e.machine h why)) f feed feed (ends.Stopped why) ended
-      (by_turn (record e.account { turns = next_count e.account.turns }) (settlement m e.machine feed h (Err why))
+      (by_turn (record e.account { turns = next_count e.account.turns }) (settlement m e.machine feed h (Err why)) bare
       (accounted_checked eq m e.machine h e.account why plain looked)
       (turn_checked m e.machine feed h why (ready_parts e h ready).1 looked))
       f_is refl ended_is
@@ -86,7 +92,7 @@ module _ {S T : Type 0} (eq : T → T → Bool) (m : PolicyModel T S) (e : Stand
       → step eq m e feed h ≡ record { standing = f; feed = feed; ended = ended }
   refused_step look why f ended looked ruled f_is ended_is =
       told (step eq m e feed h) (after_asked e (stopped_at e.machine h why)) f feed feed (ends.Stopped why) ended
-      (by_turn after_rule (settlement m e.machine feed h (Err why))
+      (by_turn after_rule (settlement m e.machine feed h (Err why)) bare
       (accounted_missed eq m e.machine h e.account look plain looked)
       (turn_refused m e.machine feed h look why (ready_parts e h ready).1 looked ruled))
       f_is refl ended_is
@@ -98,7 +104,7 @@ module _ {S T : Type 0} (eq : T → T → Bool) (m : PolicyModel T S) (e : Stand
       → step eq m e feed h ≡ record { standing = f; feed = fed; ended = ended }
   allowed_step look outs turned f fed ended looked ruled turned_is f_is fed_is ended_is =
       told (step eq m e feed h) (after_asked e turned.machine) f turned.feed fed turned.ended ended
-      (by_turn after_rule turned
+      (by_turn after_rule turned bare
       (accounted_missed eq m e.machine h e.account look plain looked)
       (turn_ruled m e.machine feed h look outs (ready_parts e h ready).1 looked ruled ∙ turned_is))
       f_is fed_is ended_is

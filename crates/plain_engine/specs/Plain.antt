@@ -1,13 +1,17 @@
 -- The engine that asks its policy at every turn, and keeps no rules.
-use Rattle.std.specs.Prelude.{◌≡◌, ℕ, ◌+◌, ◌-◌, ◌^◌, min, List, Option, Some, None, Ok}
+use Rattle.std.specs.Prelude.{◌≡◌, ℕ, ◌+◌, ◌-◌, ◌^◌, min, List, [], Option, Some, None, Ok}
 use Rattle.policy_trait.specs.Model.{PolicyModel}
 use Rattle.shared_terms.specs.Steps.{◌>>=◌}
 use Rattle.policy_trait.specs.declared.rules.Outs.{Outs}
 use Rattle.tag_memory.specs.Hart.{HartState}
 use Rattle.tag_memory.specs.Ram.{RamState}
-use Rattle.turn_steps.specs.Feeds.{Tape}
+use Rattle.turn_steps.specs.Feeds.{Tape, first_fed}
 use Rattle.turn_steps.specs.declared.look.Look.{Look}
+use Rattle.undo_log.specs.Past.{Past, past_of}
+use Rattle.undo_log.specs.declared.record.Record.{Record}
 use Rattle.engine_trait.specs.Accounts.{IsUncached, plain_account}
+use Rattle.engine_trait.specs.Back.{awake}
+use Rattle.engine_trait.specs.History.{record_done, record_or_bare, undone}
 use Rattle.shared_terms.specs.Counts.{next_count}
 use Rattle.engine_trait.specs.Machine.{CoreState, IsMachine, Machine, fresh_core}
 use Rattle.engine_trait.specs.Standing.{Standing}
@@ -32,10 +36,12 @@ engine_of policy core asked unasked halted = record {
   account = record plain_account { turns = capped (asked + unasked); misses = capped (asked + unended halted); halt = halted };
 }
 
--- a sound machine, and the account of an engine that keeps no rules
+-- a sound machine, and the account of an engine that keeps neither rules nor records, and so never runs out of tag numbers
 pub record IsPlain {S T : Type 0} (m : PolicyModel T S) (e : Standing S T) : Type 0 where
   pub machine : IsMachine m e.machine
   pub account : IsUncached e.account
+  pub past : e.account.past ≡ past_of [] 0
+  pub words : awake e.account.halt ≡ e.account.halt
 
 -- the machine of these parts at the start: no hart has stopped
 abbrev pub machine_of : {S T : Type 0} → S → List (HartState T) → RamState T → Machine S T
@@ -64,6 +70,19 @@ given_up e = record e { account = record e.account { halt = Some halt.Memory } }
 -- what is left of a turn that the rule allowed
 abbrev pub allowed_turn : {S T : Type 0} → PolicyModel T S → Machine S T → Tape → ℕ → Look → Outs T → Turned S T
 allowed_turn m s feed h look outs = settlement m s feed h (turn_job m s h look outs >>= λ job. Ok (turn_effect m s feed h look outs job))
+
+-- what a turn that the rule allowed replaces
+abbrev pub allowed_record : {S T : Type 0} → PolicyModel T S → Machine S T → Tape → ℕ → Look → Outs T → Record T T
+allowed_record m s feed h look outs =
+    record_or_bare s.core h (turn_job m s h look outs >>= λ job. Ok (record_done s.core (first_fed feed.left) h look job))
+
+-- the engine after a turn was taken back by its record; the counts stay
+abbrev pub turned_back : {S T : Type 0} → PolicyModel T S → Standing S T → Record T T → Standing S T
+turned_back m e made = record { machine = undone m e.machine made; account = record e.account { halt = awake e.account.halt } }
+
+-- the engine with these records
+abbrev pub with_past : {S T : Type 0} → Standing S T → Past T T → Standing S T
+with_past e past = record e { account = record e.account { past = past } }
 
 -- a call of a policy's service that the rule allowed ended as defined, and the look-up and the turn count
 pub record EndsService {S T : Type 0} (m : PolicyModel T S) (e : Standing S T) (h : ℕ) (look : Look) (outs : Outs T) (ended : TurnEnd) (f : Standing S T) : Type 0 where

@@ -8,6 +8,7 @@ ghost use Rattle.turn_steps.specs.Effects.{IsSound};
 ghost use Rattle.turn_steps.specs.Feeds.{Tape, tape_of};
 ghost use Rattle.tag_memory.specs.Hart.{reg_tag, reg_value};
 ghost use Rattle.tag_memory.specs.Ram.{IsPlace, ram_bytes, ram_tag, ram_word};
+ghost use Rattle.undo_log.specs.Past.{past_of};
 ghost use Rattle.engine_trait.specs.Accounts.{IsUncached};
 ghost use Rattle.engine_trait.specs.Machine.{IsMachine, hart_at, stop_at};
 ghost use Rattle.engine_trait.specs.Standing.{GivesUp, IsFailure, StopsOnly, Unchanged, is_ready, step};
@@ -29,9 +30,9 @@ use turn_steps::{Look, Peeks, is_call};
 /// An engine that keeps tags as values and asks its policy at every turn. Contracts see it as a `Standing`.
 #[derive(Drop)]
 pub struct Plain<P: Policy> {
-    alloc: Global,
-    policy: P,
-    core: Core<P::Tag>,
+    pub(crate) alloc: Global,
+    pub(crate) policy: P,
+    pub(crate) core: Core<P::Tag>,
     // Turns that ended once their rule was looked up, and those that a check stopped before that.
     asked: u64,
     unasked: u64,
@@ -83,13 +84,22 @@ impl<P: Policy> Plain<P> {
 
     /// Whether hart `h` can have a turn: neither it nor the engine has stopped.
     #[inline(always)]
-    fn is_ready(&self, h: u32) -> bool
+    pub(crate) fn is_ready(&self, h: u32) -> bool
         requires { h < length self.now.machine.core.harts }
         ensures ready { result ≡ is_ready self.now h }
         ensures running { IsTrue result → self.now.account.halt ≡ None }
         ensures uncached { IsUncached self.now.account }
+        ensures unremembered { self.now.account.past ≡ past_of [] 0 }
     {
         self.halt.is_none() && self.core.stop(h).is_none()
+    }
+
+    /// What the proofs of an engine above this one cite: that it remembers no turn.
+    #[inline(always)]
+    pub(crate) fn forgets(&self)
+        ensures { self.now.account.past ≡ past_of [] 0 }
+    {
+        let _halt = &self.halt;
     }
 
     /// Whether the service that is called, if one is, is one that the machine or the policy offers.
@@ -118,7 +128,7 @@ impl<P: Policy> Plain<P> {
     /// What hart `h` is about to do, where every check passes and it makes neither an ECALL nor an EBREAK; `None` else. The policy is one
     /// that refuses no look.
     #[inline(always)]
-    fn step_look(&self, h: u32) -> Option<Look>
+    pub(crate) fn step_look(&self, h: u32) -> Option<Look>
         requires hart { h < length self.now.machine.core.harts }
         requires free { P.model.peeks self.now.machine.policy ≡ false }
         ensures value { result ≡ unless_system
@@ -138,7 +148,7 @@ impl<P: Policy> Plain<P> {
     /// The checks of hart `h`'s turn.
     #[inline(always)]
     #[tactic(auto, unfolding(engine_trait::specs::Turn::preparation))]
-    fn prepare(&self, h: u32) -> Result<Look, Stop>
+    pub(crate) fn prepare(&self, h: u32) -> Result<Look, Stop>
         requires { h < length self.now.machine.core.harts }
         ensures value { result ≡ preparation P.model self.now.machine h }
         ensures within { OnOk result ((hart_at self.now.machine.core h).pc + 4
@@ -163,7 +173,7 @@ impl<P: Policy> Plain<P> {
     /// The answer of the rule, which reads the tags where they stand.
     #[inline(always)]
     #[tactic(auto, unfolding(engine_trait::specs::Turn::rule_answer))]
-    fn ask(&self, h: u32, look: &Look) -> Result<Outs<P::Tag>, Stop>
+    pub(crate) fn ask(&self, h: u32, look: &Look) -> Result<Outs<P::Tag>, Stop>
         requires hart { h < length self.now.machine.core.harts }
         requires within { (hart_at self.now.machine.core h).pc + 4
             ≤ ram_bytes self.now.machine.core.ram }
@@ -190,7 +200,7 @@ impl<P: Policy> Plain<P> {
     }
 
     /// Counts a turn that a check stopped, and stops hart `h`.
-    fn stop_unasked(&mut self, h: u32, why: Stop) -> TurnEnd
+    pub(crate) fn stop_unasked(&mut self, h: u32, why: Stop) -> TurnEnd
         requires { h < length self.old.machine.core.harts }
         ensures standing { self.new ≡ after_turn self.old (stopped_at self.old.machine h why) }
         ensures end { result ≡ TurnEnd.Stopped why }
@@ -211,7 +221,7 @@ impl<P: Policy> Plain<P> {
     /// Counts a turn that was stopped once its rule was looked up, and stops hart `h`.
     #[cold]
     #[inline(never)]
-    fn stop_asked(&mut self, h: u32, why: Stop) -> TurnEnd
+    pub(crate) fn stop_asked(&mut self, h: u32, why: Stop) -> TurnEnd
         requires { h < length self.old.machine.core.harts }
         ensures standing { self.new ≡ after_asked self.old (stopped_at self.old.machine h why) }
         ensures end { result ≡ TurnEnd.Stopped why }
@@ -222,7 +232,7 @@ impl<P: Policy> Plain<P> {
     }
 
     /// Stops the engine as a whole, since memory ran out in a turn that looked its rule up.
-    fn give_up(&mut self) -> TurnEnd
+    pub(crate) fn give_up(&mut self) -> TurnEnd
         requires { self.old.account.halt ≡ None }
         ensures standing { self.new ≡ given_up (after_look_up self.old) }
         ensures end { result ≡ TurnEnd.Memory }
@@ -233,7 +243,13 @@ impl<P: Policy> Plain<P> {
 
     /// The effect of an allowed instruction that is no service of the policy.
     #[inline(always)]
-    fn effect(&mut self, h: u32, feed: &mut Feed, look: &Look, outs: Outs<P::Tag>) -> TurnEnd
+    pub(crate) fn effect(
+        &mut self,
+        h: u32,
+        feed: &mut Feed,
+        look: &Look,
+        outs: Outs<P::Tag>,
+    ) -> TurnEnd
         requires hart { h < length self.old.machine.core.harts }
         requires own { is_call look.now.group ≡ false }
         requires sound { IsSound (ram_bytes self.old.machine.core.ram) look.now.effect }
@@ -254,7 +270,7 @@ impl<P: Policy> Plain<P> {
 
     /// The same for an instruction that is neither an ECALL nor an EBREAK: the turn runs on, and the feed stays.
     #[inline(always)]
-    fn step(&mut self, h: u32, look: &Look, outs: Outs<P::Tag>) -> TurnEnd
+    pub(crate) fn step(&mut self, h: u32, look: &Look, outs: Outs<P::Tag>) -> TurnEnd
         requires hart { h < length self.old.machine.core.harts }
         requires plain { is_system look.now.group ≡ false }
         requires sound { IsSound (ram_bytes self.old.machine.core.ram) look.now.effect }
@@ -275,7 +291,12 @@ impl<P: Policy> Plain<P> {
 
     /// The policy's service that hart `h` calls, up to its effect.
     #[tactic(auto, unfolding(engine_trait::specs::Turn::service_on))]
-    fn plan(&self, h: u32, look: &Look, outs: Outs<P::Tag>) -> Result<Job<P::Tag>, ServeEnd>
+    pub(crate) fn plan(
+        &self,
+        h: u32,
+        look: &Look,
+        outs: Outs<P::Tag>,
+    ) -> Result<Job<P::Tag>, ServeEnd>
         requires hart { h < length self.now.machine.core.harts }
         requires known { IsTrue (P.model.knows self.now.machine.policy look.now.service) }
         ensures ok { IfOk result (λ job. service_on P.model self.now.machine h look.now outs
@@ -301,7 +322,13 @@ impl<P: Policy> Plain<P> {
     }
 
     /// Carries out a service that nothing refused. The policy takes note first, since that alone can fail.
-    fn carry_out(&mut self, h: u32, look: &Look, outs: Outs<P::Tag>, job: &Job<P::Tag>) -> TurnEnd
+    pub(crate) fn carry_out(
+        &mut self,
+        h: u32,
+        look: &Look,
+        outs: Outs<P::Tag>,
+        job: &Job<P::Tag>,
+    ) -> TurnEnd
         requires hart { h < length self.old.machine.core.harts }
         requires given { IsGiven P.model self.old.machine.policy job.now.plan }
         requires places { All (λ word. IsPlace (ram_bytes self.old.machine.core.ram) word.0)
@@ -458,6 +485,19 @@ impl<P: Policy> Engine for Plain<P> {
             Err(why) => return self.stop_asked(h, why),
         };
         self.step(h, &look, outs)
+    }
+
+    fn remembered(&self) -> u32 {
+        // Serves the proof alone: what reads the engine knows the invariant, that it keeps no record.
+        let _halt = &self.halt;
+        0
+    }
+
+    /// No turn is remembered.
+    fn back(&mut self, _feed: &mut Feed) -> bool {
+        // Serves the proof alone: what reads the engine knows the invariant, that it keeps no record.
+        let _halt = &self.halt;
+        false
     }
 
     fn harts(&self) -> u32 {

@@ -34,7 +34,7 @@ use Rattle.policy_choice.specs.declared.basis.Basis.{Basis}
 use Rattle.pump_cli.specs.Elf.{OkWith, SavesElf, start_byte}
 use Rattle.pump_cli.specs.Reading.{ElfFiles, both_taken, elf_read, elf_taken, file_limit, tags_taken, within_limit}
 use Rattle.pump_cli.specs.declared.refusal.Refusal.{Refusal}
-use Rattle.pump_cli.proofs.SafeRunLemmas.{each_small}
+use Rattle.pump_cli.proofs.EachRunLemmas.{each_small}
 use Rattle.pump_cli.proofs.TaskLemmas.{elf_is, tags_are}
 
 -- the type of what a function takes

@@ -1,13 +1,16 @@
 -- What a run shows is the same whatever its secret file holds.
-use Rattle.std.proofs.Common.{◌≡◌, ℕ, ◌≤◌, Bool, true, List, length, nat_le, Option, Some, None, Result, Ok, Err, if◌then◌else◌, arith, refl, ap, sym, ◌∙◌}
+use Rattle.std.proofs.Common.{◌≡◌, ℕ, ◌≤◌, Bool, true, false, List, [], length, nat_le, Option, Some, None, Result, Ok, Err, if◌then◌else◌, arith, refl, ap, sym, ◌∙◌}
 use Rattle.std.proofs.lemmas.Bool.Decides.{nat_tests}
 use Rattle.host_io.specs.Bytes.{AreBytes, TellBytes}
 use Rattle.image_format.specs.Conditions.{IsImage}
 use Rattle.image_format.specs.Picture.{Picture}
-use Rattle.policy_choice.specs.declared.basis.Basis.{Basis}
 use Rattle.turn_steps.specs.Feeds.{tape_of}
+use Rattle.undo_log.specs.Past.{past_of}
+use Rattle.engine_trait.specs.Accounts.{Account, is_over, plain_account}
 use Rattle.engine_trait.specs.Standing.{Standing}
-use Rattle.rounds.specs.Same.{ShowsSame}
+use Rattle.engine_trait.specs.declared.ends.Halt.TheVariants as halt
+use Rattle.cache_size.specs.Sizes.{keeps_no_rule}
+use Rattle.word_loader.specs.CachedStart.{cached_account}
 use Rattle.tag_loader.specs.Start.{start_harts, start_tags}
 use Rattle.pump_loader.specs.Wholes.{HiddenState, HiddenTag, hidden, hidden_eq, hidden_state, whole_if}
 use Rattle.pump_line.specs.Task.{RunTask, Task, run, task_of}
@@ -18,12 +21,12 @@ use Rattle.secret_props.proofs.HiddenLemmas.{AlikeHiddenPlans, hidden_hides}
 use Rattle.secret_props.proofs.StartLemmas.{starts_alike}
 use Rattle.pump_cli.specs.Endings.{Outcome}
 use Rattle.pump_cli.specs.Hidden.{DifferInSecret, IsTaken}
-use Rattle.pump_cli.specs.Program.{after_secret, basis_of, course_by, course_under, outcome_of_content, outcome_of_fed, outcome_of_image, outcome_of_input, outcome_of_run, outcome_of_words, program, start_by, with_secret}
-use Rattle.pump_cli.specs.Reading.{ContentOf, StartFiles, file_limit, image_read, input_read, secret_held, secret_read}
+use Rattle.pump_cli.specs.Program.{after_secret, basis_of, course_under, outcome_of_content, outcome_of_fed, outcome_of_image, outcome_of_input, outcome_of_run, outcome_of_words, program, start_by, with_secret}
+use Rattle.pump_cli.specs.Reading.{file_limit, image_read, input_read, secret_held, secret_read}
 use Rattle.pump_cli.specs.declared.refusal.Refusal.{Refusal}
 use Rattle.pump_cli.specs.declared.refusal.Refusal.TheVariants as refusals
-use Rattle.pump_cli.proofs.BareLemmas.{chosen_outcome, outcome_if, same_outcome}
-use Rattle.pump_cli.proofs.SafeRunLemmas.{file_is_image}
+use Rattle.pump_cli.proofs.BareLemmas.{chosen_outcome, same_outcome}
+use Rattle.pump_cli.proofs.EachRunLemmas.{file_is_image}
 use Rattle.pump_cli.proofs.TaskLemmas.{start_from}
 
 module _ (task : RunTask) (is_chosen : task.choice.secret ≡ true) (g : Picture) where
@@ -31,9 +34,24 @@ module _ (task : RunTask) (is_chosen : task.choice.secret ≡ true) (g : Picture
     abbrev from : List ℕ → Standing HiddenState HiddenTag
     from bytes = start_by hidden_eq hidden (hidden_state (basis_of task.choice) bytes g) task g
 
+    -- a run remembers no turn, whether rules are kept or not, and whether its start is out of tag numbers or not
+    forgets_by : (none over : Bool) (kept : Account HiddenTag) → kept.past ≡ past_of [] 0
+        → (let account = if none then plain_account else kept in if over then record account { halt = Some halt.TagNumbers } else account).past ≡ past_of [] 0
+    forgets_by true true kept is = refl
+    forgets_by true false kept is = refl
+    forgets_by false true kept is = is
+    forgets_by false false kept is = is
+
     starts : AlikeStandings shows SameBeside (from one) (from other)
     unfolding start_harts start_tags
-    starts = record { machine = starts_alike (basis_of task.choice) g is one other; account = refl }
+    starts =
+        let kept = cached_account hidden_eq hidden (hidden_state (basis_of task.choice) one g) g task.cache.sets task.cache.ways task.tags in
+        let account = if keeps_no_rule task.cache then plain_account else kept in
+        record {
+          machine = starts_alike (basis_of task.choice) g is one other;
+          account = refl;
+          forgets = forgets_by (keeps_no_rule task.cache) (is_over account) kept refl;
+        }
 
     pub hidden_run : (fed : List ℕ) → outcome_of_run task other g fed ≡ outcome_of_run task one g fed
     hidden_run fed =

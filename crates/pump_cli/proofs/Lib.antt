@@ -5,6 +5,7 @@ pub mod CauseLemmas
 pub mod DisWayLemmas
 pub mod ElfLemmas
 pub mod ElfWayLemmas
+pub mod EachRunLemmas
 pub mod EndLemmas
 pub mod GatheringLemmas
 mod HiddenLemmas

@@ -23,7 +23,7 @@ use Rattle.pump_cli.specs.ListedBack.{AreLinesOf, IsLineOf, ListsBack, PlacedWor
 use Rattle.pump_cli.specs.Program.{outcome_of_content, outcome_of_image, outcome_of_listing, outcome_of_words, program}
 use Rattle.pump_cli.specs.Reading.{image_read}
 use Rattle.pump_cli.specs.declared.refusal.Refusal.{Refusal}
-use Rattle.pump_cli.proofs.SafeRunLemmas.{file_is_image}
+use Rattle.pump_cli.proofs.EachRunLemmas.{file_is_image}
 
 -- ---- the words of a segment
 

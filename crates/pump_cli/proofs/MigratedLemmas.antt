@@ -16,7 +16,7 @@ use Rattle.pump_cli.specs.Calls.{calls_of_task}
 use Rattle.pump_cli.specs.Migrated.{SavesMigrated}
 use Rattle.pump_cli.specs.Reading.{image_read, made_read}
 use Rattle.pump_cli.specs.declared.refusal.Refusal.{Refusal}
-use Rattle.pump_cli.proofs.SafeRunLemmas.{file_is_image}
+use Rattle.pump_cli.proofs.EachRunLemmas.{file_is_image}
 
 pub saves_migrated : (task : SaveTask) (bytes : List ℕ) (g : Picture) → AreBytes bytes → task.making ≡ Migrate → image_read bytes ≡ Ok g → SavesMigrated task bytes g
 saves_migrated task bytes g are_bytes migrates read = record {

@@ -3,7 +3,8 @@ use Rattle.std.proofs.Common.{◌≡◌, ℕ, zero, suc, ◌+◌, Bool, true, fa
 use Rattle.host_io.specs.Pieces.{Piece}
 use Rattle.policy_trait.specs.Model.{PolicyModel}
 use Rattle.turn_steps.specs.Feeds.{Tape}
-use Rattle.engine_trait.specs.Accounts.{IsUncached, account_after_turn}
+use Rattle.engine_trait.specs.Accounts.{IsUncached, account_after_turn, remembering}
+use Rattle.engine_trait.specs.History.{record_of}
 use Rattle.engine_trait.specs.EngineLaws.{is_made}
 use Rattle.engine_trait.specs.Machine.{Machine, is_ready_in}
 use Rattle.engine_trait.specs.Standing.{Standing, Stepped, idle, is_ready, is_running, made_step, step}
@@ -58,7 +59,9 @@ module _ {S T : Type 0} (eq : T → T → Bool) (m : PolicyModel T S) (policy : 
           machine = ap (λ (s : Machine S T). (turn_of m s feed h).machine) beside.machine;
           policy_is = policy_stays ∙ beside.policy_is;
           halt = accounted_halt eq m d.machine h d.account ∙ beside.halt ∙ sym (accounted_halt eq m e.machine h e.account);
-          one_word = subst (λ p. HasOneWord (m.plain p) (account_after_turn eq m e.machine h e.account)) (sym policy_stays) account_plain;
+          one_word =
+              subst (λ p. HasOneWord (m.plain p) (remembering (record_of m e.machine feed h) (account_after_turn eq m e.machine h e.account))) (sym policy_stays)
+              (record { table = account_plain.table; some_tags = account_plain.some_tags });
           uncached = subst (λ (stepped : Stepped S T). IsUncached stepped.standing.account) (plain_step eq m d feed h beside.uncached ready) (plain_stays eq m d feed h beside.uncached);
         };
         feed = ap (λ (s : Machine S T). (turn_of m s feed h).feed) beside.machine;

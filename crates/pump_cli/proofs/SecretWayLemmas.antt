@@ -1,5 +1,5 @@
 -- The answer of `run` and `shell` where the secret file ends them.
-use Rattle.std.proofs.Common.{◌≡◌, ℕ, List, [], ◌∷◌, ◌++◌, Option, Some, None, Result, Ok, Err, IfOk, IfSome, refl, sym, ap, subst, ◌∙◌}
+use Rattle.std.proofs.Common.{◌≡◌, ℕ, List, [], ◌∷◌, Option, Some, None, Result, Ok, Err, IfOk, IfSome, refl, sym, ap, subst, ◌∙◌}
 use Rattle.shared_terms.specs.Counts.{next_count}
 use Rattle.host_io.specs.Environment.{Environment}
 use Rattle.image_format.specs.Picture.{Picture}
@@ -20,7 +20,6 @@ use Rattle.pump_cli.specs.declared.reading.EarlyEnd.TheVariants as early_end
 use Rattle.pump_cli.specs.declared.refusal.Refusal.{Refusal}
 use Rattle.pump_cli.specs.declared.refusal.Refusal.TheVariants as refusals
 use Rattle.pump_cli.specs.declared.status.Status.{Status}
-use Rattle.pump_cli.specs.declared.status.Status.TheVariants as statuses
 use Rattle.pump_cli.proofs.AnswerLemmas.{answers, puts_fault, refusal_ends, refusal_quiet}
 use Rattle.pump_cli.proofs.CallLemmas.{Called, loads_called, secret_broken, secret_ends_calls, secret_keeps}
 use Rattle.pump_cli.proofs.TaskLemmas.{RefusedFor, Side, due_by_run_secret, due_by_shell_secret, facts_unasked, no_session, start_long, start_taken}

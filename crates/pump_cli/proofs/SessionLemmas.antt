@@ -4,7 +4,6 @@ use Rattle.image_format.specs.Picture.{Picture}
 use Rattle.host_io.specs.Pieces.{PutsAll, Taken}
 use Rattle.host_io.specs.TwoSinks.{OneRose, PutFaults, on_out}
 use Rattle.policy_choice.specs.declared.basis.Basis.{Basis}
-use Rattle.engine_trait.specs.Accounts.{is_over}
 use Rattle.host_io.proofs.PieceLemmas.{prefix_of_more_puts, puts_then_all, puts_then_prefix}
 use Rattle.shell_turns.specs.Cuts.{PutsOut}
 use Rattle.shell_script.specs.Shell.{ShellFaults}
@@ -63,7 +62,7 @@ module _ (told : Told) (old new err_old err_new : Option (List ℕ)) where
 -- ---- a session that starts on the task's basis
 
 abbrev setup_on : ShellTask → Basis → Setup
-setup_on task basis = record { basis = basis; cache = task.cache; tags = task.tags }
+setup_on task basis = record { basis = basis; cache = task.cache; tags = task.tags; history = task.history }
 
 pub over_is : (task : ShellTask) (basis : Basis) (secret : List ℕ) (picture : Picture) → basis ≡ basis_of task.choice
     → is_over_of (setup_on task basis) secret picture ≡ is_over_at_start task secret picture

@@ -1,33 +1,48 @@
 -- What a session tells is told of the runs that it makes.
-use Rattle.std.proofs.Common.{◌≡◌, ℕ, Bool, true, false, List, [], ◌∷◌, ◌++◌, Option, Some, None, Result, Ok, Err, if◌then◌else◌, refl, ap, subst, ◌∙◌}
+use Rattle.std.proofs.Common.{◌≡◌, ℕ, ◌+◌, ◌≤◌, Bool, true, false, List, [], ◌∷◌, ◌++◌, Option, if◌then◌else◌, refl, ap, sym, subst, ◌∙◌, arith}
+use Rattle.std.proofs.lemmas.Bool.{leb-true}
+use Rattle.host_io.specs.Bytes.{TellBytes}
+use Rattle.image_format.specs.Conditions.{IsImage, is_aligned}
 use Rattle.image_format.specs.Picture.{Picture}
+use Rattle.image_format.proofs.FieldLemmas.{both}
+use Rattle.policy_trait.specs.PolicyLaws.{KeepsLaws}
+use Rattle.secrecy_policy.specs.Secrecy.{IsLeft, secrecy}
+use Rattle.secrecy_policy.specs.SecrecyLaws.{secrecy_laws}
 use Rattle.turn_steps.specs.Feeds.{tape_of}
 use Rattle.engine_trait.specs.Accounts.{is_over}
 use Rattle.engine_trait.specs.Events.{Event}
-use Rattle.engine_trait.specs.Machine.{Machine}
+use Rattle.engine_trait.specs.Machine.{IsMachine, Machine}
 use Rattle.engine_trait.specs.Runs.{Item, Trace, run_along}
-use Rattle.engine_trait.specs.Standing.{Standing}
+use Rattle.engine_trait.specs.Standing.{Standing, with_history_for}
+use Rattle.policy_product.specs.Both.{BothHold}
+use Rattle.policy_product.specs.BothLaws.{both_laws}
+use Rattle.policy_choice.specs.All.{all}
+use Rattle.policy_choice.specs.AllLaws.{AllHold, all_laws}
+use Rattle.policy_choice.proofs.AllLemmas.{room_of_chosen}
+use Rattle.policy_choice.specs.declared.basis.Basis.{Basis}
 use Rattle.tag_loader.specs.Start.{start_machine, start_standing}
 use Rattle.word_loader.specs.CachedStart.{cached_standing}
 use Rattle.cache_size.specs.Sizes.{keeps_no_rule}
-use Rattle.pump_loader.specs.Wholes.{Whole}
+use Rattle.pump_loader.specs.Wholes.{Whole, hidden, hidden_state, whole_if}
+use Rattle.run_props.proofs.ChosenLemmas.{start_holds, start_sound}
+use Rattle.run_props.proofs.StartLemmas.{sound_start}
 use Rattle.shell_lang.specs.Grammar.{Answer}
 use Rattle.shell_run.specs.Gains.{StandsAfter, events_along}
-use Rattle.shell_run.specs.Runs.{IsAlong}
+use Rattle.shell_run.specs.Runs.{IsAlong, IsStart}
 use Rattle.shell_script.specs.Gains.{TellsNext}
 use Rattle.shell_script.specs.Shell.{shell_of}
 use Rattle.shell_script.proofs.GainLemmas.{closed_by, next_told, script_start, shell_is_told}
 use Rattle.shell_script.proofs.RunLemmas.{script_goes}
 use Rattle.pump_shell.specs.Told.{out_at_start, start_of_setup, told_by, told_from, told_under}
-use Rattle.pump_line.specs.Task.{RunTask, ShellTask, Task, disassemble, elf, load, run, save, shell, task_of}
-use Rattle.pump_cli.specs.Program.{setup_of}
-use Rattle.pump_cli.specs.Reading.{ContentOf, content_of, content_read, input_limit, input_read}
-use Rattle.pump_cli.specs.Runs.{AfterContent, AfterFed, AfterImage, AfterInput, AfterLines, AfterPicture, AfterWords, items_after_lines, trace_after_lines, whole_of_shell}
-use Rattle.pump_cli.proofs.SafeRunLemmas.{each_secret}
+use Rattle.pump_line.specs.Task.{RunTask, ShellTask, task_of}
+use Rattle.pump_cli.specs.Program.{basis_of, setup_of}
+use Rattle.pump_cli.specs.Reading.{input_limit}
+use Rattle.pump_cli.specs.Runs.{items_after_lines, trace_after_lines, whole_of_shell}
 use Rattle.pump_cli.specs.Sessions.{AnyRun, SessionTellsRuns, TellsRuns, TheSession, session_after, session_over}
-use Rattle.pump_cli.specs.declared.refusal.Refusal.{Refusal}
+use Rattle.pump_cli.proofs.EachRunLemmas.{each_words}
 
-module _ (w : Whole) (task : ShellTask) (g : Picture) where
+module _ (w : Whole) (holds : w.State → Type 0) (laws : KeepsLaws w.model holds) (task : ShellTask) (g : Picture)
+    (sound : IsMachine w.model (start_machine w.model w.state g)) (valid : holds w.state) where
   abbrev start : Standing w.State w.Tag
   start = start_of_setup w (setup_of task) g
 
@@ -37,16 +52,25 @@ module _ (w : Whole) (task : ShellTask) (g : Picture) where
   -- ---- the start is the image's, whatever is kept
 
   start_by : (none : Bool)
-      → (if none then start_standing w.model w.state g else cached_standing w.eq w.model w.state g task.cache.sets task.cache.ways task.tags).machine ≡ machine
+      → (with_history_for task.history (if none then start_standing w.model w.state g else cached_standing w.eq w.model w.state g task.cache.sets task.cache.ways task.tags)).machine ≡ machine
   start_by true = refl
   start_by false = refl
 
   start_is : start.machine ≡ machine
   start_is = start_by (keeps_no_rule task.cache)
 
+  -- turns can be taken back from it
+  from : IsStart w.model holds (session_over w task g).start
+  unfolding start_machine
+  from = record {
+    machine = subst (λ (s : Machine w.State w.Tag). IsMachine w.model s) (sym start_is) sound;
+    policy = subst (λ (s : Machine w.State w.Tag). holds s.policy) (sym start_is) valid;
+    none = refl;
+  }
+
   -- the session has not begun its run
   begins : IsAlong w.eq w.model (session_over w task g) []
-  begins = record { machine = refl; feed = refl }
+  begins = record { machine = refl; feed = refl; made = tt; dropped = []; records = refl }
 
   abbrev run_by : List Item → Trace w.State w.Tag
   run_by items = run_along w.model machine (tape_of []) items
@@ -58,11 +82,11 @@ module _ (w : Whole) (task : ShellTask) (g : Picture) where
 
   stands_by : (prefix : List Answer) → StandsAfter (trace_after_lines w task g prefix) (session_after w task g prefix).after
   stands_by prefix =
-      let along = script_goes w.eq w.model (session_over w task g) [] prefix begins in
-      let from = ap (λ (e : Standing w.State w.Tag). e.machine) (script_start w.eq w.model (session_over w task g) prefix) ∙ start_is in
+      let along = script_goes w.eq w.model holds laws (session_over w task g) [] prefix from begins in
+      let origin = ap (λ (e : Standing w.State w.Tag). e.machine) (script_start w.eq w.model (session_over w task g) prefix) ∙ start_is in
       record {
-        machine = along.machine ∙ ap (λ (s : Machine w.State w.Tag). (run_along w.model s (tape_of []) (items_after_lines w task g prefix)).machine) from;
-        feed = along.feed ∙ ap (λ (s : Machine w.State w.Tag). (run_along w.model s (tape_of []) (items_after_lines w task g prefix)).feed) from;
+        machine = along.machine ∙ ap (λ (s : Machine w.State w.Tag). (run_along w.model s (tape_of []) (items_after_lines w task g prefix)).machine) origin;
+        feed = along.feed ∙ ap (λ (s : Machine w.State w.Tag). (run_along w.model s (tape_of []) (items_after_lines w task g prefix)).feed) origin;
       }
 
   replies_by : (prefix : List Answer) (line : Answer) → (session_after w task g prefix).quits ≡ false
@@ -72,7 +96,7 @@ module _ (w : Whole) (task : ShellTask) (g : Picture) where
       (events_are (items_after_lines w task g (prefix ++ line ∷ [])))
       (subst (λ (events : List (Event w.Tag)). TellsNext w.eq w.model (session_over w task g) prefix line events (events_along w.eq w.model (session_over w task g) (items_after_lines w task g (prefix ++ line ∷ []))))
       (events_are (items_after_lines w task g prefix))
-      (next_told w.eq w.model (session_over w task g) [] prefix line begins goes))
+      (next_told w.eq w.model (session_over w task g) [] prefix line holds laws from begins goes))
 
   -- ---- an input
 
@@ -94,42 +118,45 @@ module _ (w : Whole) (task : ShellTask) (g : Picture) where
     closed = λ prefix line rest due quits. ap run_by (closed_by w.eq w.model (session_over w task g) [] prefix line quits);
   }
 
+-- ---- the start
+
+module _ (basis : Basis) (secret : List ℕ) (g : Picture) (is : IsImage g) where
+  -- the policies' own conditions, by whether secrecy is chosen
+  abbrev holds_of : (hidden : Bool) → (whole_if hidden basis secret g).State → Type 0
+  holds_of true = BothHold AllHold IsLeft
+  holds_of false = AllHold
+
+  laws_of : (hidden : Bool) → KeepsLaws (whole_if hidden basis secret g).model (holds_of hidden)
+  laws_of true = both_laws all secrecy AllHold IsLeft all_laws secrecy_laws
+  laws_of false = all_laws
+
+  valid_of : (hidden : Bool) → holds_of hidden (whole_if hidden basis secret g).state
+  valid_of true = (start_holds basis g is, omega arith)
+  valid_of false = start_holds basis g is
+
+  -- they count on no more memory than there is: secrecy counts on none
+  room_is : hidden.room (hidden_state basis secret g) ≤ g.ram
+  room_is =
+      let inside = leb-true (g.heap_base + g.heap_bytes) g.ram (both (is_aligned g.heap_bytes) _ is.heap_bytes).1 in
+      let chosen = room_of_chosen basis g inside in
+      grind (arith, chosen)
+
+  sound_of : (hidden : Bool) → (let w = whole_if hidden basis secret g in IsMachine w.model (start_machine w.model w.state g))
+  sound_of true = sound_start hidden (hidden_state basis secret g) g is room_is
+  sound_of false = start_sound basis g is
+
 -- ---- where what the words ask for is told
 
-any_fed : (task : RunTask) (secret : List ℕ) (g : Picture) (fed : Result (List ℕ) Refusal) → AfterFed AnyRun SessionTellsRuns task secret g fed
-any_fed task secret g (Ok fed) = tt
-any_fed task secret g (Err refusal) = tt
+any_ran : (task : RunTask) (secret : List ℕ) (g : Picture) (fed : List ℕ) → IsImage g → AnyRun task secret g fed
+any_ran task secret g fed is = tt
 
-any_input : (task : RunTask) (secret : List ℕ) (g : Picture) (input : Option (List ℕ)) → AfterInput AnyRun SessionTellsRuns task secret g input
-any_input task secret g None = tt
-any_input task secret g (Some input) = any_fed task secret g (input_read input)
+session_tells : (task : ShellTask) (secret : List ℕ) (g : Picture) (input : List ℕ) → IsImage g → SessionTellsRuns task secret g input
+session_tells task secret g input is =
+    let basis = basis_of task.choice in
+    let chosen = task.choice.secret in
+    tells_runs (whole_of_shell task secret g) (holds_of basis secret g is chosen) (laws_of basis secret g is chosen) task g
+    (sound_of basis secret g is chosen) (valid_of basis secret g is chosen) input
 
-after_lines : (task : ShellTask) (secret : List ℕ) (g : Picture) (input : Option (List ℕ)) → AfterLines AnyRun SessionTellsRuns task secret g input
-after_lines task secret g None = tt
-after_lines task secret g (Some input) = tells_runs (whole_of_shell task secret g) task g input
-
-after_picture : (task : Task) (content : ContentOf task) (g : Picture) (input : Option (List ℕ)) → AfterPicture AnyRun SessionTellsRuns task content g input
-after_picture (run task) files g input =
-    each_secret (λ secret. AfterInput AnyRun SessionTellsRuns task secret g input) (λ secret. any_input task secret g input) files.secret
-after_picture (shell task) files g input =
-    each_secret (λ secret. AfterLines AnyRun SessionTellsRuns task secret g input) (λ secret. after_lines task secret g input) files.secret
-after_picture (save task) content g input = tt
-after_picture (elf task) content g input = tt
-after_picture (disassemble task) content g input = tt
-after_picture (load task) content g input = tt
-
-after_image : (task : Task) (content : ContentOf task) (read : Result Picture Refusal) (input : Option (List ℕ)) → AfterImage AnyRun SessionTellsRuns task content read input
-after_image task content (Ok g) input = after_picture task content g input
-after_image task content (Err refusal) input = tt
-
-after_content : (task : Task) (content : Option (ContentOf task)) (input : Option (List ℕ)) → AfterContent AnyRun SessionTellsRuns task content input
-after_content task None input = tt
-after_content task (Some content) input = after_image task content (content_read task content) input
-
-after_words : (task : Option Task) (held : List ℕ → Option (List ℕ)) (input : Option (List ℕ)) → AfterWords AnyRun SessionTellsRuns task held input
-after_words None held input = tt
-after_words (Some task) held input = after_content task (content_of task held) input
-
-pub session_told : (words : List (List ℕ)) (held : List ℕ → Option (List ℕ)) (input : Option (List ℕ)) → TheSession SessionTellsRuns words held input
+pub session_told : (words : List (List ℕ)) (held : List ℕ → Option (List ℕ)) (input : Option (List ℕ)) → TellBytes held → TheSession SessionTellsRuns words held input
 unfolding TheSession
-session_told words held input = after_words (task_of words) held input
+session_told words held input tells = each_words AnyRun SessionTellsRuns any_ran session_tells (task_of words) held input tells

@@ -102,7 +102,7 @@ after_secret go (Some bytes) = with_secret go (secret_read bytes)
 
 -- what a session starts with, beside its image
 abbrev pub setup_of : ShellTask → Setup
-setup_of task = record { basis = basis_of task.choice; cache = task.cache; tags = task.tags }
+setup_of task = record { basis = basis_of task.choice; cache = task.cache; tags = task.tags; history = task.history }
 
 -- what is told after the replies, and the status: a session that ended with `quit` or with the input is done
 abbrev pub outcome_of_end : SessionEnd → Outcome

@@ -5,7 +5,7 @@ ghost use Rattle.host_io.specs.Bytes.{AreBytes, TellBytes};
 ghost use Rattle.image_format.specs.Picture.{Picture};
 ghost use Rattle.workload_laws.specs.Images.{image_of_workload};
 ghost use Rattle.pump_line.specs.Request.{DisassembleTask, ElfTask, SaveTask};
-ghost use Rattle.pump_line.specs.Task.{AllowsRules, AllowsTags, LoadTask, RunTask, disassemble, elf, load, run, save, task_of};
+ghost use Rattle.pump_line.specs.Task.{AllowsHistory, AllowsRules, AllowsTags, LoadTask, RunTask, disassemble, elf, load, run, save, task_of};
 ghost use Rattle.pump_line.specs.Told.{texts_of, task_value};
 ghost use Rattle.pump_cli.specs.Elf.{SavesElf};
 ghost use Rattle.pump_cli.specs.Facts.{status_in};
@@ -43,6 +43,7 @@ fn do_task<F: Files, S: Source, K: Sink, L: Sink>(
 ) -> Result<Status, Cut>
     requires rules { AllowsRules (task_value task) }
     requires tags { AllowsTags (task_value task) }
+    requires history { AllowsHistory (task_value task) }
     ensures { HeadlineOf (task_value task.entry) (status_in result)
         (environment F.tells F.held F.read_faults F.write_faults F.calls S.left S.closed S.faults
         K.taken K.faults L.taken L.faults files.old input.old out.old err.old)
@@ -123,7 +124,8 @@ fn run_words<F: Files, S: Source, K: Sink, L: Sink>(
 ///
 /// The runs that a session makes are those of which its replies tell (`replies`): what is told are the replies to its lines; after
 /// each of these the session stands where its run ends; and the reply to a line that makes turns tells the events that the run gains
-/// by it, one for each of these turns, and their number. No other line adds an event, and `reset` begins the run anew.
+/// by it, one for each of these turns, and their number. No other line adds an event; `back` takes the last turns of the run away, which
+/// then ends where it did before them but for bytes fed since, and `reset` begins it anew.
 pub fn pump<F: Files, S: Source, K: Sink, L: Sink>(
     alloc: Global,
     words: &Vec<String>,
@@ -143,8 +145,10 @@ pub fn pump<F: Files, S: Source, K: Sink, L: Sink>(
         → EachRun IsSafeRun (texts_of words.now.items) held left }
     ensures safe_here { EachRun IsSafeRun (texts_of words.now.items)
         (F.held files.old) (S.left input.old) }
-    ensures replies { (held : List ℕ → Option (List ℕ)) (left : Option (List ℕ))
+    ensures replies { (held : List ℕ → Option (List ℕ)) (left : Option (List ℕ)) → TellBytes held
         → TheSession SessionTellsRuns (texts_of words.now.items) held left }
+    ensures replies_here { TheSession SessionTellsRuns (texts_of words.now.items)
+        (F.held files.old) (S.left input.old) }
     ensures hides { (task : RunTask) (held other : List ℕ → Option (List ℕ))
         (left : Option (List ℕ)) → TellBytes held
         → task_of (texts_of words.now.items) ≡ Some (run task)

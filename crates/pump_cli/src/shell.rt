@@ -59,6 +59,7 @@ pub(crate) fn obey_lines<S: Source, K: Sink, L: Sink>(
 ) -> Result<Status, Cut>
     requires rules { IsCacheSize task.cache }
     requires tags { 1 ≤ task.tags }
+    requires history { task.history ≤ 65536 }
     ensures does { IfSome (S.left input.old) (λ bytes. Does
         (outcome_of_lines (shell_value task.entry) secret.now image.now bytes)
         (record { out = K.taken out.old; err = L.taken err.old })
@@ -93,6 +94,7 @@ pub(crate) fn obey_lines<S: Source, K: Sink, L: Sink>(
         basis: basis_of(task.choice),
         cache: task.cache,
         tags: task.tags,
+        history: task.history,
     };
     match run_session(alloc, setup, secret, image, input, INPUT_LIMIT, out) {
         Ok(end) => end_session(err, end),
@@ -111,6 +113,7 @@ pub(crate) fn shell_task<F: Files, S: Source, K: Sink, L: Sink>(
 ) -> Result<Status, Cut>
     requires rules { IsCacheSize task.cache }
     requires tags { 1 ≤ task.tags }
+    requires history { task.history ≤ 65536 }
     ensures { HeadlineOf (shell (shell_value task.entry)) (status_in result)
         (environment F.tells F.held F.read_faults F.write_faults F.calls S.left S.closed S.faults
         K.taken K.faults L.taken L.faults files.old input.old out.old err.old)

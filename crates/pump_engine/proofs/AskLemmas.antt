@@ -6,6 +6,7 @@ use Rattle.policy_trait.specs.declared.rules.Ins.{Ins}
 use Rattle.policy_trait.specs.declared.rules.Outs.{Outs}
 use Rattle.policy_trait.specs.declared.rules.Refused.{Refused}
 use Rattle.turn_steps.specs.declared.look.Look.{Look}
+use Rattle.undo_log.specs.Past.{Past, past_by}
 use Rattle.engine_trait.specs.Accounts.{Account, Key, is_kept, is_over, keeping, looked_up, rule_kept, standing_tags, with_tags}
 use Rattle.shared_terms.specs.Counts.{next_count}
 use Rattle.engine_trait.specs.Turn.{rule_inputs}
@@ -18,10 +19,10 @@ use Rattle.miss_handler.specs.Told.{Tells}
 use Rattle.miss_handler.specs.declared.ends.AskEnd.{AskEnd}
 use Rattle.miss_handler.specs.declared.ends.AskEnd.TheVariants as ask_end
 use Rattle.engine_trait.proofs.RoomLemmas.{room_kept}
-use Rattle.pump_engine.specs.Pump.{IsPump, PumpState, account_by_words, machine_by_words, pump_of}
+use Rattle.pump_engine.specs.Pump.{IsPump, PumpState, account_by_words, decode, machine_by_words, pump_of}
 use Rattle.pump_engine.specs.Steps.{Allows, Unanswered, answer_in, key_in, looked_in, ruled_in, ruling_in}
 use Rattle.pump_engine.proofs.CountLemmas.{ruling_by_words}
-use Rattle.pump_engine.proofs.StayLemmas.{machine_grown, pump_grown}
+use Rattle.pump_engine.proofs.StayLemmas.{machine_grown, past_grown, pump_grown}
 
 -- an answer of which something holds is one
 pub ok_where : {A E : Type 0} (answer : Result A E) (P : A → Type 0) → IsOkAnd answer P → IsOk answer
@@ -71,7 +72,7 @@ module _ {T : Type 0} (eq : T → T → Bool) (key : Key T) where
 module _ {S T : Type 0} (eq : T → T → Bool) (m : PolicyModel T S) (p : PumpState S T) (h : ℕ) (look : Look) (table : TableState T) (store : Store) where
   -- the engine with what `ask` left
   abbrev pub asked : PumpState S T
-  asked = pump_of p.policy p.core table store p.turns p.sweeps p.halt
+  asked = pump_of p.policy p.core table store p.turns p.sweeps p.halt p.past
 
   -- what `ask` says of the rules of a policy that stands at s, asked with these words
   pub record IsAsked (s : S) (inputs : Ins ℕ) (answered : Result (Outs ℕ) AskEnd) : Type 0 where
@@ -103,10 +104,14 @@ module _ {S T : Type 0} (eq : T → T → Bool) (m : PolicyModel T S) (p : PumpS
     pub tells_own : Tells (m.plain p.policy) p.table p.store (account_by_words m p)
     tells_own = record { tags = refl; limit = refl; room = is.room; rules = record { sets = refl; ways = refl; hits = refl; misses = refl } }
 
-    -- the account that the table and the store tell, and the turns and the halt as they were
-    pub account_told : (account : Account T) → Tells (m.plain p.policy) table store account → account.turns ≡ p.turns → account.sweeps ≡ p.sweeps → account.halt ≡ p.halt
-        → account_by_words m asked ≡ account
-    account_told account tells turns_are sweeps_are halt_is = λ j. record {
+    -- the records of the tags that their words stand for
+    abbrev pub own_past : Past T T
+    own_past = past_by (decode m p) p.past
+
+    -- the account that the table and the store tell, and the turns, the halt and the records as they were
+    pub account_told : (account : Account T) → Extends p.table.tags table.tags → Tells (m.plain p.policy) table store account → account.turns ≡ p.turns → account.sweeps ≡ p.sweeps
+        → account.halt ≡ p.halt → account.past ≡ own_past → account_by_words m asked ≡ account
+    account_told account extends tells turns_are sweeps_are halt_is past_is = λ j. record {
       table = sym tells.tags j;
       limit = sym tells.limit j;
       sets = sym tells.rules.sets j;
@@ -116,6 +121,7 @@ module _ {S T : Type 0} (eq : T → T → Bool) (m : PolicyModel T S) (p : PumpS
       misses = sym tells.rules.misses j;
       sweeps = sym sweeps_are j;
       halt = sym halt_is j;
+      past = (past_grown m p asked is.remembered refl refl extends ∙ sym past_is) j;
     }
 
     looked_turns : (looked_in eq m p h look).turns ≡ p.turns
@@ -126,6 +132,9 @@ module _ {S T : Type 0} (eq : T → T → Bool) (m : PolicyModel T S) (p : PumpS
 
     looked_halt : (looked_in eq m p h look).halt ≡ p.halt
     looked_halt = looked_leaves eq (key_in eq m p h look) (λ account. account.halt) (account_by_words m p) refl refl
+
+    looked_past : (looked_in eq m p h look).past ≡ own_past
+    looked_past = looked_leaves eq (key_in eq m p h look) (λ account. account.past) (account_by_words m p) refl refl
 
     -- the account with the rule kept, as `ask` has it
     abbrev kept_in : Account T
@@ -140,13 +149,16 @@ module _ {S T : Type 0} (eq : T → T → Bool) (m : PolicyModel T S) (p : PumpS
     ruled_halt : kept_in.halt ≡ p.halt
     ruled_halt = ruled_leaves eq (key_in eq m p h look) (λ account. account.halt) (answer_in eq m p h look) (looked_in eq m p h look) (λ seen. refl) refl ∙ looked_halt
 
+    ruled_past : kept_in.past ≡ own_past
+    ruled_past = ruled_leaves eq (key_in eq m p h look) (λ account. account.past) (answer_in eq m p h look) (looked_in eq m p h look) (λ seen. refl) refl ∙ looked_past
+
     room_by : (answered : Result (Outs ℕ) AskEnd) → AsksOwn answered → 1 ≤ store.ways
     room_by (Ok outs) asks = (asks.kept (account_by_words m p) tells_own).room
     room_by (Err end) asks = (asks.unkept (account_by_words m p) tells_own).room
 
     -- it is an engine still
     pub pump_asked : (answered : Result (Outs ℕ) AskEnd) → AsksOwn answered → IsPump m asked
-    pump_asked answered asks = pump_grown m p asked is refl refl asks.extends asks.within (room_by answered asks) asks.rules
+    pump_asked answered asks = pump_grown m p asked is refl refl refl asks.extends asks.within (room_by answered asks) asks.rules
 
     looked_seen : (looked_in eq m p h look).table ≡ p.table.tags
     looked_seen = looked_leaves eq (key_in eq m p h look) (λ account. account.table) (account_by_words m p) refl refl
@@ -180,7 +192,7 @@ module _ {S T : Type 0} (eq : T → T → Bool) (m : PolicyModel T S) (p : PumpS
     pub allowed : (answered : Result (Outs ℕ) AskEnd) → AsksOwn answered → IfOk answered (Allows eq m p h look asked)
     allowed (Ok outs) asks = record {
       rule = asks.answer;
-      account = ruled_once (account_told kept_in (asks.kept (account_by_words m p) tells_own) ruled_turns ruled_sweeps ruled_halt) asks.within;
+      account = ruled_once (account_told kept_in asks.extends (asks.kept (account_by_words m p) tells_own) ruled_turns ruled_sweeps ruled_halt ruled_past) asks.within;
       machine = machine_grown m p asked is.words refl refl asks.extends;
       within = le-ltb table.limit (length table.tags) asks.within;
       words = asks.out_words;
@@ -190,7 +202,7 @@ module _ {S T : Type 0} (eq : T → T → Bool) (m : PolicyModel T S) (p : PumpS
     pub unanswered : (answered : Result (Outs ℕ) AskEnd) → AsksOwn answered → IfErr answered (Unanswered eq m p h look asked)
     unanswered (Ok outs) asks = tt
     unanswered (Err end) asks = record {
-      account = account_told (looked_in eq m p h look) (asks.unkept (account_by_words m p) tells_own) looked_turns looked_sweeps looked_halt;
+      account = account_told (looked_in eq m p h look) asks.extends (asks.unkept (account_by_words m p) tells_own) looked_turns looked_sweeps looked_halt looked_past;
       machine = machine_grown m p asked is.words refl refl asks.extends;
       within = le-ltb table.limit (length table.tags) asks.within;
       refused = λ refusal stops. asks.stopped refusal (ap (λ e. Err e) stops);

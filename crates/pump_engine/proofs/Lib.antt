@@ -1,8 +1,12 @@
 mod AskLemmas
+mod BackLemmas
 mod CountLemmas
 mod EndLemmas
 mod LowLemmas
 mod OutLemmas
+pub mod PastLemmas
+mod RecordLemmas
+mod RememberLemmas
 mod ServiceLemmas
 mod SettleLemmas
 mod StayLemmas

@@ -21,11 +21,11 @@ use Rattle.pump_engine.specs.Low.{IsLowCore, Low}
 -- ---- words below a count
 
 -- the word itself
-abbrev number : {n : ℕ} → Low n → ℕ
+abbrev pub number : {n : ℕ} → Low n → ℕ
 number word = word.word
 
 -- the same word, below a count that is no smaller
-abbrev raised : (n k : ℕ) → n ≤ k → Low n → Low k
+abbrev pub raised : (n k : ℕ) → n ≤ k → Low n → Low k
 raised n k more word = record { word = word.word; below = let below = word.below in omega (arith, more, below) }
 
 -- outputs whose words are known to be below the count
@@ -46,15 +46,15 @@ below_ins n inputs = record {
 
 -- ---- what a service writes, as a list of such words and an answer with one
 
-record AreLow (n : ℕ) (words : List (ℕ × ℕ × ℕ)) : Type 0 where
-  words_low : List (ℕ × ℕ × Low n)
-  words_are : words ≡ words_by number words_low
+pub record AreLow (n : ℕ) (words : List (ℕ × ℕ × ℕ)) : Type 0 where
+  pub words_low : List (ℕ × ℕ × Low n)
+  pub words_are : words ≡ words_by number words_low
 
 record IsLowAnswer (n : ℕ) (answer : Option (Answer ℕ)) : Type 0 where
   answer_low : Option (Answer (Low n))
   answer_is : answer ≡ option_map (answer_by number) answer_low
 
-low_words : (n : ℕ) (words : List (ℕ × ℕ × ℕ)) → All (IsWordBelow n) words → AreLow n words
+pub low_words : (n : ℕ) (words : List (ℕ × ℕ × ℕ)) → All (IsWordBelow n) words → AreLow n words
 low_words n [] all = record { words_low = []; words_are = refl }
 low_words n (word ∷ words) all =
     let rest = low_words n words (λ k d within. all (suc k) d (omega (arith, within))) in

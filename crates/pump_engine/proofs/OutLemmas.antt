@@ -4,7 +4,9 @@ use Rattle.policy_trait.specs.Model.{PolicyModel}
 use Rattle.policy_trait.specs.declared.rules.Outs.{Outs}
 use Rattle.monitor_calls.specs.Service.{Job}
 use Rattle.turn_steps.specs.declared.look.Look.{Look}
-use Rattle.engine_trait.specs.Accounts.{Account, first_written, is_over, seeing, written_tags}
+use Rattle.engine_trait.specs.Accounts.{Account, first_written, is_over, remembering, seeing, written_tags}
+use Rattle.engine_trait.specs.History.{record_served}
+use Rattle.engine_trait.specs.Machine.{Machine}
 use Rattle.shared_terms.specs.Counts.{next_count}
 use Rattle.engine_trait.specs.Turn.{core_served}
 use Rattle.engine_trait.specs.declared.ends.Halt.{Halt}
@@ -24,12 +26,16 @@ module _ {S T : Type 0} (eq : T → T → Bool) (m : PolicyModel T S) (p : PumpS
   abbrev writing : Account T → Account T
   writing account = seeing eq (written_tags job) account
 
+  -- an account with the record of the service, which ran on this machine, and with so many turns
+  abbrev noted : Machine S T → ℕ → Account T → Account T
+  noted s turns account = record (remembering (record_served s.core h job.words job.plan) account) { turns = next_count turns }
+
   -- without a sweep
   served_once : (f : PumpState S T) → Serves eq m p h look outs job (writing (account_by_words m p)) f → Serves eq m p h look outs job (written_in eq m p h look outs job) f
   served_once f served = record {
     machine = served.machine;
     account_is = served.account_is
-        ∙ ap (λ (a : Account T). record a { turns = next_count p.turns })
+        ∙ ap (noted (machine_by_words m p) p.turns)
         (sym (room_kept eq (outs_standing eq m p h look outs) writing (account_by_words m p) (ap is_over (sym served.account_is) ∙ served.within)));
     within = served.within;
   }
@@ -68,8 +74,8 @@ module _ {S T : Type 0} (eq : T → T → Bool) (m : PolicyModel T S) (p : PumpS
         core = core_served (sweep.machine j).core h job.words job.plan.answer look.effect.next (pc_is j);
       };
       account_is = served.account_is
-          ∙ (λ j. record (writing (sweep.account j)) { turns = next_count (sweep.parts.turns j) })
-          ∙ ap (λ (a : Account T). record a { turns = next_count p.turns }) (sym written_swept);
+          ∙ (λ j. noted (sweep.machine j) (sweep.parts.turns j) (writing (sweep.account j)))
+          ∙ ap (noted (machine_by_words m p) p.turns) (sym written_swept);
       within = served.within;
     }
 

@@ -14,7 +14,10 @@ use Rattle.tag_memory.proofs.MapLemmas.{ram_tag_by}
 use Rattle.monitor_calls.specs.Service.{Job, service_job}
 use Rattle.turn_steps.specs.Services.{args_on}
 use Rattle.turn_steps.specs.declared.look.Look.{Look}
-use Rattle.engine_trait.specs.Accounts.{first_written, is_over, seeing, with_tags, written_tags}
+use Rattle.undo_log.specs.Past.{past_by, pushed}
+use Rattle.undo_log.proofs.MapLemmas.{pushed_by}
+use Rattle.engine_trait.specs.Accounts.{first_written, is_over, remembering, seeing, with_tags, written_tags}
+use Rattle.engine_trait.specs.History.{record_served}
 use Rattle.shared_terms.specs.Counts.{next_count}
 use Rattle.engine_trait.specs.Machine.{hart_at}
 use Rattle.engine_trait.specs.Maps.{core_by, words_by}
@@ -38,7 +41,8 @@ use Rattle.pump_engine.specs.Pump.{IsPump, PumpState, account_by_words, decode, 
 use Rattle.pump_engine.specs.Steps.{CarriesOut, EndsService, Serves, TriesOut, after_halt, after_stop, first_in, job_over, service_in}
 use Rattle.engine_trait.proofs.AccountLemmas.{keeps_some}
 use Rattle.pump_engine.proofs.StepLemmas.{first_within}
-use Rattle.pump_engine.proofs.StayLemmas.{after_service, decode_grown, machine_grown, machine_served, pump_grown, pump_served}
+use Rattle.pump_engine.proofs.RecordLemmas.{record_served_by}
+use Rattle.pump_engine.proofs.StayLemmas.{after_service, decode_grown, machine_grown, machine_served, past_grown, pump_grown, pump_served}
 
 -- ---- what it is asked with
 
@@ -93,7 +97,7 @@ module _ {S T : Type 0} (eq : T → T → Bool) (m : PolicyModel T S) (holds : S
 
   -- the engine with these words
   abbrev pub grown : PumpState S T
-  grown = pump_of p.policy p.core table p.store p.turns p.sweeps p.halt
+  grown = pump_of p.policy p.core table p.store p.turns p.sweeps p.halt p.past
 
   -- and after the service
   abbrev pub left : PumpState S T
@@ -101,7 +105,7 @@ module _ {S T : Type 0} (eq : T → T → Bool) (m : PolicyModel T S) (holds : S
 
   module _ (written : IsWritten) (given : IsGiven m p.policy job.plan) (outputs : AreOutWords (length p.table.tags) outs) where
     grown_is : IsPump m grown
-    grown_is = pump_grown m p grown is refl refl written.extends written.within is.room (rules_grown (rulebook_of m p.policy) p.table.tags table.tags written.extends p.store.sets is.rules)
+    grown_is = pump_grown m p grown is refl refl refl written.extends written.within is.room (rules_grown (rulebook_of m p.policy) p.table.tags table.tags written.extends p.store.sets is.rules)
 
     pub pump_left : h < length p.core.harts → look.effect.next % 4 ≡ 0 → outs.pc < length table.tags → IsPump m left
     pump_left there aligned below =
@@ -127,7 +131,16 @@ module _ {S T : Type 0} (eq : T → T → Bool) (m : PolicyModel T S) (holds : S
           core = core_served (same_core j) h (written.words_are (m.plain p.policy) j) (written.answer_is (m.plain p.policy) j) look.effect.next (pc_stays j);
         })
 
-    account_left : account_by_words m left ≡ record (seeing eq (written_tags job) (account_by_words m p)) { turns = next_count p.turns }
+    -- the records, with that of the service
+    past_left : past_by (decode m left) left.past ≡ pushed (past_by (decode m p) p.past) (record_served (machine_by_words m p).core h job.words job.plan)
+    past_left =
+        ap (λ plain. past_by (tag_at plain table.tags) left.past) plain_stays
+        ∙ sym (pushed_by (decode m grown) p.past (record_served p.core h words job.plan))
+        ∙ (λ j. pushed (past_grown m p grown is.remembered refl refl written.extends j) (sym (record_served_by (decode m grown) p.core h (decode m grown) words job.plan) j))
+        ∙ (λ j. pushed (past_by (decode m p) p.past) (record_served (same_core j) h (written.words_are (m.plain p.policy) j) job.plan))
+
+    account_left : account_by_words m left
+        ≡ record (remembering (record_served (machine_by_words m p).core h job.words job.plan) (seeing eq (written_tags job) (account_by_words m p))) { turns = next_count p.turns }
     account_left =
         (λ j. record (account_by_words m p) {
           table = written.seen j;
@@ -135,8 +148,10 @@ module _ {S T : Type 0} (eq : T → T → Bool) (m : PolicyModel T S) (holds : S
           sets = (ap (λ plain. map (keys_by (tag_at plain table.tags)) p.store.sets) plain_stays
               ∙ sets_grown (m.plain p.policy) p.table.tags table.tags written.extends p.store.sets (sets_below (rulebook_of m p.policy) p.table.tags p.store.sets is.rules)) j;
           turns = next_count p.turns;
+          past = past_left j;
         })
-        ∙ sym (ap (λ is_none. record (if is_none then account_by_words m p else record (account_by_words m p) { table = with_tags eq p.table.tags (written_tags job) }) { turns = next_count p.turns })
+        ∙ sym (ap (λ is_none. record (remembering (record_served (machine_by_words m p).core h job.words job.plan)
+        (if is_none then account_by_words m p else record (account_by_words m p) { table = with_tags eq p.table.tags (written_tags job) })) { turns = next_count p.turns })
         (keeps_some p.store.ways is.room))
 
     pub serves : Serves eq m p h look outs job (seeing eq (written_tags job) (account_by_words m p)) left

@@ -90,15 +90,15 @@ module _ {S T : Type 0} (eq : T → T → Bool) (m : PolicyModel T S) (p : PumpS
 
     -- it is an engine still
     pub pump_settled : (answered : Result (Outs ℕ) AskEnd) → SettlesOwn answered → IsPump m left
-    pump_settled answered settles = pump_grown m p left is refl refl settles.extends settles.within (room_by answered settles) settles.rules
+    pump_settled answered settles = pump_grown m p left is refl refl refl settles.extends settles.within (room_by answered settles) settles.rules
 
     same_machine : (answered : Result (Outs ℕ) AskEnd) → SettlesOwn answered → machine_by_words m left ≡ machine_by_words m p
     same_machine answered settles = machine_grown m p left is.words refl refl settles.extends
 
     kept_is : (outs : Outs ℕ) → SettlesOwn (Ok outs) → account_by_words m left ≡ ruling_in eq m p h look own
     kept_is outs settles =
-        account_told eq m p h look table store is kept_here (settles.kept own (tells_own eq m p h look table store is)) (leaves (λ a. a.turns) (λ seen. refl) refl)
-        (leaves (λ a. a.sweeps) (λ seen. refl) refl) (leaves (λ a. a.halt) (λ seen. refl) refl)
+        account_told eq m p h look table store is kept_here settles.extends (settles.kept own (tells_own eq m p h look table store is)) (leaves (λ a. a.turns) (λ seen. refl) refl)
+        (leaves (λ a. a.sweeps) (λ seen. refl) refl) (leaves (λ a. a.halt) (λ seen. refl) refl) (leaves (λ a. a.past) (λ seen. refl) refl)
         ∙ sym (ruling_by_words m p h look eq own)
 
     unkept_is : (end : AskEnd) → SettlesOwn (Err end) → account_by_words m left ≡ own

@@ -5,12 +5,14 @@ use Rattle.shared_terms.specs.Steps.{◌>>=◌}
 use Rattle.policy_trait.specs.declared.rules.Outs.{Outs}
 use Rattle.policy_trait.specs.declared.services.PlanEnd.{PlanEnd}
 use Rattle.monitor_calls.specs.Service.{Job}
-use Rattle.turn_steps.specs.Feeds.{Tape}
+use Rattle.turn_steps.specs.Feeds.{Tape, first_fed}
 use Rattle.turn_steps.specs.Looks.{is_call}
 use Rattle.turn_steps.specs.declared.look.Look.{Look}
 use Rattle.turn_steps.specs.declared.stop.Stop.{Stop}
-use Rattle.engine_trait.specs.Accounts.{Account, account_after_turn, after_look, after_rule, after_service, is_over, key_of, look_counted, rule_counted, rule_kept, ruled_tags, seeing, served_tags, service_counted, standing_tags, swept, with_room, with_tag, with_tags}
+use Rattle.undo_log.specs.declared.record.Record.{Record}
+use Rattle.engine_trait.specs.Accounts.{Account, account_after_turn, after_look, after_rule, after_service, is_over, key_of, look_counted, remembering, rule_counted, rule_kept, ruled_tags, seeing, served_tags, service_counted, standing_tags, swept, with_room, with_tag, with_tags}
 use Rattle.shared_terms.specs.Counts.{next_count}
+use Rattle.engine_trait.specs.History.{bare_record, record_done, record_of, record_or_bare}
 use Rattle.engine_trait.specs.Machine.{Machine, hart_at}
 use Rattle.engine_trait.specs.Standing.{Standing, Stepped, is_ready, step}
 use Rattle.engine_trait.specs.Turn.{Turned, rule_answer, turn_effect, job_at, or_unserved, turn_job, preparation, service_on, settlement, turn_of}
@@ -146,6 +148,38 @@ module _ {S T : Type 0} (m : PolicyModel T S) (s : Machine S T) (h : ℕ) (look 
   unfolding turn_job
   planned_call given call given_is = λ j. planned_if (call j) (given_is j)
 
+-- ---- the record of a turn, by where it ended
+
+module _ {S T : Type 0} (m : PolicyModel T S) (s : Machine S T) (feed : Tape) (h : ℕ) where
+  -- what the steps that are left make of it
+  abbrev pub record_planned : Look → Result (Option (Job T)) Stop → Record T T
+  record_planned look job = record_or_bare s.core h (job >>= λ j. Ok (record_done s.core (first_fed feed.left) h look j))
+
+  abbrev planned_made : Look → Outs T → Result (Record T T) Stop
+  planned_made look outs = turn_job m s h look outs >>= λ j. Ok (record_done s.core (first_fed feed.left) h look j)
+
+  abbrev allowed_made : Look → Result (Record T T) Stop
+  allowed_made look = rule_answer m s h look >>= planned_made look
+
+  record_checked : (why : Stop) → preparation m s h ≡ Err why → record_of m s feed h ≡ bare_record s.core h
+  unfolding record_of
+  record_checked why looked = ap (λ found. record_or_bare s.core h (found >>= allowed_made)) looked
+
+  module _ (look : Look) (looked : preparation m s h ≡ Ok look) where
+    record_looked : record_of m s feed h ≡ record_or_bare s.core h (allowed_made look)
+    unfolding record_of
+    record_looked = ap (λ found. record_or_bare s.core h (found >>= allowed_made)) looked
+
+    record_refused : (why : Stop) → rule_answer m s h look ≡ Err why → record_of m s feed h ≡ bare_record s.core h
+    record_refused why ruled = record_looked ∙ ap (λ answer. record_or_bare s.core h (answer >>= planned_made look)) ruled
+
+    record_ruled : (outs : Outs T) (job : Result (Option (Job T)) Stop) → rule_answer m s h look ≡ Ok outs → turn_job m s h look outs ≡ job
+        → record_of m s feed h ≡ record_planned look job
+    record_ruled outs job ruled planned_is =
+        record_looked
+        ∙ ap (λ answer. record_or_bare s.core h (answer >>= planned_made look)) ruled
+        ∙ ap (record_planned look) planned_is
+
 -- a step as the account and the turn tell it
 abbrev pub stepped_to : {S T : Type 0} → Account T → Turned S T → Stepped S T
 stepped_to account turned = record { standing = record { machine = turned.machine; account = account }; feed = turned.feed; ended = turned.ended }
@@ -153,20 +187,20 @@ stepped_to account turned = record { standing = record { machine = turned.machin
 module _ {S T : Type 0} (eq : T → T → Bool) (m : PolicyModel T S) (e : Standing S T) (feed : Tape) (h : ℕ) (ready : is_ready e h ≡ true) where
   -- ---- steps that are turns
 
-  by_turn : (account : Account T) (turned : Turned S T) → account_after_turn eq m e.machine h e.account ≡ account → is_over account ≡ false
-      → turn_of m e.machine feed h ≡ turned → step eq m e feed h ≡ stepped_to account turned
-  by_turn account turned counted_is within turned_is =
-      step_made eq m e feed h ready (ap is_over counted_is ∙ within) ∙ λ j. stepped_to (counted_is j) (turned_is j)
+  by_turn : (account : Account T) (turned : Turned S T) (made : Record T T) → account_after_turn eq m e.machine h e.account ≡ account → is_over account ≡ false
+      → turn_of m e.machine feed h ≡ turned → record_of m e.machine feed h ≡ made → step eq m e feed h ≡ stepped_to (remembering made account) turned
+  by_turn account turned made counted_is within turned_is made_is =
+      step_made eq m e feed h ready (ap is_over counted_is ∙ within) ∙ λ j. stepped_to (remembering (made_is j) (counted_is j)) (turned_is j)
 
   abbrev with_turn : Account T → Account T
   with_turn account = record account { turns = next_count e.account.turns }
 
   -- one of the checks failed
   pub checked_step : (why : Stop) → preparation m e.machine h ≡ Err why → is_over e.account ≡ false
-      → step eq m e feed h ≡ stepped_to (with_turn e.account) (settlement m e.machine feed h (Err why))
+      → step eq m e feed h ≡ stepped_to (remembering (bare_record e.machine.core h) (with_turn e.account)) (settlement m e.machine feed h (Err why))
   checked_step why looked within =
-      by_turn (with_turn e.account) (settlement m e.machine feed h (Err why)) (accounted_checked eq m e.machine h why looked e.account within) within
-      (turn_checked m e.machine feed h why (ready_parts e h ready).1 looked)
+      by_turn (with_turn e.account) (settlement m e.machine feed h (Err why)) (bare_record e.machine.core h) (accounted_checked eq m e.machine h why looked e.account within) within
+      (turn_checked m e.machine feed h why (ready_parts e h ready).1 looked) (record_checked m e.machine feed h why looked)
 
   -- ---- steps that run out of words
 
@@ -192,10 +226,10 @@ module _ {S T : Type 0} (eq : T → T → Bool) (m : PolicyModel T S) (e : Stand
   module _ (look : Look) (looked : preparation m e.machine h ≡ Ok look) where
     -- which refused
     pub refused_step : (why : Stop) (b : Account T) → rule_answer m e.machine h look ≡ Err why → look_counted eq m e.machine h e.account ≡ b → is_over b ≡ false
-        → step eq m e feed h ≡ stepped_to (with_turn b) (settlement m e.machine feed h (Err why))
+        → step eq m e feed h ≡ stepped_to (remembering (bare_record e.machine.core h) (with_turn b)) (settlement m e.machine feed h (Err why))
     refused_step why b ruled looked_is within =
-        by_turn (with_turn b) (settlement m e.machine feed h (Err why)) (accounted_refused eq m e.machine h look looked why ruled e.account b looked_is within) within
-        (turn_refused m e.machine feed h look why (ready_parts e h ready).1 looked ruled)
+        by_turn (with_turn b) (settlement m e.machine feed h (Err why)) (bare_record e.machine.core h) (accounted_refused eq m e.machine h look looked why ruled e.account b looked_is within) within
+        (turn_refused m e.machine feed h look why (ready_parts e h ready).1 looked ruled) (record_refused m e.machine feed h look looked why ruled)
 
     -- which allowed
     module _ (outs : Outs T) (job : Result (Option (Job T)) Stop) (ruled : rule_answer m e.machine h look ≡ Ok outs) (planned_is : turn_job m e.machine h look outs ≡ job)
@@ -207,13 +241,14 @@ module _ {S T : Type 0} (eq : T → T → Bool) (m : PolicyModel T S) (e : Stand
       counted_here = accounted_ruled eq m e.machine h look looked outs ruled job e.account b planned_is ruled_is within_is
 
       pub ruled_step : (c : Account T) → served_here ≡ c → is_over c ≡ false
-          → step eq m e feed h ≡ stepped_to (with_turn c)
+          → step eq m e feed h ≡ stepped_to (remembering (record_planned m e.machine feed h look job) (with_turn c))
           (settlement m e.machine feed h (job >>= λ j. Ok (turn_effect m e.machine feed h look outs j)))
       ruled_step c served_is within =
-          by_turn (with_turn c) (settlement m e.machine feed h (job >>= λ j. Ok (turn_effect m e.machine feed h look outs j)))
+          by_turn (with_turn c) (settlement m e.machine feed h (job >>= λ j. Ok (turn_effect m e.machine feed h look outs j))) (record_planned m e.machine feed h look job)
           (counted_here ∙ ap with_turn served_is) within
           (turn_ruled m e.machine feed h look outs (ready_parts e h ready).1 looked ruled
           ∙ ap (λ given. settlement m e.machine feed h (given >>= λ j. Ok (turn_effect m e.machine feed h look outs j))) planned_is)
+          (record_ruled m e.machine feed h look looked outs job ruled planned_is)
 
       -- what the service writes has no words
       pub out_at_service : is_over served_here ≡ true → step eq m e feed h ≡ out_with (swept eq (standing_ruled eq m e.machine h look looked outs ruled) b)

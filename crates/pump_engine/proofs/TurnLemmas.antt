@@ -7,12 +7,15 @@ use Rattle.policy_trait.specs.declared.rules.Refused.{Refused}
 use Rattle.policy_trait.specs.declared.services.PlanEnd.{PlanEnd}
 use Rattle.tag_memory.specs.Hart.{HartState}
 use Rattle.monitor_calls.specs.Service.{Job}
-use Rattle.turn_steps.specs.Feeds.{Tape}
+use Rattle.turn_steps.specs.Feeds.{Tape, first_fed}
 use Rattle.turn_steps.specs.Looks.{is_call}
 use Rattle.turn_steps.specs.declared.look.Look.{Look}
 use Rattle.turn_steps.specs.declared.stop.Stop.{Stop}
-use Rattle.engine_trait.specs.Accounts.{Account, after_rule, first_written, is_over, look_counted, rule_counted, seeing, served_tags, standing_tags, swept}
+use Rattle.undo_log.specs.Past.{Past, past_by, pushed}
+use Rattle.undo_log.proofs.MapLemmas.{pushed_by}
+use Rattle.engine_trait.specs.Accounts.{Account, after_rule, first_written, is_over, look_counted, remembering, rule_counted, seeing, served_tags, standing_tags, swept}
 use Rattle.shared_terms.specs.Counts.{next_count}
+use Rattle.engine_trait.specs.History.{bare_record, record_by, record_served}
 use Rattle.engine_trait.specs.Machine.{Machine, hart_at}
 use Rattle.engine_trait.specs.Standing.{GivesUp, GivesUpAtRule, GivesUpAtService, Standing, Stepped, Wants, is_ready, step, wanting}
 use Rattle.engine_trait.specs.Turn.{Turned, rule_answer, carried_at, end_of, is_job, is_served, job_at, or_unserved, or_violation, turn_job, preparation, stopped_at, service_stop, violation}
@@ -29,7 +32,23 @@ use Rattle.miss_handler.specs.declared.ends.AskEnd.TheVariants as ask_end
 use Rattle.pump_engine.specs.Pump.{PumpState, account_by_words, decode, machine_by_words, standing_by_words}
 use Rattle.pump_engine.specs.Steps.{Allows, CarriesOut, Halts, HasParts, LeavesAccount, Serves, Unruled, after_effect, after_halt, after_stop, after_unanswered, answer_in, looked_in, outs_standing, ruled_in, ruling_in, service_in, swept_in, swept_served, unanswered_end, written_in}
 use Rattle.pump_engine.proofs.CountLemmas.{allowed_at, look_counted_by_words, rule_allows, rule_counted_by_words}
+use Rattle.pump_engine.proofs.RecordLemmas.{bare_record_by, record_by_by}
 use Rattle.pump_engine.proofs.StepLemmas.{checked_step, out_at_rule, out_at_service, planned_call, refused_step, room_idle, ruled_step, served_are, standing_ruled, stepped_to}
+
+-- the records of the tags that the words stand for, after a turn that stopped before its effect, and after that of an instruction
+module _ {S T : Type 0} (m : PolicyModel T S) (q : PumpState S T) (h : ℕ) where
+  abbrev pub told_past : Past T T
+  told_past = past_by (decode m q) q.past
+
+  pub stop_remembered : pushed told_past (bare_record (machine_by_words m q).core h) ≡ past_by (decode m q) (pushed q.past (bare_record q.core h))
+  stop_remembered = ap (pushed told_past) (bare_record_by (decode m q) q.core h) ∙ pushed_by (decode m q) q.past (bare_record q.core h)
+
+  pub effect_remembered : (feed : Tape) (look : Look)
+      → pushed told_past (record_by look.group (machine_by_words m q).core (first_fed feed.left) h look)
+      ≡ past_by (decode m q) (pushed q.past (record_by look.group q.core (first_fed feed.left) h look))
+  effect_remembered feed look =
+      ap (pushed told_past) (record_by_by (decode m q) q.core h look.group (first_fed feed.left) look)
+      ∙ pushed_by (decode m q) q.past (record_by look.group q.core (first_fed feed.left) h look)
 
 module _ {S T : Type 0} (eq : T → T → Bool) (m : PolicyModel T S) (p : PumpState S T) (feed : Tape) (h : ℕ) where
   -- the step of what the words stand for ends so
@@ -59,15 +78,26 @@ module _ {S T : Type 0} (eq : T → T → Bool) (m : PolicyModel T S) (p : PumpS
         → f ≡ after_stop p h why → ended ≡ ends.Stopped why → StepsTo f feed ended
     checked_turn f why ended within found f_is ended_is =
         told f (after_stop p h why) feed feed ended (ends.Stopped why)
-        (checked_step eq m (standing_by_words m p) feed h ready why found within) f_is refl ended_is
+        (checked_step eq m (standing_by_words m p) feed h ready why found within
+        ∙ ap (λ past. stepped_to (record (account_by_words m p) { turns = next_count p.turns; past = past })
+        (record { machine = stopped_at (machine_by_words m p) h why; feed = feed; ended = ends.Stopped why })) (stop_remembered m p h))
+        f_is refl ended_is
 
     -- ---- a turn that comes to its rule
 
     module _ (q : PumpState S T) (look : Look) (found : preparation m (machine_by_words m p) h ≡ Ok look) (parts : HasParts p q) where
-      -- the rule counts no turn
-      counts_on : (b : Account T) (turned : Turned S T)
-          → stepped_to (record b { turns = next_count p.turns }) turned ≡ stepped_to (record b { turns = next_count q.turns }) turned
-      counts_on b turned = ap (λ (n : ℕ). stepped_to (record b { turns = next_count n }) turned) (sym parts.turns)
+      -- the rule counts no turn, and the records may be told otherwise
+      counts_on : (b : Account T) (turned : Turned S T) (past told : Past T T) → past ≡ told
+          → stepped_to (record b { turns = next_count p.turns; past = past }) turned ≡ stepped_to (record b { turns = next_count q.turns; past = told }) turned
+      counts_on b turned past told same = λ j. stepped_to (record b { turns = next_count (sym parts.turns j); past = same j }) turned
+
+      -- a turn that stopped before its effect
+      stop_counts_on : (why : Stop) → stepped_to (record (remembering (bare_record (machine_by_words m q).core h) (account_by_words m q)) { turns = next_count p.turns })
+          (record { machine = stopped_at (machine_by_words m q) h why; feed = feed; ended = ends.Stopped why })
+          ≡ record { standing = standing_by_words m (after_stop q h why); feed = feed; ended = ends.Stopped why }
+      stop_counts_on why =
+          counts_on (account_by_words m q) (record { machine = stopped_at (machine_by_words m q) h why; feed = feed; ended = ends.Stopped why })
+          (pushed (told_past m q h) (bare_record (machine_by_words m q).core h)) (past_by (decode m q) (pushed q.past (bare_record q.core h))) (stop_remembered m q h)
 
       -- the same engine with the table that it has after its rule
       module _ (machine : machine_by_words m q ≡ machine_by_words m p) where
@@ -125,7 +155,7 @@ module _ {S T : Type 0} (eq : T → T → Bool) (m : PolicyModel T S) (p : PumpS
           (refused_step eq m (asked given.machine) feed h (asked_ready given.machine) look (asked_prepared given.machine) why
           (account_by_words m q) (asked_allowed given.machine ∙ ap (or_violation (hart_at q.core h).pc) (given.refused refusal refl))
           (look_counted_asked given.machine ∙ sym given.account) given.within
-          ∙ counts_on (account_by_words m q) (record { machine = stopped_at (machine_by_words m q) h why; feed = feed; ended = ends.Stopped why }))
+          ∙ stop_counts_on why)
 
       -- a step that stops the engine with an account
       halted_with : (why : Halt) (ended : TurnEnd) (a b : Account T) (s : Machine S T) → a ≡ b → ◌≡◌ {A = Stepped S T}
@@ -204,7 +234,7 @@ module _ {S T : Type 0} (eq : T → T → Bool) (m : PolicyModel T S) (p : PumpS
             ∙ λ j. record {
               standing = record {
                 machine = record { policy = q.policy; core = core_effected_by (decode m q) q.core feed h look outs j };
-                account = record (account_by_words m q) { turns = next_count (sym parts.turns j) };
+                account = record (account_by_words m q) { turns = next_count (sym parts.turns j); past = effect_remembered m q h feed look j };
               };
               feed = (carried_at_by (decode m q) q.core feed h look outs j).feed;
               ended = end_of (carried_at_by (decode m q) q.core feed h look outs j).done;
@@ -231,7 +261,7 @@ module _ {S T : Type 0} (eq : T → T → Bool) (m : PolicyModel T S) (p : PumpS
               ∙ ap (λ (hart : HartState T). or_unserved hart.pc look.service (Err end)) (hart_at_by (decode m q) q.core h))
               (account_by_words m q) counted_now rule.within
               (account_by_words m q) (room_idle eq (standing_ruled eq m now.machine h look prepared_now outs_now allowed_now) (account_by_words m q) rule.within) rule.within
-              ∙ counts_on (account_by_words m q) (record { machine = stopped_at (machine_by_words m q) h why; feed = feed; ended = ends.Stopped why }))
+              ∙ stop_counts_on why)
 
           -- which isn't served
           pub unserved_turn : (f : PumpState S T) (end : PlanEnd) (ended : TurnEnd) → service_in eq m q h look outs ≡ Err end
@@ -257,7 +287,8 @@ module _ {S T : Type 0} (eq : T → T → Bool) (m : PolicyModel T S) (p : PumpS
                 ∙ λ j. record {
                   standing = record {
                     machine = sym done.machine j;
-                    account = (ap (λ (n : ℕ). record written { turns = next_count n }) (sym parts.turns) ∙ sym done.account_is) j;
+                    account = (ap (λ (n : ℕ). record (remembering (record_served now.machine.core h job.words job.plan) written) { turns = next_count n }) (sym parts.turns)
+                        ∙ sym done.account_is) j;
                   };
                   feed = feed;
                   ended = ends.Ran None;

@@ -1,3 +1,4 @@
+pub mod Back
 pub mod Low
 pub mod Pump
 pub mod Steps

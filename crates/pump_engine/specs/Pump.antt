@@ -4,6 +4,7 @@ use Rattle.std.specs.Prelude.{◌≡◌, ℕ, ◌≤◌, Option, Some, length, m
 use Rattle.rv_decode.specs.declared.groups.Group.{Group}
 use Rattle.policy_trait.specs.Model.{PolicyModel}
 use Rattle.policy_trait.specs.declared.rules.Mask.{Mask}
+use Rattle.undo_log.specs.Past.{Past, past_by}
 use Rattle.engine_trait.specs.Accounts.{Account}
 use Rattle.engine_trait.specs.Machine.{CoreState, IsMachine, Machine}
 use Rattle.engine_trait.specs.Maps.{core_by}
@@ -15,10 +16,10 @@ use Rattle.tag_intern.specs.Table.{TableState}
 use Rattle.tag_intern.specs.Words.{tag_at}
 use Rattle.miss_handler.specs.Asked.{AreRules}
 use Rattle.miss_handler.specs.Books.{rulebook_of}
-use Rattle.pump_engine.specs.Low.{IsLowCore}
+use Rattle.pump_engine.specs.Low.{IsLowCore, IsLowPast}
 
 -- the policy's value, the core of words, the table of tags, the kept rules with the counts of look-ups, the counts of turns and
--- of sweeps, and why the engine is stopped as a whole
+-- of sweeps, why the engine is stopped as a whole, and the records of the last turns, in words but for their plans
 pub record PumpState (S T : Type 0) : Type 0 where
   pub policy : S
   pub core : CoreState ℕ
@@ -27,10 +28,11 @@ pub record PumpState (S T : Type 0) : Type 0 where
   pub turns : ℕ
   pub sweeps : ℕ
   pub halt : Option Halt
+  pub past : Past ℕ T
 
-abbrev pub pump_of : {S T : Type 0} → S → CoreState ℕ → TableState T → Store → ℕ → ℕ → Option Halt → PumpState S T
-pump_of policy core table store turns sweeps halt =
-    record { policy = policy; core = core; table = table; store = store; turns = turns; sweeps = sweeps; halt = halt }
+abbrev pub pump_of : {S T : Type 0} → S → CoreState ℕ → TableState T → Store → ℕ → ℕ → Option Halt → Past ℕ T → PumpState S T
+pump_of policy core table store turns sweeps halt past =
+    record { policy = policy; core = core; table = table; store = store; turns = turns; sweeps = sweeps; halt = halt; past = past }
 
 module _ {S T : Type 0} (m : PolicyModel T S) where
   -- what a word stands for
@@ -41,7 +43,8 @@ module _ {S T : Type 0} (m : PolicyModel T S) where
   abbrev pub machine_by_words : PumpState S T → Machine S T
   machine_by_words p = record { policy = p.policy; core = core_by (decode p) p.core }
 
-  -- its account: the tags that have words are the table's, and the kept keys are those of the store
+  -- its account: the tags that have words are the table's, the kept keys are those of the store, and the records are those of
+  -- the tags that their words stand for
   abbrev pub account_by_words : PumpState S T → Account T
   account_by_words p = record {
     table = p.table.tags;
@@ -53,14 +56,15 @@ module _ {S T : Type 0} (m : PolicyModel T S) where
     misses = p.store.misses;
     sweeps = p.sweeps;
     halt = p.halt;
+    past = past_by (decode p) p.past;
   }
 
   abbrev pub standing_by_words : PumpState S T → Standing S T
   standing_by_words p = record { machine = machine_by_words p; account = account_by_words p }
 
   -- what holds of the engine at all times: the machine is sound, word 0 is the plain tag, no more tags have words than may,
-  -- every word in a register, in a pc and in memory is that of a tag, each kept rule is the policy's answer, and each set may
-  -- keep one
+  -- every word in a register, in a pc, in memory and in a record is that of a tag, each kept rule is the policy's answer, and
+  -- each set may keep one
   pub record IsPump (p : PumpState S T) : Type 0 where
     pub machine : IsMachine m (machine_by_words p)
     pub plain_word : slice_get p.table.tags 0 ≡ Some (m.plain p.policy)
@@ -68,6 +72,7 @@ module _ {S T : Type 0} (m : PolicyModel T S) where
     pub words : IsLowCore (length p.table.tags) p.core
     pub rules : AreRules (rulebook_of m p.policy) p.table.tags p.store.sets
     pub room : 1 ≤ p.store.ways
+    pub remembered : IsLowPast (length p.table.tags) p.past
 
   -- the masks that were taken are the policy's
   pub record IsMasked (masks : Group → Mask) (p : PumpState S T) : Type 0 where

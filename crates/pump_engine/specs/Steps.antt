@@ -1,5 +1,5 @@
 -- The steps of a turn where tags are words.
-use Rattle.std.specs.Prelude.{◌≡◌, ◌⊎◌, ℕ, ◌<◌, Bool, true, false, ◌&&◌, ◌||◌, not, List, [], ◌∷◌, ◌++◌, map, Some, None, Result, Ok, Err, IsOk, is_ok, length, slice_index}
+use Rattle.std.specs.Prelude.{◌≡◌, ◌⊎◌, ℕ, ◌<◌, Bool, true, false, ◌&&◌, ◌||◌, not, List, [], ◌∷◌, ◌++◌, map, Option, Some, None, Result, Ok, Err, IsOk, is_ok, length, slice_index}
 use Rattle.std.specs.List.{AllByRecursion}
 use Rattle.policy_trait.specs.Maps.{outs_by}
 use Rattle.policy_trait.specs.Model.{PolicyModel}
@@ -10,11 +10,14 @@ use Rattle.policy_trait.specs.declared.services.PlanEnd.{PlanEnd}
 use Rattle.tag_memory.specs.Hart.{HartState}
 use Rattle.tag_memory.specs.Ram.{RamState, ram_tag, ram_word}
 use Rattle.monitor_calls.specs.Service.{Job, service_job}
-use Rattle.turn_steps.specs.Feeds.{Tape}
+use Rattle.turn_steps.specs.Feeds.{Tape, first_fed}
 use Rattle.turn_steps.specs.declared.look.Look.{Look}
 use Rattle.turn_steps.specs.declared.stop.Stop.{Stop}
-use Rattle.engine_trait.specs.Accounts.{Account, Key, after_rule, first_written, is_kept, is_over, key_of, looked_up, seeing, standing_tags, swept, with_room, written_tags}
+use Rattle.undo_log.specs.Past.{Past, pushed}
+use Rattle.undo_log.specs.declared.record.Record.{Record}
+use Rattle.engine_trait.specs.Accounts.{Account, Key, after_rule, first_written, is_kept, is_over, key_of, looked_up, remembering, seeing, standing_tags, swept, with_room, written_tags}
 use Rattle.shared_terms.specs.Counts.{next_count}
+use Rattle.engine_trait.specs.History.{bare_record, record_by, record_served}
 use Rattle.engine_trait.specs.Machine.{fresh_core, hart_at, stopping}
 use Rattle.engine_trait.specs.Standing.{Standing}
 use Rattle.engine_trait.specs.Turn.{core_effected, core_served, is_served, preparation, rule_at, rule_inputs, service_on, service_stop, violation}
@@ -34,12 +37,18 @@ use Rattle.miss_handler.specs.declared.ends.AskEnd.TheVariants as ask_end
 use Rattle.pump_engine.specs.Pump.{PumpState, account_by_words, decode, machine_by_words, pump_of}
 
 -- the engine of these parts: no hart has stopped, and no turn was made
-abbrev pub pump_start : {S T : Type 0} → S → List (HartState ℕ) → RamState ℕ → TableState T → Store → PumpState S T
-pump_start policy harts ram table store = pump_of policy (fresh_core harts ram) table store 0 0 None
+abbrev pub pump_start : {S T : Type 0} → S → List (HartState ℕ) → RamState ℕ → TableState T → Store → Past ℕ T → PumpState S T
+pump_start policy harts ram table store past = pump_of policy (fresh_core harts ram) table store 0 0 None past
 
--- a turn that stopped the hart is counted
+-- a turn is remembered by this record, if there is one
+abbrev pub pushed_if : {T U : Type 0} → Past T U → Option (Record T U) → Past T U
+pushed_if past None = past
+pushed_if past (Some made) = pushed past made
+
+-- a turn that stopped the hart is counted and remembered
 abbrev pub after_stop : {S T : Type 0} → PumpState S T → ℕ → Stop → PumpState S T
-after_stop p h why = record p { core = stopping p.core h why; turns = next_count p.turns }
+after_stop p h why =
+    record p { core = stopping p.core h why; turns = next_count p.turns; past = pushed p.past (bare_record p.core h) }
 
 -- the engine stopped as a whole
 abbrev pub after_halt : {S T : Type 0} → PumpState S T → Halt → PumpState S T
@@ -47,7 +56,11 @@ after_halt p why = record p { halt = Some why }
 
 -- a turn that had the effect of its instruction
 abbrev pub after_effect : {S T : Type 0} → PumpState S T → Tape → ℕ → Look → Outs ℕ → PumpState S T
-after_effect p feed h look outs = record p { core = core_effected p.core feed h look outs; turns = next_count p.turns }
+after_effect p feed h look outs = record p {
+  core = core_effected p.core feed h look outs;
+  turns = next_count p.turns;
+  past = pushed p.past (record_by look.group p.core (first_fed feed.left) h look);
+}
 
 -- ---- the rule
 
@@ -205,13 +218,14 @@ module _ {S T : Type 0} (eq : T → T → Bool) (m : PolicyModel T S) (p : PumpS
   abbrev pub swept_served : Account T
   swept_served = swept eq outs_standing (account_by_words m p)
 
-  -- it was carried out, and the account is this one but for the count of turns
+  -- it was carried out, and the account is this one but for the count of turns and the turn's record
   pub record Serves (job : Job T) (account : Account T) (q : PumpState S T) : Type 0 where
     pub machine : machine_by_words m q ≡ record {
       policy = m.commit p.policy job.plan;
       core = core_served (machine_by_words m p).core h job.words job.plan.answer look.effect.next (decode m p outs.pc);
     }
-    pub account_is : account_by_words m q ≡ record account { turns = next_count p.turns }
+    pub account_is : account_by_words m q
+        ≡ record (remembering (record_served (machine_by_words m p).core h job.words job.plan) account) { turns = next_count p.turns }
     pub within : is_over (account_by_words m q) ≡ false
 
   -- how it ended without a sweep where nothing refuses it: it was carried out; or memory ran out, and the engine is stopped; or what it

@@ -1,7 +1,8 @@
 //! The engine whose tags are words of a table, with a cache of rules.
 
-ghost use Rattle.std.specs.Prelude.{◌≡◌, ◌≢◌, ◌+◌, ◌%◌, ◌<◌, ◌≤◌, not, [], Err, Ok, Some, None, IfErr, IfOk, IfSome, IsOk, IsOkAnd, IsTrue, OnErr, OnOk, false, true, length};
+ghost use Rattle.std.specs.Prelude.{◌≡◌, ◌≢◌, ◌+◌, ◌%◌, ◌<◌, ◌≤◌, not, [], Err, Ok, Some, None, IfErr, IfOk, IfSome, IsOk, IsOkAnd, IsTrue, OnErr, OnOk, false, is_some, true, length};
 ghost use Rattle.std.specs.List.{All, AllByRecursion};
+ghost use Rattle.std.specs.Option.{ForSome};
 ghost use Rattle.policy_trait.specs.Model.{IsGiven};
 ghost use Rattle.monitor_calls.specs.Ends.{EndsAs, job_by};
 ghost use Rattle.tag_memory.specs.Hart.{reg_tag, reg_value};
@@ -10,15 +11,19 @@ ghost use Rattle.turn_steps.specs.Effects.{IsSound};
 ghost use Rattle.turn_steps.specs.Feeds.{Tape};
 ghost use Rattle.turn_steps.specs.Looks.{is_call, is_system, look_result, unless_system};
 ghost use Rattle.turn_steps.specs.declared.look.Look.{Look as AnyLook};
-ghost use Rattle.engine_trait.specs.Accounts.{is_kept, is_over, seeing, written_tags};
+ghost use Rattle.undo_log.specs.Past.{newest};
+ghost use Rattle.engine_trait.specs.Accounts.{counts_of, is_kept, is_over, seeing, written_tags};
 ghost use Rattle.engine_trait.specs.Machine.{IsMachine, hart_at, stop_at};
 ghost use Rattle.engine_trait.specs.Standing.{GivesUp, IsFailure, StopsOnly, Unchanged, is_ready, step};
 ghost use Rattle.engine_trait.specs.Turn.{carried_at, end_of, is_offered, may_look, preparation, violation};
 ghost use Rattle.miss_handler.specs.Asked.{AreOutWords};
+ghost use Rattle.pump_engine.specs.Back.{CanTakeBack, taken_back, unread_by};
 ghost use Rattle.pump_engine.specs.Pump.{IsPump, account_by_words, machine_by_words, standing_by_words};
 ghost use Rattle.pump_engine.specs.Steps.{Allows, CarriesOut, EndsService, HasParts, IsSwept, Settles, TriesOut, Unanswered, Unruled};
 ghost use Rattle.pump_engine.specs.Steps.{after_effect, after_halt, after_stop, after_unanswered, job_over, key_in, pump_start, service_in, takes_memory, unanswered_end};
 
+use crate::records::{push_if, remember_effect, remember_stop, service_record};
+use crate::taking_back::{awake, uncommit_if, unread_if};
 use engine_trait::{Core, Counts, Engine, Feed, Halt, Stop, TurnEnd};
 use miss_handler::{AskEnd, Asking, Masks, ask, settle};
 use monitor_calls::{Job, ServeEnd, serve};
@@ -31,6 +36,7 @@ use std::marker::Model;
 use tag_intern::{Decoder, InternEnd, TagTable, remade, renumbering};
 use tag_memory::{Hart, Ram};
 use turn_steps::{Look, Peeks, is_call};
+use undo_log::{NoLog, WordLog};
 use word_service::{Decoded, intern_job};
 
 /// An engine whose tags are words of a table, and which asks its policy for a rule only where the rule is not kept.
@@ -38,7 +44,7 @@ use word_service::{Decoded, intern_job};
 /// Contracts see it as a `PumpState`; `standing_by_words` is the machine of the tags that the words stand for, with its
 /// account.
 #[derive(Drop)]
-pub struct Pump<P: Policy, T: TagTable<Tag = P::Tag>, C: RuleStore> {
+pub struct Pump<P: Policy, T: TagTable<Tag = P::Tag>, C: RuleStore, H: WordLog<Tag = P::Tag>> {
     alloc: Global,
     policy: P,
     masks: Masks,
@@ -48,6 +54,7 @@ pub struct Pump<P: Policy, T: TagTable<Tag = P::Tag>, C: RuleStore> {
     turns: u64,
     sweeps: u64,
     halt: Option<Halt>,
+    log: H,
 }
 
 /// A policy, asked by the words of its tags whether a turn may look at values.
@@ -84,19 +91,27 @@ struct ServiceCall<'a, T: TagTable> {
     memory: Decoded<'a, T>,
 }
 
-impl<P: Policy, T: TagTable<Tag = P::Tag>, C: RuleStore> Model for Pump<P, T, C> {
+impl<P: Policy, T: TagTable<Tag = P::Tag>, C: RuleStore, H: WordLog<Tag = P::Tag>> Model
+    for Pump<P, T, C, H> {
     ghost use Rattle.pump_engine.specs.Pump.{IsMasked, PumpState, pump_of};
 
     ghost Value = { PumpState P P.Tag };
 
-    ghost view = { λ p. pump_of p.policy p.core (T.state p.tags) (C.state p.store) p.turns p.sweeps p.halt };
+    ghost view = { λ p. pump_of p.policy p.core (T.state p.tags) (C.state p.store)
+        p.turns p.sweeps p.halt (H.past p.log) };
 
     ghost invariant = { λ p. IsMasked P.model p.masks
-        (pump_of p.policy p.core (T.state p.tags) (C.state p.store) p.turns p.sweeps p.halt) };
+        (pump_of p.policy p.core (T.state p.tags) (C.state p.store)
+        p.turns p.sweeps p.halt (H.past p.log)) };
 }
 
-impl<P: Policy, T: TagTable<Tag = P::Tag>, C: RuleStore> Pump<P, T, C> {
-    /// The engine of these parts, of 1 to 8 harts: no hart has stopped, and no turn was made.
+impl<P: Policy, T: TagTable<Tag = P::Tag>, C: RuleStore, H: WordLog<Tag = P::Tag>> Pump<
+    P,
+    T,
+    C,
+    H,
+> {
+    /// The engine of these parts, of 1 to 8 harts: no hart has stopped, and no turn was made. The log has no record yet.
     pub fn new(
         alloc: Global,
         policy: P,
@@ -104,10 +119,13 @@ impl<P: Policy, T: TagTable<Tag = P::Tag>, C: RuleStore> Pump<P, T, C> {
         harts: Vec<Hart<u32>>,
         tags: T,
         store: C,
-    ) -> Pump<P, T, C>
-        requires { IsPump P.model
-            (pump_start policy harts.items ram (T.state tags) (C.state store)) }
-        ensures { result ≡ pump_start policy harts.items ram (T.state tags) (C.state store) }
+        log: H,
+    ) -> Pump<P, T, C, H>
+        requires start { IsPump P.model
+            (pump_start policy harts.items ram (T.state tags) (C.state store) (H.past log)) }
+        requires empty { (H.past log).kept ≡ [] }
+        ensures { result
+            ≡ pump_start policy harts.items ram (T.state tags) (C.state store) (H.past log) }
     {
         let masks = Masks::of(&policy);
         Pump {
@@ -120,6 +138,7 @@ impl<P: Policy, T: TagTable<Tag = P::Tag>, C: RuleStore> Pump<P, T, C> {
             turns: 0,
             sweeps: 0,
             halt: None,
+            log,
         }
     }
 
@@ -134,7 +153,7 @@ impl<P: Policy, T: TagTable<Tag = P::Tag>, C: RuleStore> Pump<P, T, C> {
 
     /// Whether hart `h` can have a turn: neither it nor the engine has stopped.
     #[inline(always)]
-    fn is_ready(&self, h: u32) -> bool
+    pub(crate) fn is_ready(&self, h: u32) -> bool
         requires { h < length (standing_by_words P.model self.now).machine.core.harts }
         ensures ready { result ≡ is_ready (standing_by_words P.model self.now) h }
         ensures hart { h < length self.now.core.harts }
@@ -230,12 +249,13 @@ impl<P: Policy, T: TagTable<Tag = P::Tag>, C: RuleStore> Pump<P, T, C> {
         Ok(look)
     }
 
-    /// Counts a turn that stopped hart `h`.
+    /// Counts a turn that stopped hart `h`, and remembers it.
     fn stop_hart(&mut self, h: u32, why: Stop) -> TurnEnd
         requires { h < length self.old.core.harts }
         ensures state { self.new ≡ after_stop self.old h why }
         ensures end { result ≡ TurnEnd.Stopped why }
     {
+        remember_stop(&mut self.log, self.alloc, &self.core, h);
         self.core.stop_hart(h, why);
         count_up(&mut self.turns);
         TurnEnd::Stopped(why)
@@ -284,9 +304,9 @@ impl<P: Policy, T: TagTable<Tag = P::Tag>, C: RuleStore> Pump<P, T, C> {
         )
     }
 
-    /// Gives back the words of tags that stand nowhere any more: those in harts and memory, and those of the words that were made beside
-    /// them, have words after it, and no rule is kept. It gives the new number of each old word. All its memory is taken before anything
-    /// is changed; running out of it is its only error.
+    /// Gives back the words of tags that stand nowhere any more: those in harts and memory, those of the words that were made beside
+    /// them, and those in records have words after it, and no rule is kept. It gives the new number of each old word. All its memory is
+    /// taken before anything is changed; running out of it is its only error.
     #[inline(never)]
     fn sweep(&mut self, made: &[u32]) -> Result<Vec<u32>, AllocError>
         requires { AllByRecursion (λ word. word < length self.old.table.tags) made.now }
@@ -301,12 +321,14 @@ impl<P: Policy, T: TagTable<Tag = P::Tag>, C: RuleStore> Pump<P, T, C> {
         let plain = self.policy.plain();
         let mut live = self.core.tags(self.alloc)?;
         live.extend_from_slice(made)?;
+        self.log.push_words(&mut live)?;
         let Ok(table) = remade(self.alloc, &self.tags, plain, &live) else {
             return Err(AllocError);
         };
         let numbers = renumbering(self.alloc, &self.tags, &table, plain)?;
         let _words = table.len(); // for the proof: no more tags have words than may
         self.core.renumber(&numbers);
+        self.log.renumber(&numbers);
         self.tags = table;
         self.store.clear();
         count_up(&mut self.sweeps);
@@ -423,6 +445,7 @@ impl<P: Policy, T: TagTable<Tag = P::Tag>, C: RuleStore> Pump<P, T, C> {
         ensures harts { length self.new.core.harts ≡ length self.old.core.harts }
         ensures bytes { ram_bytes self.new.core.ram ≡ ram_bytes self.old.core.ram }
     {
+        remember_effect(&mut self.log, self.alloc, &self.core, h, look, feed.peek());
         count_up(&mut self.turns);
         self.core.effect(h, feed, look, outs)
     }
@@ -442,13 +465,14 @@ impl<P: Policy, T: TagTable<Tag = P::Tag>, C: RuleStore> Pump<P, T, C> {
         ensures harts { length self.new.core.harts ≡ length self.old.core.harts }
         ensures bytes { ram_bytes self.new.core.ram ≡ ram_bytes self.old.core.ram }
     {
+        remember_effect(&mut self.log, self.alloc, &self.core, h, look, None);
         count_up(&mut self.turns);
         self.core.step(h, look, outs);
         TurnEnd::Ran(None)
     }
 
     /// What the words of the table stand for.
-    fn decoder(&self) -> Decoder<'_, T>
+    pub(crate) fn decoder(&self) -> Decoder<'_, T>
         ensures tags { T.state result.tags.now ≡ self.now.table }
         ensures plain { result.plain ≡ P.model.plain self.now.policy }
     {
@@ -511,7 +535,7 @@ impl<P: Policy, T: TagTable<Tag = P::Tag>, C: RuleStore> Pump<P, T, C> {
     }
 
     /// Carries out a service that nothing refused, unless what it writes has no words without a sweep, which changes nothing. What it
-    /// writes gets words, and the policy takes note, before anything is written, since those alone can fail.
+    /// writes gets words, its record is taken, and the policy takes note, before anything is written, since those alone can fail.
     fn try_out(
         &mut self,
         h: u32,
@@ -535,10 +559,22 @@ impl<P: Policy, T: TagTable<Tag = P::Tag>, C: RuleStore> Pump<P, T, C> {
             Ok(written) => written,
             Err(end) => return Err(end),
         };
+        let Ok(made) = service_record(
+            &self.log,
+            self.alloc,
+            &self.core,
+            h,
+            &written.words,
+            &job.plan,
+        ) else {
+            self.tags.cut(len);
+            return Ok(self.give_up());
+        };
         if self.policy.commit(&job.plan).is_err() {
             self.tags.cut(len);
             return Ok(self.give_up());
         }
+        push_if(&mut self.log, made);
         self.core.serve(
             h,
             &written.words,
@@ -621,8 +657,9 @@ impl<P: Policy, T: TagTable<Tag = P::Tag>, C: RuleStore> Pump<P, T, C> {
         }
     }
 
-    /// A turn of hart `h`, whichever it is. It stays a call: few turns fail a check, or make an ECALL or an EBREAK, and every turn's code
-    /// would be larger by what those take. That it is rare is told to the compiler, which else spares registers for it at every turn.
+    /// A turn of hart `h`, whichever it is, remembered where turns are. It stays a call: few turns of an engine that remembers none
+    /// fail a check, or make an ECALL or an EBREAK, and every turn's code would be larger by what those take. That it is rare is told to
+    /// the compiler, which else spares registers for it at every turn.
     #[cold]
     #[inline(never)]
     #[tactic(auto)]
@@ -662,9 +699,107 @@ impl<P: Policy, T: TagTable<Tag = P::Tag>, C: RuleStore> Pump<P, T, C> {
         }
         self.effect(h, feed, &look, outs)
     }
+
+    /// The turn of a hart that is ready.
+    #[inline(always)]
+    #[tactic(auto)]
+    pub(crate) fn turn_of_ready(&mut self, h: u32, feed: &mut Feed) -> TurnEnd
+        requires hart { h < length (standing_by_words P.model self.old).machine.core.harts }
+        requires ready { is_ready (standing_by_words P.model self.old) h ≡ true }
+        ensures step { result ≢ TurnEnd.Memory
+            → step P.Tag.eq P.model (standing_by_words P.model self.old) feed.old h
+            ≡ record { standing = standing_by_words P.model self.new; feed = feed.new; ended = result } }
+        ensures memory { result ≡ TurnEnd.Memory
+            → GivesUp P.Tag.eq P.model (standing_by_words P.model self.old) feed.old h
+            (standing_by_words P.model self.new) feed.new }
+        ensures failure { (why : Stop) → IsFailure why → result ≡ TurnEnd.Stopped why
+            → StopsOnly (standing_by_words P.model self.old) feed.old h why
+            (standing_by_words P.model self.new) feed.new }
+        ensures busy { result ≢ TurnEnd.Idle }
+        ensures harts { length (standing_by_words P.model self.new).machine.core.harts
+            ≡ length (standing_by_words P.model self.old).machine.core.harts }
+        ensures ram { ram_bytes (standing_by_words P.model self.new).machine.core.ram
+            ≡ ram_bytes (standing_by_words P.model self.old).machine.core.ram }
+        // A turn whose rule is kept takes no memory, but for a service of the policy that nothing refuses.
+        ensures kept { result ≡ TurnEnd.Memory
+            → takes_memory P.Tag.eq P.model (standing_by_words P.model self.old) h ≡ true }
+    {
+        // Serves the proof alone: no more tags have words than may.
+        let _ready = self.is_ready(h);
+        if self.policy.peeks() {
+            return self.rare_turn(h, feed);
+        }
+        let Some(look) = self.step_look(h) else {
+            return self.rare_turn(h, feed);
+        };
+        let outs = match self.answered(h, &look) {
+            Ok(outs) => outs,
+            Err(end) => return self.end_unanswered(h, end),
+        };
+        self.step(h, &look, outs)
+    }
+
+    /// How many turns are remembered, 0 to 65,536.
+    pub(crate) fn remembered(&self) -> u32
+        ensures { result ≡ length self.now.past.kept }
+    {
+        self.log.len()
+    }
+
+    /// Takes the newest turn back that is remembered, by its record, with the byte of the feed that it read; `false` where none is.
+    pub(crate) fn take_back(&mut self, feed: &mut Feed) -> bool
+        requires can { ForSome (newest self.old.past) (CanTakeBack P.model self.old P.holds) }
+        ensures state { self.new ≡ taken_back P.model self.old (newest self.old.past) }
+        ensures feed { feed.new ≡ unread_by (newest self.old.past) feed.old }
+        ensures some { result ≡ is_some (newest self.old.past) }
+        ensures harts { length self.new.core.harts ≡ length self.old.core.harts }
+        ensures bytes { ram_bytes self.new.core.ram ≡ ram_bytes self.old.core.ram }
+    {
+        let Some(made) = self.log.pop() else {
+            return false;
+        };
+        self.core.undo(&made);
+        uncommit_if(&mut self.policy, &made.plan);
+        unread_if(feed, made.fed);
+        self.halt = awake(self.halt);
+        true
+    }
+
+    /// Harts and memory, whose tags are words.
+    pub(crate) fn core(&self) -> &Core<u32>
+        ensures { result.now ≡ self.now.core }
+    {
+        &self.core
+    }
+
+    /// The policy.
+    pub(crate) fn asked_policy(&self) -> &P
+        ensures { result.now ≡ self.now.policy }
+    {
+        &self.policy
+    }
+
+    /// Why the engine as a whole is stopped, `None` where it is not.
+    pub(crate) fn why_stopped(&self) -> Option<Halt>
+        ensures { result ≡ self.now.halt }
+    {
+        self.halt
+    }
+
+    /// How many turns, hits, misses and sweeps there were.
+    pub(crate) fn told_counts(&self) -> Counts
+        ensures { result ≡ counts_of (account_by_words P.model self.now) }
+    {
+        Counts {
+            turns: self.turns,
+            hits: self.store.hits(),
+            misses: self.store.misses(),
+            sweeps: self.sweeps,
+        }
+    }
 }
 
-impl<P: Policy, T: TagTable<Tag = P::Tag>, C: RuleStore> Engine for Pump<P, T, C> {
+impl<P: Policy, T: TagTable<Tag = P::Tag>, C: RuleStore> Engine for Pump<P, T, C, NoLog<P::Tag>> {
     ghost use Rattle.pump_engine.specs.Pump.{standing_by_words};
 
     type P = P;
@@ -724,19 +859,19 @@ impl<P: Policy, T: TagTable<Tag = P::Tag>, C: RuleStore> Engine for Pump<P, T, C
         ensures kept { result ≡ TurnEnd.Memory
             → takes_memory P.Tag.eq P.model (standing_by_words P.model self.old) h ≡ true }
     {
-        // Serves the proof alone: no more tags have words than may.
-        let _ready = self.is_ready(h);
-        if self.policy.peeks() {
-            return self.rare_turn(h, feed);
-        }
-        let Some(look) = self.step_look(h) else {
-            return self.rare_turn(h, feed);
-        };
-        let outs = match self.answered(h, &look) {
-            Ok(outs) => outs,
-            Err(end) => return self.end_unanswered(h, end),
-        };
-        self.step(h, &look, outs)
+        self.turn_of_ready(h, feed)
+    }
+
+    fn remembered(&self) -> u32 {
+        // Serves the proof alone: no turn is remembered.
+        let _keeps = self.log.keeps();
+        0
+    }
+
+    fn back(&mut self, _feed: &mut Feed) -> bool {
+        // Serves the proof alone: no turn is remembered.
+        let _keeps = self.log.keeps();
+        false
     }
 
     fn harts(&self) -> u32 {
@@ -788,11 +923,6 @@ impl<P: Policy, T: TagTable<Tag = P::Tag>, C: RuleStore> Engine for Pump<P, T, C
     }
 
     fn counts(&self) -> Counts {
-        Counts {
-            turns: self.turns,
-            hits: self.store.hits(),
-            misses: self.store.misses(),
-            sweeps: self.sweeps,
-        }
+        self.told_counts()
     }
 }

@@ -1,4 +1,5 @@
--- What a task that words ask for allows: some tag may have a word, and its kept rules are in some set and few enough.
+-- What a task that words ask for allows: some tag may have a word, its kept rules are in some set and few enough, and few
+-- enough turns can be taken back.
 use Rattle.std.proofs.Common.{◌≡◌, ℕ, ◌*◌, ◌≤◌, nat_le, Bool, true, false, ◌&&◌, List, Option, Some, None, refl, ap, subst, if◌then◌else◌, arith}
 use Rattle.std.proofs.lemmas.Bool.Decides.{nat_tests}
 use Rattle.std.specs.List.{after_first, before_first, position_or_len}
@@ -8,7 +9,7 @@ use Rattle.cache_size.specs.Sizes.{IsCacheSize, one_set}
 use Rattle.cache_size.specs.declared.size.CacheSize.{CacheSize}
 use Rattle.policy_choice.specs.declared.choice.Choice.{Choice}
 use Rattle.pump_line.specs.Request.{Request, disassemble_asked, elf_asked, load_asked, request_of, run_asked, save_asked, shell_asked}
-use Rattle.pump_line.specs.Task.{AllowsRules, AllowsTags, LoadTask, RunTask, ShellTask, Task, cache_of, disassemble, elf, is_times, load, load_task_in, load_with, number_of, number_within, run, run_task_in, run_with, save, shell, shell_task_in, shell_with, size_in_sets, size_with, tags_of, task_in, task_of, whole_size}
+use Rattle.pump_line.specs.Task.{AllowsHistory, AllowsRules, AllowsTags, LoadTask, RunTask, ShellTask, Task, cache_of, disassemble, elf, history_of, is_times, load, load_task_in, load_with, number_of, number_within, run, run_task_in, run_with, save, shell, shell_task_in, shell_with, size_in_sets, size_with, tags_of, task_in, task_of, whole_size}
 use Rattle.pump_line.proofs.ValueLemmas.{within}
 
 -- ---- a number within its bounds
@@ -30,6 +31,10 @@ bounds_taken least most (Some n) taken is =
 some_tags : (text : Option Text) (n : ℕ) → tags_of text ≡ Some n → 1 ≤ n
 some_tags None n is = let same : 65536 ≡ n = cc in omega (arith, same)
 some_tags (Some text) n is = (bounds_taken 1 1048576 (number_of text) n is).0
+
+few_turns : (text : Option Text) (n : ℕ) → history_of text ≡ Some n → n ≤ 65536
+few_turns None n is = let same : 0 ≡ n = cc in omega (arith, same)
+few_turns (Some text) n is = (bounds_taken 0 65536 (number_of text) n is).1
 
 in_one_set : (ways : ℕ) → ways ≤ 65536 → IsCacheSize (one_set ways)
 in_one_set ways few = record { some_sets = omega arith; few_rules = omega (arith, few) }
@@ -83,15 +88,16 @@ run_has image (Some chosen) secret (Some rules) (Some limit) (Some most) task is
     let same : read ≡ task = cc in
     (ap (λ (other : RunTask). Some other.cache) same, ap (λ (other : RunTask). Some other.tags) same)
 
-shell_has : (image : Text) (choice : Option Choice) (secret : Option Text) (cache : Option CacheSize) (tags : Option ℕ) (task : ShellTask)
-    → shell_with image choice secret cache tags ≡ Some task → HasRead cache tags task.cache task.tags
-shell_has image None secret cache tags task is = absurd cc
-shell_has image (Some chosen) secret None tags task is = absurd cc
-shell_has image (Some chosen) secret (Some rules) None task is = absurd cc
-shell_has image (Some chosen) secret (Some rules) (Some limit) task is =
-    let read : ShellTask = record { image = image; choice = chosen; secret = secret; cache = rules; tags = limit } in
+shell_has : (image : Text) (choice : Option Choice) (secret : Option Text) (cache : Option CacheSize) (tags history : Option ℕ) (task : ShellTask)
+    → shell_with image choice secret cache tags history ≡ Some task → HasRead cache tags task.cache task.tags × (history ≡ Some task.history)
+shell_has image None secret cache tags history task is = absurd cc
+shell_has image (Some chosen) secret None tags history task is = absurd cc
+shell_has image (Some chosen) secret (Some rules) None history task is = absurd cc
+shell_has image (Some chosen) secret (Some rules) (Some limit) None task is = absurd cc
+shell_has image (Some chosen) secret (Some rules) (Some limit) (Some most) task is =
+    let read : ShellTask = record { image = image; choice = chosen; secret = secret; cache = rules; tags = limit; history = most } in
     let same : read ≡ task = cc in
-    (ap (λ (other : ShellTask). Some other.cache) same, ap (λ (other : ShellTask). Some other.tags) same)
+    ((ap (λ (other : ShellTask). Some other.cache) same, ap (λ (other : ShellTask). Some other.tags) same), ap (λ (other : ShellTask). Some other.history) same)
 
 load_has : (count : Option ℕ) (cache : Option CacheSize) (tags : Option ℕ) (task : LoadTask)
     → load_with count cache tags ≡ Some task → HasRead cache tags task.cache task.tags
@@ -106,7 +112,7 @@ load_has (Some blocks) (Some rules) (Some limit) task is =
 -- ---- what it allows
 
 abbrev Allows : Task → Type 0
-Allows task = AllowsTags task × AllowsRules task
+Allows task = (AllowsTags task × AllowsRules task) × AllowsHistory task
 
 read_allows : (cache tags : Option Text) (rules : CacheSize) (limit : ℕ) → HasRead (cache_of cache) (tags_of tags) rules limit → (1 ≤ limit) × IsCacheSize rules
 read_allows cache tags rules limit has = (some_tags tags limit has.1, is_size cache rules has.0)
@@ -121,14 +127,18 @@ request_allows : (asked : Option Request) (task : Task) → option_and_then task
 unfolding run_task_in shell_task_in load_task_in
 request_allows None task is = absurd cc
 request_allows (Some (run_asked request)) task is =
-    made_allows run (run_task_in request) task (λ other read. read_allows request.cache request.tags other.cache other.tags (run_has request.image _ request.secret _ _ _ other read)) is
+    made_allows run (run_task_in request) task (λ other read.
+    (read_allows request.cache request.tags other.cache other.tags (run_has request.image _ request.secret _ _ _ other read), tt)) is
 request_allows (Some (shell_asked request)) task is =
-    made_allows shell (shell_task_in request) task (λ other read. read_allows request.cache request.tags other.cache other.tags (shell_has request.image _ request.secret _ _ other read)) is
-request_allows (Some (save_asked asked)) task is = let same : save asked ≡ task = cc in subst Allows same (tt, tt)
-request_allows (Some (elf_asked asked)) task is = let same : elf asked ≡ task = cc in subst Allows same (tt, tt)
-request_allows (Some (disassemble_asked asked)) task is = let same : disassemble asked ≡ task = cc in subst Allows same (tt, tt)
+    made_allows shell (shell_task_in request) task (λ other read.
+    let has = shell_has request.image _ request.secret _ _ _ other read in
+    (read_allows request.cache request.tags other.cache other.tags has.0, few_turns request.history other.history has.1)) is
+request_allows (Some (save_asked asked)) task is = let same : save asked ≡ task = cc in subst Allows same ((tt, tt), tt)
+request_allows (Some (elf_asked asked)) task is = let same : elf asked ≡ task = cc in subst Allows same ((tt, tt), tt)
+request_allows (Some (disassemble_asked asked)) task is = let same : disassemble asked ≡ task = cc in subst Allows same ((tt, tt), tt)
 request_allows (Some (load_asked request)) task is =
-    made_allows load (load_task_in request) task (λ other read. read_allows request.cache request.tags other.cache other.tags (load_has _ _ _ other read)) is
+    made_allows load (load_task_in request) task (λ other read.
+    (read_allows request.cache request.tags other.cache other.tags (load_has _ _ _ other read), tt)) is
 
 pub words_allow : (words : List Text) (task : Task) → task_of words ≡ Some task → Allows task
 unfolding task_of

@@ -52,9 +52,14 @@ abbrev run_hiding : Text → Text → Task
 run_hiding image secret =
     run (record { image = image; choice = record no_policy { secret = true }; secret = Some secret; cache = one_set 1024; tags = 65536; turns = 1000000 })
 
--- a shell that keeps so many rules, and so many tags with words
+-- a shell that keeps so many rules, and so many tags with words, and can take no turn back
 abbrev shell_of : Text → Choice → ℕ → ℕ → Task
-shell_of image choice cache tags = shell (record { image = image; choice = choice; secret = None; cache = one_set cache; tags = tags })
+shell_of image choice cache tags = shell (record { image = image; choice = choice; secret = None; cache = one_set cache; tags = tags; history = 0 })
+
+-- a shell of no policy that can take so many turns back
+abbrev shell_remembering : Text → ℕ → Task
+shell_remembering image history =
+    shell (record { image = image; choice = no_policy; secret = None; cache = one_set 1024; tags = 65536; history = history })
 
 -- an assembly of a source into an image
 abbrev asm_of : Text → Text → Task
@@ -125,6 +130,9 @@ shells : Ask (
     (codes "pump shell a.img --cache=5", shell_of (codes "a.img") no_policy 5 65536) ∷  -- kept rules behind an equals sign
     (codes "pump shell a.img --tags 6", shell_of (codes "a.img") no_policy 1024 6) ∷  -- tags named
     (codes "pump shell --tags 6 a.img --cache 5 --policy seal", shell_of (codes "a.img") sealing_alone 5 6) ∷  -- options before and after the image
+    (codes "pump shell a.img --history 0", shell_remembering (codes "a.img") 0) ∷  -- no turn can be taken back
+    (codes "pump shell a.img --history 65536", shell_remembering (codes "a.img") 65536) ∷  -- the most turns back
+    (codes "pump shell --history=5 a.img", shell_remembering (codes "a.img") 5) ∷  -- turns back behind an equals sign, before the image
     (codes "pump shell shell", shell_of (codes "shell") no_policy 1024 65536) ∷  -- an image of the subcommand's name
     [])
 unfolding on_rows
@@ -229,6 +237,7 @@ options_twice : Name (ArgumentConflict ∷ []) (
     codes "pump run a.img --cache 5 --cache 5" ∷  -- kept rules named twice
     codes "pump run a.img --tags 5 --tags 6" ∷  -- tags named twice
     codes "pump shell a.img --tags 5 --tags=6" ∷  -- an option of a shell that is repeated
+    codes "pump shell a.img --history 5 --history=5" ∷  -- turns back named twice
     codes "pump load 1 --cache 5 --cache=5" ∷  -- an option of a workload that is repeated
     [])
 unfolding on_rows
@@ -254,6 +263,7 @@ unknown_arguments : Name (UnknownArgument ∷ []) (
     codes "pump --version" ∷  -- a request for the version
     codes "pump shell a.img b.img" ∷  -- a shell of two images
     codes "pump shell a.img --turns 5" ∷  -- a shell has no limit of turns
+    codes "pump run a.img --history 5" ∷  -- a run takes no turn back
     codes "pump asm a.s a.img b.img" ∷  -- an assembly of three names
     codes "pump asm a.s a.img --policy seal" ∷  -- an assembly starts no image: it has no policy
     codes "pump asm --cache 5 a.s a.img" ∷  -- the same for kept rules, before the names
@@ -324,6 +334,8 @@ bad_values : AskNothing (
     codes "pump shell a.img --policy seal,seal" ∷  -- a policy named twice for a shell
     codes "pump shell a.img --tags 0" ∷  -- a shell with no tag at all
     codes "pump shell a.img --cache 65537" ∷  -- one kept rule more than the most for a shell
+    codes "pump shell a.img --history 65537" ∷  -- one turn back more than the most
+    codes "pump shell a.img --history 00000000005" ∷  -- turns back of eleven digits
     codes "pump load 0" ∷  -- a workload of no blocks
     codes "pump load 1001" ∷  -- one block more than the most
     codes "pump load 00000000001" ∷  -- a count of eleven digits

@@ -33,9 +33,9 @@ start_options = codes "policy" ∷ codes "secret" ∷ limit_options
 unfoldable pub run_shape : Shape
 run_shape = subcommand_shape (codes "run") image_operand (start_options ++ codes "turns" ∷ [])
 
--- `shell IMAGE [--policy LIST] [--secret FILE] [--cache SIZE] [--tags N]`
+-- `shell IMAGE [--policy LIST] [--secret FILE] [--cache SIZE] [--tags N] [--history N]`
 unfoldable pub shell_shape : Shape
-shell_shape = subcommand_shape (codes "shell") image_operand start_options
+shell_shape = subcommand_shape (codes "shell") image_operand (start_options ++ codes "history" ∷ [])
 
 -- `asm SOURCE IMAGE`
 unfoldable pub asm_shape : Shape

@@ -15,13 +15,14 @@ pub record RunRequest : Type 0 where
   pub tags : Option Text
   pub turns : Option Text
 
--- a `shell`: the same but for the turns
+-- a `shell`: the same, with the history for the turns
 pub record ShellRequest : Type 0 where
   pub image : Text
   pub policy : Option Text
   pub secret : Option Text
   pub cache : Option Text
   pub tags : Option Text
+  pub history : Option Text
 
 -- an `asm` or a `migrate`: how an image is made, the name of the file that it is made from, and the name that its own file gets; no
 -- value is left to read, so this is the task itself
@@ -73,6 +74,7 @@ shell_in rows = option_map (λ image. record {
   secret = first_of (codes "secret") rows;
   cache = first_of (codes "cache") rows;
   tags = first_of (codes "tags") rows;
+  history = first_of (codes "history") rows;
 }) (first_of (codes "image") rows)
 
 -- an image that is made so, by the operands that name its source and its file

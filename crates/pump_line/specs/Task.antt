@@ -25,7 +25,7 @@ pub record RunTask : Type 0 where
   -- the most turns
   pub turns : ℕ
 
--- a `shell`: the same but for the turns
+-- a `shell`: the same, with the history for the turns
 pub record ShellTask : Type 0 where
   pub image : Text
   pub choice : Choice
@@ -35,6 +35,8 @@ pub record ShellTask : Type 0 where
   pub cache : CacheSize
   -- the most tags that may have words
   pub tags : ℕ
+  -- the most turns that can be taken back
+  pub history : ℕ
 
 -- a `load`: how many blocks its workload has, and its limits; it runs under every policy
 pub record LoadTask : Type 0 where
@@ -145,6 +147,27 @@ most_tags = 1048576
 abbrev pub tags_of : Option Text → Option ℕ
 tags_of = number_or default_tags 1 most_tags
 
+-- the most turns that can be taken back where the option is not on the line
+abbrev pub default_history : ℕ
+default_history = 0
+
+-- the most turns to be taken back that the option can name
+abbrev pub most_history : ℕ
+most_history = 65536
+
+-- the value of `--history`: how many turns can be taken back, 0 to 65536, or 0 without it; `None` where it is bad
+abbrev pub history_of : Option Text → Option ℕ
+history_of = number_or default_history 0 most_history
+
+-- few enough turns can be taken back, of a task that can take some back
+abbrev pub AllowsHistory : Task → Type 0
+AllowsHistory (run task) = Unit {0}
+AllowsHistory (shell task) = task.history ≤ most_history
+AllowsHistory (save task) = Unit {0}
+AllowsHistory (elf task) = Unit {0}
+AllowsHistory (disassemble task) = Unit {0}
+AllowsHistory (load task) = Unit {0}
+
 -- the most turns where the option is not on the line
 abbrev pub default_turns : ℕ
 default_turns = 1000000
@@ -185,20 +208,23 @@ run_task_in request =
     (turns_of request.turns)
 
 -- the shell with these values; `None` where one is bad
-abbrev pub shell_with : Text → Option Choice → Option Text → Option CacheSize → Option ℕ → Option ShellTask
-shell_with image choice secret cache tags =
-    option_and_then (λ chosen. option_and_then (λ rules. option_map (λ tag_limit. record {
+abbrev pub shell_with : Text → Option Choice → Option Text → Option CacheSize → Option ℕ → Option ℕ → Option ShellTask
+shell_with image choice secret cache tags history =
+    option_and_then (λ chosen. option_and_then (λ rules.
+    option_and_then (λ tag_limit. option_map (λ most_back. record {
       image = image;
       choice = chosen;
       secret = secret;
       cache = rules;
       tags = tag_limit;
-    }) tags) cache) choice
+      history = most_back;
+    }) history) tags) cache) choice
 
 -- the shell that is asked for; `None` where one of its values is bad
 unfoldable pub shell_task_in : ShellRequest → Option ShellTask
 shell_task_in request =
     shell_with request.image (choice_in request.policy) request.secret (cache_of request.cache) (tags_of request.tags)
+    (history_of request.history)
 
 -- the workload with these values; `None` where one is bad
 abbrev pub load_with : Option ℕ → Option CacheSize → Option ℕ → Option LoadTask

@@ -38,6 +38,7 @@ shell_value task = record {
   secret = text_value task.secret;
   cache = task.cache;
   tags = task.tags;
+  history = task.history;
 }
 
 abbrev pub save_value : SaveWords → SaveTask

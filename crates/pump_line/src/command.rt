@@ -45,6 +45,7 @@ const LEAVES: [Leaf<'static>; 7] = [
             Argument::OptionValue("secret"),
             Argument::OptionValue("cache"),
             Argument::OptionValue("tags"),
+            Argument::OptionValue("history"),
         ],
     },
     Leaf {

@@ -4,11 +4,11 @@ ghost use Rattle.std.specs.Prelude.{◌≡◌, ◌≢◌, Some, None, IfOk, IfEr
 ghost use Rattle.clap.specs.Words.{first_of, found_of, kind_of, rows_of, subcommand_rows_of};
 ghost use Rattle.pump_line.specs.Request.{disassemble_asked, disassemble_in, elf_asked, elf_in, load_asked, load_in, request_at};
 ghost use Rattle.pump_line.specs.Request.{request_by, run_asked, run_in, save_asked, save_in, shell_asked, shell_in};
-ghost use Rattle.pump_line.specs.Task.{AllowsRules, AllowsTags, task_in, task_of};
+ghost use Rattle.pump_line.specs.Task.{AllowsHistory, AllowsRules, AllowsTags, task_in, task_of};
 ghost use Rattle.pump_line.specs.Told.{task_value, text_value, texts_of};
 
 use crate::command::pump_command;
-use crate::values::{choice_from, read_cache, read_count, read_tags, read_turns};
+use crate::values::{choice_from, read_cache, read_count, read_history, read_tags, read_turns};
 use cache_size::CacheSize;
 use clap::error::ErrorKind;
 use clap::{ArgMatches, Error};
@@ -62,6 +62,8 @@ pub struct ShellTask<'a> {
     pub cache: CacheSize,
     /// The most tags that may have words: 1 to 1,048,576.
     pub tags: u32,
+    /// The most turns that can be taken back: 0 to 65,536.
+    pub history: u32,
 }
 
 /// How an image is made that is saved.
@@ -174,12 +176,14 @@ fn shell_task<'a>(matches: &ArgMatches<'a>) -> Option<Task<'a>>
     let secret = text_of(matches, "secret");
     let cache = read_cache(text_of(matches, "cache"))?;
     let tags = read_tags(text_of(matches, "tags"))?;
+    let history = read_history(text_of(matches, "history"))?;
     Some(Task::Shell(ShellTask {
         image,
         choice,
         secret,
         cache,
         tags,
+        history,
     }))
 }
 
@@ -280,20 +284,22 @@ fn end_of(error: &Error) -> WordsEnd
 }
 
 /// What the words ask for, the first being the program's name: `run IMAGE [--policy LIST] [--secret FILE] [--cache SIZE]
-/// [--tags N] [--turns N]`, `shell IMAGE [--policy LIST] [--secret FILE] [--cache SIZE] [--tags N]`, `asm SOURCE IMAGE`,
-/// `migrate IMAGE OUT`, `elf ELF TAGS IMAGE`, `dis IMAGE` or `load COUNT [--cache SIZE] [--tags N]`, the options in any order
-/// before or after the operand, each at most once; `asm`, `migrate`, `elf` and `dis` have none. LIST is `none`, or names among
-/// `seal`, `comp`, `flow`, `heap` and `secret` with commas between, none twice; it is `none` where it isn't there. FILE is the
-/// name of the file of secret bytes. SIZE is N, the rules of one set, 0 to 65,536 (1,024 where it isn't there), or SxW, S sets
-/// of W ways each, 1 to 64 and 1 to 65,536, which make 65,536 rules at most. N is 1 to 10 decimal digits, as S and W are, that
-/// write 1 to 1,048,576 for `--tags` (65,536) and 1 to 1,000,000,000 for `--turns` (1,000,000). COUNT is 1 to 10 decimal digits
-/// that write 1 to 1,000. So some tag may have a word in every task that starts an image. SOURCE, IMAGE, OUT, ELF and TAGS are
-/// names of files, of any text: no file is looked at. This is the project's own command line; `clap` judges its form. Any other
-/// words are `Bad`. A line that runs out of memory may end as `Memory`.
+/// [--tags N] [--turns N]`, `shell IMAGE [--policy LIST] [--secret FILE] [--cache SIZE] [--tags N] [--history N]`, `asm SOURCE
+/// IMAGE`, `migrate IMAGE OUT`, `elf ELF TAGS IMAGE`, `dis IMAGE` or `load COUNT [--cache SIZE] [--tags N]`, the options in any
+/// order before or after the operand, each at most once; `asm`, `migrate`, `elf` and `dis` have none. LIST is `none`, or names
+/// among `seal`, `comp`, `flow`, `heap` and `secret` with commas between, none twice; it is `none` where it isn't there. FILE
+/// is the name of the file of secret bytes. SIZE is N, the rules of one set, 0 to 65,536 (1,024 where it isn't there), or SxW,
+/// S sets of W ways each, 1 to 64 and 1 to 65,536, which make 65,536 rules at most. N is 1 to 10 decimal digits, as S and W
+/// are, that write 1 to 1,048,576 for `--tags` (65,536), 1 to 1,000,000,000 for `--turns` (1,000,000) and 0 to 65,536 for
+/// `--history` (0). COUNT is 1 to 10 decimal digits that write 1 to 1,000. So some tag may have a word in every task that
+/// starts an image, and no shell asks for more than 65,536 turns to be taken back. SOURCE, IMAGE, OUT, ELF and TAGS are names
+/// of files, of any text: no file is looked at. This is the project's own command line; `clap` judges its form. Any other words
+/// are `Bad`. A line that runs out of memory may end as `Memory`.
 pub fn read_task<'a>(alloc: Global, words: &'a Vec<String>) -> Result<Task<'a>, WordsEnd>
     ensures task { IfOk result (λ t. task_of (texts_of words.now.items) ≡ Some (task_value t)) }
     ensures tags { IfOk result (λ t. AllowsTags (task_value t)) }
     ensures rules { IfOk result (λ t. AllowsRules (task_value t)) }
+    ensures history { IfOk result (λ t. AllowsHistory (task_value t)) }
     ensures bad { IfErr result (λ e. e ≡ WordsEnd.Bad
         → task_of (texts_of words.now.items) ≡ None) }
 {

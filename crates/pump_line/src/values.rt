@@ -1,8 +1,8 @@
 //! The values of options.
 
 ghost use Rattle.std.specs.Prelude.{◌≡◌, ◌≤◌, IfSome};
-ghost use Rattle.pump_line.specs.Task.{cache_of, choice_in, count_of, most_cache, most_sets, number_or, number_within};
-ghost use Rattle.pump_line.specs.Task.{size_of, size_with, tags_of, turns_of, whole_size};
+ghost use Rattle.pump_line.specs.Task.{cache_of, choice_in, count_of, history_of, most_cache, most_sets};
+ghost use Rattle.pump_line.specs.Task.{number_or, number_within, size_of, size_with, tags_of, turns_of, whole_size};
 ghost use Rattle.pump_line.specs.Told.{text_value};
 
 use cache_size::CacheSize;
@@ -23,6 +23,12 @@ const DEFAULT_TAGS: u32 = 65_536;
 
 /// The most tags with words that a line can ask for.
 const MOST_TAGS: u32 = 1_048_576;
+
+/// The most turns that can be taken back in a shell whose line says nothing of them.
+const DEFAULT_HISTORY: u32 = 0;
+
+/// The most turns to be taken back that a line can ask for.
+const MOST_HISTORY: u32 = 65_536;
 
 /// The most turns of a run whose line says nothing of them.
 const DEFAULT_TURNS: u32 = 1_000_000;
@@ -115,6 +121,14 @@ pub(crate) fn read_tags(text: Option<&str>) -> Option<u32>
     ensures { result ≡ tags_of (text_value text.entry) }
 {
     read_number_or(text, DEFAULT_TAGS, 1, MOST_TAGS)
+}
+
+/// The most turns that can be taken back, from the value of `--history`: 0 where the option isn't on the line; `None` for a
+/// text that is no number from 0 to 65,536.
+pub(crate) fn read_history(text: Option<&str>) -> Option<u32>
+    ensures { result ≡ history_of (text_value text.entry) }
+{
+    read_number_or(text, DEFAULT_HISTORY, 0, MOST_HISTORY)
 }
 
 /// The most turns, from the value of `--turns`: 1,000,000 where the option isn't on the line; `None` for a text that is no

@@ -1,5 +1,9 @@
 //! A start that can be made again and again.
-ghost use Rattle.std.specs.Prelude.{◌≡◌, ◌≤◌};
+ghost use Rattle.std.specs.Prelude.{◌≡◌, ◌≤◌, [], Err, IfOk, false, true};
+ghost use Rattle.engine_trait.specs.Accounts.{is_over};
+ghost use Rattle.engine_trait.specs.Standing.{with_history_for};
+ghost use Rattle.pump_engine.specs.Pump.{standing_by_words};
+ghost use Rattle.pump_loader.specs.Loads.{cached_start_by};
 
 use crate::whole::Whole;
 use cache_size::CacheSize;
@@ -10,6 +14,7 @@ use pump_engine::Pump;
 use rule_cache::RuleStore;
 use std::alloc::Global;
 use std::marker::{Model, PhantomData};
+use undo_log::{NoLog, WordLog};
 use word_loader::start_cached;
 
 /// The start of an image under the policies that a basis chooses, as `W`, on the engine that keeps rules in a store of this
@@ -81,16 +86,21 @@ impl<'a, W: Whole, C: RuleStore> PumpLoad<'a, W, C> {
             store: PhantomData,
         }
     }
-}
 
-impl<'a, W: Whole, C: RuleStore> Loader for PumpLoad<'a, W, C> {
-    ghost use Rattle.pump_loader.specs.Loads.{cached_start_by};
-
-    type E = Pump<W, W::Table, C>;
-
-    ghost start = { cached_start_by W.Tag.eq W.Policy.model W.chosen };
-
-    fn load(&self) -> Result<Pump<W, W::Table, C>, LoadEnd> {
+    /// An engine at the start, which keeps the records of its turns in this log, which has none yet.
+    pub(crate) fn start<H: WordLog<Tag = W::Tag>>(
+        &self,
+        log: H,
+    ) -> Result<Pump<W, W::Table, C, H>, LoadEnd>
+        requires empty { (H.past log).kept ≡ [] }
+        ensures start { IfOk result (λ engine. standing_by_words W.Policy.model engine
+            ≡ with_history_for (H.past log).most
+            (cached_start_by W.Tag.eq W.Policy.model W.chosen self.now)) }
+        ensures within { IfOk result (λ engine. is_over
+            (cached_start_by W.Tag.eq W.Policy.model W.chosen self.now).account ≡ false) }
+        ensures out { result ≡ Err LoadEnd.TagsOut → is_over
+            (cached_start_by W.Tag.eq W.Policy.model W.chosen self.now).account ≡ true }
+    {
         let Ok(policy) = W::choose(self.alloc, self.basis, self.secret, self.image) else {
             return Err(LoadEnd::Memory);
         };
@@ -101,6 +111,19 @@ impl<'a, W: Whole, C: RuleStore> Loader for PumpLoad<'a, W, C> {
             self.cache.sets,
             self.cache.ways,
             self.tags,
+            log,
         )
+    }
+}
+
+impl<'a, W: Whole, C: RuleStore> Loader for PumpLoad<'a, W, C> {
+    ghost use Rattle.pump_loader.specs.Loads.{cached_start_by};
+
+    type E = Pump<W, W::Table, C, NoLog<W::Tag>>;
+
+    ghost start = { cached_start_by W.Tag.eq W.Policy.model W.chosen };
+
+    fn load(&self) -> Result<Pump<W, W::Table, C, NoLog<W::Tag>>, LoadEnd> {
+        self.start(NoLog::new())
     }
 }

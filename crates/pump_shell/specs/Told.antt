@@ -4,7 +4,7 @@ use Rattle.image_format.specs.Picture.{Picture}
 use Rattle.host_io.specs.Pieces.{Piece}
 use Rattle.policy_trait.specs.Model.{PolicyModel}
 use Rattle.engine_trait.specs.Accounts.{is_over}
-use Rattle.engine_trait.specs.Standing.{Standing}
+use Rattle.engine_trait.specs.Standing.{Standing, with_history_for}
 use Rattle.pump_loader.specs.ChosenLoads.{start_with}
 use Rattle.pump_loader.specs.Wholes.{Whole, whole_of}
 use Rattle.shell_run.specs.Session.{fresh}
@@ -36,9 +36,9 @@ told_from eq m limit start input =
 abbrev pub whole_of_setup : Setup → List ℕ → Picture → Whole
 whole_of_setup setup secret g = whole_of setup.basis secret g
 
--- the image's start under a policy that is this there, with as many rules kept as the setup says
+-- the image's start under a policy that is this there, with as many rules kept as the setup says, and room for as many records
 abbrev pub start_set : {S T : Type 0} → (T → T → Bool) → PolicyModel T S → S → Setup → Picture → Standing S T
-start_set eq m policy setup g = start_with eq m policy setup.cache setup.tags g
+start_set eq m policy setup g = with_history_for setup.history (start_with eq m policy setup.cache setup.tags g)
 
 -- the same under the policies as one
 abbrev pub start_of_setup : (w : Whole) → Setup → Picture → Standing w.State w.Tag

@@ -16,7 +16,7 @@ use engine_trait::{LoadEnd, Loader};
 use host_io::{Sink, Source};
 use image_format::Image;
 use policy_choice::All;
-use pump_loader::{ChosenLoad, Hidden, Whole, chosen_load};
+use pump_loader::{Hidden, RememberingLoad, Whole, remembering_load};
 use shell_run::Session;
 use shell_script::obey_input;
 use std::alloc::Global;
@@ -73,6 +73,7 @@ fn run_whole<W: Whole, S: Source, K: Sink>(
 ) -> Result<SessionEnd, SessionCut>
     requires rules { IsCacheSize setup.cache }
     requires tags { 1 ≤ setup.tags }
+    requires history { setup.history ≤ 65536 }
     requires texts { W.Policy.longest ≤ 460 }
     ensures done { IfOk result (λ end. IfSome (S.left input.old) (λ bytes. end
         ≡ (told_from W.Tag.eq W.Policy.model limit (start_set W.Tag.eq W.Policy.model
@@ -98,10 +99,18 @@ fn run_whole<W: Whole, S: Source, K: Sink>(
         (record { input = S.faults input.old; out = K.faults out.old })
         (record { input = S.faults input.new; out = K.faults out.new }) result }
 {
-    match chosen_load::<W>(alloc, image, setup.basis, secret, setup.cache, setup.tags) {
-        ChosenLoad::Asked(loader) => run_from(alloc, loader, input, limit, out),
-        ChosenLoad::Kept(loader) => run_from(alloc, loader, input, limit, out),
-        ChosenLoad::InSets(loader) => run_from(alloc, loader, input, limit, out),
+    match remembering_load::<W>(
+        alloc,
+        image,
+        setup.basis,
+        secret,
+        setup.cache,
+        setup.tags,
+        setup.history,
+    ) {
+        RememberingLoad::Asked(loader) => run_from(alloc, loader, input, limit, out),
+        RememberingLoad::Kept(loader) => run_from(alloc, loader, input, limit, out),
+        RememberingLoad::InSets(loader) => run_from(alloc, loader, input, limit, out),
     }
 }
 
@@ -120,6 +129,7 @@ pub fn run_session<S: Source, K: Sink>(
 ) -> Result<SessionEnd, SessionCut>
     requires rules { IsCacheSize setup.cache }
     requires tags { 1 ≤ setup.tags }
+    requires history { setup.history ≤ 65536 }
 
     // Where the input tells its bytes, the replies and the end are those of the definition.
     ensures done { IfOk result (λ end. IfSome (S.left input.old) (λ bytes.

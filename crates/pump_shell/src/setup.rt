@@ -12,4 +12,6 @@ pub struct Setup {
     pub cache: CacheSize,
     /// The most tags that may have words, at least 1. Where no rules are kept, no tag has a word.
     pub tags: u32,
+    /// The most turns that can be taken back, 0 to 65,536.
+    pub history: u32,
 }

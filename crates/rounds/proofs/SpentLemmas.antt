@@ -140,16 +140,16 @@ module _ {S T : Type 0} (eq : T → T → Bool) (m : PolicyModel T S) where
     unfolding step
     unmade_is_out ready unmade = out_by (is_ready e h) (is_over (account_after_turn eq m e.machine h e.account)) refl ready unmade
 
-    abbrev HasMemory : Standing S T → Type 0
-    HasMemory f = f.account.halt ≡ Some halt.Memory → ⊥
+    abbrev IsShort : Standing S T → Type 0
+    IsShort f = f.account.halt ≡ Some halt.Memory → ⊥
 
-    memory_by : (ready over : Bool) → HasMemory e → HasMemory (step_by eq m e feed h ready over).standing
+    memory_by : (ready over : Bool) → IsShort e → IsShort (step_by eq m e feed h ready over).standing
     memory_by false over has = has
     memory_by true true has = λ is. cc
     memory_by true false has = λ is. has (sym (accounted_halt eq m e.machine h e.account) ∙ is)
 
     -- a step wants no memory
-    step_has_memory : HasMemory e → HasMemory (step eq m e feed h).standing
+    step_has_memory : IsShort e → IsShort (step eq m e feed h).standing
     unfolding step
     step_has_memory has = memory_by (is_ready e h) (is_over (account_after_turn eq m e.machine h e.account)) has
 

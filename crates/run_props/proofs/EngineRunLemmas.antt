@@ -3,8 +3,9 @@ use Rattle.std.proofs.Common.{◌≡◌, ℕ, zero, suc, ◌&&◌, Bool, true, f
 use Rattle.std.proofs.lemmas.Bool.{false≢true}
 use Rattle.policy_trait.specs.Model.{PolicyModel}
 use Rattle.turn_steps.specs.Feeds.{Tape, with_fed}
-use Rattle.engine_trait.specs.Accounts.{Account, account_after_turn, is_over}
+use Rattle.engine_trait.specs.Accounts.{Account, account_after_turn, is_over, remembering}
 use Rattle.engine_trait.specs.Events.{Event, event_of}
+use Rattle.engine_trait.specs.History.{record_of}
 use Rattle.engine_trait.specs.Machine.{Machine, is_ready_in}
 use Rattle.engine_trait.specs.Runs.{Item, fed, run_along, turn, with_event}
 use Rattle.engine_trait.specs.Standing.{Standing, Stepped, is_ready, is_running, step}
@@ -19,15 +20,15 @@ use Rattle.run_props.specs.EngineRuns.{EngineTrace, IsNeverOver, engine_along, l
 module _ {S T : Type 0} (eq : T → T → Bool) (m : PolicyModel T S) where
   -- ---- one turn
 
-  module _ (s : Machine S T) (h : ℕ) (a : Account T) where
+  module _ (s : Machine S T) (feed : Tape) (h : ℕ) (a : Account T) where
     abbrev unswept_by : Bool → Account T
-    unswept_by ready = if ready then unswept_after eq m s h a else a
+    unswept_by ready = if ready then remembering (record_of m s feed h) (unswept_after eq m s h a) else a
 
     halt_by : (ready : Bool) → is_over (unswept_by ready) ≡ false → (unswept_by ready).halt ≡ a.halt
     halt_by true within = unswept_halt eq m s h a within
     halt_by false within = refl
 
-    turn_halt : is_over (turn_unswept eq m s h a) ≡ false → (turn_unswept eq m s h a).halt ≡ a.halt
+    turn_halt : is_over (turn_unswept eq m s feed h a) ≡ false → (turn_unswept eq m s feed h a).halt ≡ a.halt
     turn_halt within = halt_by (is_ready_in s.core h) within
 
     over_by : (ready : Bool) → is_over a ≡ true → is_over (unswept_by ready) ≡ true
@@ -47,16 +48,16 @@ module _ {S T : Type 0} (eq : T → T → Bool) (m : PolicyModel T S) where
     ready_by : (ready : Bool) → e.account.halt ≡ None → is_ready_in e.machine.core h ≡ ready → is_ready e h ≡ ready
     ready_by ready runs is = λ j. is_running (runs j) && is j
 
-    step_by : (ready : Bool) → e.account.halt ≡ None → is_ready_in e.machine.core h ≡ ready → is_over (unswept_by e.machine h e.account ready) ≡ false
-        → step eq m e feed h ≡ stepped_to (turn_of m e.machine feed h) (unswept_by e.machine h e.account ready)
+    step_by : (ready : Bool) → e.account.halt ≡ None → is_ready_in e.machine.core h ≡ ready → is_over (unswept_by e.machine feed h e.account ready) ≡ false
+        → step eq m e feed h ≡ stepped_to (turn_of m e.machine feed h) (unswept_by e.machine feed h e.account ready)
     step_by true runs is within = step_unswept eq m e feed h (ready_by true runs is) within
     step_by false runs is within =
         step_idle eq m e feed h (ready_by false runs is)
         ∙ ap (λ (turned : Turned S T). stepped_to turned e.account) (sym (turn_idle m e.machine feed h is))
 
     -- the engine's step is the machine's turn, with the account of an engine that never sweeps
-    step_is : e.account.halt ≡ None → is_over (turn_unswept eq m e.machine h e.account) ≡ false
-        → step eq m e feed h ≡ stepped_to (turn_of m e.machine feed h) (turn_unswept eq m e.machine h e.account)
+    step_is : e.account.halt ≡ None → is_over (turn_unswept eq m e.machine feed h e.account) ≡ false
+        → step eq m e feed h ≡ stepped_to (turn_of m e.machine feed h) (turn_unswept eq m e.machine feed h e.account)
     step_is runs within = step_by (is_ready_in e.machine.core h) runs refl within
 
     -- whose event it tells
@@ -79,10 +80,10 @@ module _ {S T : Type 0} (eq : T → T → Bool) (m : PolicyModel T S) where
   along_is (fed byte ∷ items) e feed runs never = along_is items e (with_fed feed (byte ∷ [])) runs (λ count. never (suc count))
   along_is (turn h ∷ items) e feed runs never =
       let turned = turn_of m e.machine feed h in
-      let within : is_over (turn_unswept eq m e.machine h e.account) ≡ false = never 1 in
-      let next : Standing S T = record { machine = turned.machine; account = turn_unswept eq m e.machine h e.account } in
+      let within : is_over (turn_unswept eq m e.machine feed h e.account) ≡ false = never 1 in
+      let next : Standing S T = record { machine = turned.machine; account = turn_unswept eq m e.machine feed h e.account } in
       ap (stepped_along (event_of m e.machine feed h) items) (step_is e feed h runs within)
-      ∙ (λ j. led_by (event_is e feed h j) (along_is items next turned.feed (turn_halt e.machine h e.account within ∙ runs) (λ count. never (suc count)) j))
+      ∙ (λ j. led_by (event_is e feed h j) (along_is items next turned.feed (turn_halt e.machine feed h e.account within ∙ runs) (λ count. never (suc count)) j))
 
   pub along_trace : (e : Standing S T) (feed : Tape) (items : List Item) → e.account.halt ≡ None → IsNeverOver eq m e feed items
       → (engine_along eq m e feed items).trace ≡ run_along m e.machine feed items
@@ -97,7 +98,7 @@ module _ {S T : Type 0} (eq : T → T → Bool) (m : PolicyModel T S) where
   along_sweeps [] s feed a = refl
   along_sweeps (fed byte ∷ items) s feed a = along_sweeps items s (with_fed feed (byte ∷ [])) a
   along_sweeps (turn h ∷ items) s feed a =
-      along_sweeps items (turn_of m s feed h).machine (turn_of m s feed h).feed (turn_unswept eq m s h a) ∙ sweeps_by s h a (is_ready_in s.core h)
+      along_sweeps items (turn_of m s feed h).machine (turn_of m s feed h).feed (turn_unswept eq m s feed h a) ∙ sweeps_by s feed h a (is_ready_in s.core h)
 
   pub along_unswept : (e : Standing S T) (feed : Tape) (items : List Item) → e.account.halt ≡ None → IsNeverOver eq m e feed items
       → (engine_along eq m e feed items).account.sweeps ≡ e.account.sweeps
@@ -110,7 +111,7 @@ module _ {S T : Type 0} (eq : T → T → Bool) (m : PolicyModel T S) where
   along_over [] s feed a over = over
   along_over (fed byte ∷ items) s feed a over = along_over items s (with_fed feed (byte ∷ [])) a over
   along_over (turn h ∷ items) s feed a over =
-      along_over items (turn_of m s feed h).machine (turn_of m s feed h).feed (turn_unswept eq m s h a) (over_by s h a (is_ready_in s.core h) over)
+      along_over items (turn_of m s feed h).machine (turn_of m s feed h).feed (turn_unswept eq m s feed h a) (over_by s feed h a (is_ready_in s.core h) over)
 
   part_over : (items : List Item) (count : ℕ) (s : Machine S T) (feed : Tape) (a : Account T)
       → is_over (unswept_along eq m s feed (take count items) a) ≡ true → is_over (unswept_along eq m s feed items a) ≡ true
@@ -118,7 +119,7 @@ module _ {S T : Type 0} (eq : T → T → Bool) (m : PolicyModel T S) where
   part_over [] (suc count) s feed a over = over
   part_over (fed byte ∷ items) (suc count) s feed a over = part_over items count s (with_fed feed (byte ∷ [])) a over
   part_over (turn h ∷ items) (suc count) s feed a over =
-      part_over items count (turn_of m s feed h).machine (turn_of m s feed h).feed (turn_unswept eq m s h a) over
+      part_over items count (turn_of m s feed h).machine (turn_of m s feed h).feed (turn_unswept eq m s feed h a) over
 
   pub never_over : (e : Standing S T) (feed : Tape) (items : List Item) → is_over (unswept_along eq m e.machine feed items e.account) ≡ false
       → IsNeverOver eq m e feed items

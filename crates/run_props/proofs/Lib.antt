@@ -1,13 +1,13 @@
 mod AlikeLemmas
 mod AttackLemmas
 mod BirthLemmas
-mod ChosenLemmas
+pub mod ChosenLemmas
 mod EndLemmas
 pub mod EngineRunLemmas
 pub mod MigrationLemmas
 mod PartLemmas
 mod PartRunLemmas
 pub mod RunLemmas
-mod StartLemmas
+pub mod StartLemmas
 mod StayLemmas
 mod ZeroLemmas

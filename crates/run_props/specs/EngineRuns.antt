@@ -2,8 +2,9 @@
 use Rattle.std.specs.Prelude.{◌≡◌, ℕ, Bool, false, List, [], ◌∷◌, take, if◌then◌else◌}
 use Rattle.policy_trait.specs.Model.{PolicyModel}
 use Rattle.turn_steps.specs.Feeds.{Tape, with_fed}
-use Rattle.engine_trait.specs.Accounts.{Account, is_over}
+use Rattle.engine_trait.specs.Accounts.{Account, is_over, remembering}
 use Rattle.engine_trait.specs.Events.{Event, event_of}
+use Rattle.engine_trait.specs.History.{record_of}
 use Rattle.engine_trait.specs.Machine.{Machine, is_ready_in}
 use Rattle.engine_trait.specs.Runs.{Item, Trace, fed, turn, with_event}
 use Rattle.engine_trait.specs.Standing.{Standing, step}
@@ -32,14 +33,14 @@ module _ {S T : Type 0} (eq : T → T → Bool) (m : PolicyModel T S) where
   engine_along e feed (fed byte ∷ items) = engine_along e (with_fed feed (byte ∷ [])) items
 
   -- what a hart's turn leaves of the account of an engine that never sweeps; an idle one changes nothing
-  abbrev pub turn_unswept : Machine S T → ℕ → Account T → Account T
-  turn_unswept s h account = if is_ready_in s.core h then unswept_after eq m s h account else account
+  abbrev pub turn_unswept : Machine S T → Tape → ℕ → Account T → Account T
+  turn_unswept s feed h account = if is_ready_in s.core h then remembering (record_of m s feed h) (unswept_after eq m s h account) else account
 
   -- the account along the list of an engine that never sweeps, beside the machine's run
   abbrev pub unswept_along : Machine S T → Tape → List Item → Account T → Account T
   unswept_along s feed [] account = account
   unswept_along s feed (turn h ∷ items) account =
-      unswept_along (turn_of m s feed h).machine (turn_of m s feed h).feed items (turn_unswept s h account)
+      unswept_along (turn_of m s feed h).machine (turn_of m s feed h).feed items (turn_unswept s feed h account)
   unswept_along s feed (fed byte ∷ items) account = unswept_along s (with_fed feed (byte ∷ [])) items account
 
   -- an engine that never sweeps does not run out of tag numbers: after no part of the list would more tags have words than may

@@ -54,9 +54,9 @@ module _ (basis : Basis) (g : Picture) (is : IsImage g) (one other : List ℕ) w
   }
 
   pub asked_alike : AlikeStandings shows SameBeside (asked_start basis one g) (asked_start basis other g)
-  asked_alike = record { machine = starts_alike; account = refl }
+  asked_alike = record { machine = starts_alike; account = refl; forgets = refl }
 
   pub kept_alike : (eq : HiddenTag → HiddenTag → Bool) (sets ways tags : ℕ)
       → AlikeStandings shows SameBeside (kept_start eq basis one sets ways tags g) (kept_start eq basis other sets ways tags g)
   unfolding start_harts start_tags
-  kept_alike eq sets ways tags = record { machine = starts_alike; account = refl }
+  kept_alike eq sets ways tags = record { machine = starts_alike; account = refl; forgets = refl }

@@ -12,13 +12,17 @@ use Rattle.turn_steps.specs.Looks.{is_call}
 use Rattle.turn_steps.specs.Services.{args_on}
 use Rattle.turn_steps.specs.declared.look.Look.{Look}
 use Rattle.turn_steps.specs.declared.stop.Stop.{Stop}
-use Rattle.engine_trait.specs.Accounts.{Account, account_after_turn, account_out, is_over}
+use Rattle.undo_log.specs.Past.{past_of}
+use Rattle.engine_trait.specs.Accounts.{Account, account_after_turn, account_out, is_over, remembering}
 use Rattle.engine_trait.specs.Events.{asked_in, called_in, event_by, event_of, touch_of, touched_in, work_in}
+use Rattle.engine_trait.specs.History.{record_of}
 use Rattle.engine_trait.specs.Machine.{Machine, hart_at, is_ready_in}
 use Rattle.engine_trait.specs.Runs.{Item, Trace, fed, run_along, turn}
 use Rattle.engine_trait.specs.Standing.{Standing, is_ready, is_running, step, step_by}
 use Rattle.engine_trait.specs.Turn.{job_at, preparation, turn_of}
 use Rattle.engine_trait.specs.declared.ends.Halt.TheVariants as halt
+use Rattle.engine_trait.proofs.AccountLemmas.{accounted_past, out_past}
+use Rattle.engine_trait.proofs.PastLemmas.{remembering_none}
 use Rattle.rv_decode.specs.Groups.{a0, a1, a2, group_of}
 use Rattle.secret_runs.specs.Alike.{AlikeMachines}
 use Rattle.secret_runs.specs.Hides.{AlikeAnswers, Hides, OkBy}
@@ -159,19 +163,39 @@ module _ {S T : Type 0} (is_open : T → Bool) (m : PolicyModel T S) (like : S �
       out_same : account_out eq m d.machine h d.account ≡ account_out eq m e.machine h e.account
       out_same = ap (account_out eq m d.machine h) alike.account ∙ outs_same is_open eq m like kin hides e.machine d.machine alike.machine h e.account
 
+      -- no turn is remembered
+      after_forgets : (account_after_turn eq m e.machine h e.account).past ≡ past_of [] 0
+      after_forgets = accounted_past eq m e.machine h e.account ∙ alike.forgets
+
+      unremembered : remembering (record_of m e.machine feed h) (account_after_turn eq m e.machine h e.account) ≡ account_after_turn eq m e.machine h e.account
+      unremembered = remembering_none (record_of m e.machine feed h) (account_after_turn eq m e.machine h e.account) after_forgets
+
+      unremembered_other : remembering (record_of m d.machine feed h) (account_after_turn eq m d.machine h d.account) ≡ account_after_turn eq m d.machine h d.account
+      unremembered_other =
+          remembering_none (record_of m d.machine feed h) (account_after_turn eq m d.machine h d.account)
+          (ap (λ (account : Account T). account.past) after_same ∙ after_forgets)
+
       ready_alike : is_ready d h ≡ is_ready e h
       ready_alike = λ j. is_running (alike.account j).halt && ready_same is_open m like kin hides e.machine d.machine alike.machine h feed j
 
       step_by_alike : (ready over : Bool) → StepsAlike is_open like (step_by eq m e feed h ready over) (step_by eq m d feed h ready over)
       step_by_alike false over = record { standing = alike; feed = refl; ended = refl }
       step_by_alike true true = record {
-        standing = record { machine = alike.machine; account = ap (λ (account : Account T). record account { halt = Some halt.TagNumbers }) out_same };
+        standing = record {
+          machine = alike.machine;
+          account = ap (λ (account : Account T). record account { halt = Some halt.TagNumbers }) out_same;
+          forgets = out_past eq m e.machine h e.account ∙ alike.forgets;
+        };
         feed = refl;
         ended = refl;
       }
       step_by_alike true false =
           let turned = turn_alike is_open m like kin hides e.machine d.machine alike.machine h feed in
-          record { standing = record { machine = turned.machine; account = after_same }; feed = turned.feed_is; ended = turned.ended }
+          record {
+            standing = record { machine = turned.machine; account = unremembered_other ∙ after_same ∙ sym unremembered; forgets = ap (λ (account : Account T). account.past) unremembered ∙ after_forgets };
+            feed = turned.feed_is;
+            ended = turned.ended;
+          }
 
       pub step_alike : StepsAlike is_open like (step eq m e feed h) (step eq m d feed h)
       unfolding step

@@ -3,13 +3,13 @@ use Rattle.std.proofs.Common.{◌≡◌, [], ◌∷◌, codes, refl}
 use Rattle.std.specs.Prelude.{⊤, Ok, Err, replicate}
 use Rattle.hex.proofs.OnLiterals.{hex_on_literals}
 use Rattle.shell_lang.specs.declared.bad_command.BadCommand.TheVariants.{UnknownWord, OperandCount, Malformed, OutOfRange, OddHexadecimal, TooLong}
-use Rattle.shell_lang.specs.declared.command.Command.TheVariants.{Blank, Step, Run, Turns, Feed, Regs, Pc, Mem, Tags, Dis, Why, Blocks, Stats, Sweeps, Break, Clear, Reset, Quit}
-use Rattle.shell_lang.specs.Grammar.{counts_view, feed_command, hart_operand, hart_view, line_answer, machine_view, place_operand, plain_command, range_operands, run_command, running_command, session_command, step_command, turns_command}
+use Rattle.shell_lang.specs.declared.command.Command.TheVariants.{Blank, Step, Run, Turns, Back, Feed, Regs, Pc, Mem, Tags, Dis, Why, Blocks, Stats, Sweeps, Break, Clear, Reset, Quit}
+use Rattle.shell_lang.specs.Grammar.{back_command, counts_view, feed_command, hart_operand, hart_view, line_answer, machine_view, past_command, place_operand, plain_command, range_operands, run_command, running_command, session_command, step_command, turns_command}
 use Rattle.shell_lang.specs.Words.{words_of}
 
 -- what computes on lines that are written out
 unfoldable on_rows : ⊤
-unfolding hex_on_literals words_of hart_operand place_operand range_operands plain_command step_command run_command turns_command feed_command running_command hart_view machine_view counts_view session_command line_answer
+unfolding hex_on_literals words_of hart_operand place_operand range_operands plain_command step_command run_command back_command turns_command feed_command running_command past_command hart_view machine_view counts_view session_command line_answer
 on_rows = tt
 
 -- ---- lines that ask for something
@@ -38,6 +38,11 @@ step_with_spaces = refl
 run_row : line_answer (codes "run 5") ≡ Ok (Run 5)
 unfolding on_rows
 run_row = refl
+
+-- the most turns that are taken back
+back_row : line_answer (codes "back 65536") ≡ Ok (Back 65536)
+unfolding on_rows
+back_row = refl
 
 -- a digit for each turn
 turns_row : line_answer (codes "turns 0192") ≡ Ok (Turns (0 ∷ 1 ∷ 9 ∷ 2 ∷ []))
@@ -185,6 +190,11 @@ turn_too_many = refl
 unaligned : line_answer (codes "mem 2 1") ≡ Err OutOfRange
 unfolding on_rows
 unaligned = refl
+
+-- one turn too many that is taken back
+back_too_many : line_answer (codes "back 65537") ≡ Err OutOfRange
+unfolding on_rows
+back_too_many = refl
 
 -- no word at all
 no_word : line_answer (codes "mem 4 0") ≡ Err OutOfRange

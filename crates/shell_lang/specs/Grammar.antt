@@ -6,7 +6,7 @@ use Rattle.std.specs.Str.{bytes_eq}
 use Rattle.shell_lang.specs.declared.bad_command.BadCommand.{BadCommand}
 use Rattle.shell_lang.specs.declared.bad_command.BadCommand.TheVariants.{UnknownWord, TooLong}
 use Rattle.shell_lang.specs.declared.command.Command.{Command}
-use Rattle.shell_lang.specs.declared.command.Command.TheVariants.{Blank, Step, Run, Turns, Feed, Regs, Pc, Mem, Tags, Dis, Why, Blocks, Stats, Sweeps, Break, Clear, Reset, Quit}
+use Rattle.shell_lang.specs.declared.command.Command.TheVariants.{Blank, Step, Run, Turns, Back, Feed, Regs, Pc, Mem, Tags, Dis, Why, Blocks, Stats, Sweeps, Break, Clear, Reset, Quit}
 use Rattle.shell_lang.specs.Operands.{no_operand, one_operand, two_operands, number_in, address_in, digits_in, bytes_in, within, word_address}
 use Rattle.shared_terms.specs.Steps.{◌>>=◌}
 use Rattle.shell_lang.specs.Words.{Text, words_of}
@@ -22,6 +22,10 @@ hart_within h = within 0 7 h
 -- the turns of one command
 abbrev pub turns_within : ℕ → Result ℕ BadCommand
 turns_within n = within 0 1000000000 n
+
+-- the turns that one command takes back
+abbrev pub back_within : ℕ → Result ℕ BadCommand
+back_within n = within 0 65536 n
 
 -- the words of memory that one command shows
 abbrev pub count_within : ℕ → Result ℕ BadCommand
@@ -77,6 +81,14 @@ run_command operands = do
   turns ← turns_within n
   Ok (Run turns)
 
+-- `back N`: the last N turns taken back, where N is at most 65536
+unfoldable pub back_command : List Text → Answer
+back_command operands = do
+  text ← one_operand operands
+  n ← number_in text
+  turns ← back_within n
+  Ok (Back turns)
+
 -- `turns DIGITS`: a turn for each digit, of the hart with this number
 unfoldable pub turns_command : List Text → Answer
 turns_command operands = do
@@ -120,6 +132,10 @@ running_command name operands =
     else if bytes_eq name (codes "feed") then Some (feed_command operands)
     else None
 
+-- the command that takes turns back
+unfoldable pub past_command : Text → List Text → Option Answer
+past_command name operands = if bytes_eq name (codes "back") then Some (back_command operands) else None
+
 -- the commands that show a hart
 unfoldable pub hart_view : Text → List Text → Option Answer
 hart_view name operands =
@@ -157,8 +173,9 @@ session_command name operands =
 abbrev pub named_command : Text → List Text → Option Answer
 named_command name operands =
     option_or (running_command name operands)
+    (option_or (past_command name operands)
     (option_or (hart_view name operands)
-    (option_or (machine_view name operands) (option_or (counts_view name operands) (session_command name operands))))
+    (option_or (machine_view name operands) (option_or (counts_view name operands) (session_command name operands)))))
 
 -- a line without words is executed as nothing
 abbrev pub words_answer : List Text → Answer

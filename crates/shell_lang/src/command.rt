@@ -13,6 +13,8 @@ pub enum Command {
     Run(u32),
     /// `turns DIGITS`: one turn for each digit, of the hart that it names.
     Turns(Digits),
+    /// `back N`: the last `N` turns taken back.
+    Back(u32),
     /// `feed HEX`: these bytes at the end of the feed.
     Feed(Bytes),
     /// `regs H`: the registers of hart `H`.

@@ -2,8 +2,8 @@
 
 ghost use Rattle.std.specs.Prelude.{◌≡◌, ◌≤◌, ◌∷◌, length};
 ghost use Rattle.shell_lang.specs.Grammar.{hart_operand, place_operand, range_operands};
-ghost use Rattle.shell_lang.specs.Grammar.{feed_command, plain_command, run_command, step_command, turns_command};
-ghost use Rattle.shell_lang.specs.Grammar.{counts_view, hart_view, machine_view, running_command, session_command};
+ghost use Rattle.shell_lang.specs.Grammar.{back_command, feed_command, plain_command, run_command, step_command, turns_command};
+ghost use Rattle.shell_lang.specs.Grammar.{counts_view, hart_view, machine_view, past_command, running_command, session_command};
 ghost use Rattle.shell_lang.specs.Grammar.{line_answer, words_answer};
 ghost use Rattle.shell_lang.specs.Words.{words_of};
 
@@ -20,6 +20,9 @@ const LAST_HART: u32 = 7;
 
 /// The most turns of one command.
 const MOST_TURNS: u32 = 1_000_000_000;
+
+/// The most turns that one command takes back.
+const MOST_BACK: u32 = 65_536;
 
 /// The most words of memory that one command shows.
 const MOST_WORDS: u32 = 1024;
@@ -82,6 +85,15 @@ fn run_command(rest: &[u8]) -> Result<Command, BadCommand>
     Ok(Command::Run(within(turns, 0, MOST_TURNS)?))
 }
 
+/// `back N`
+#[tactic(auto, unfolding(crate::specs::Grammar::back_command))]
+fn back_command(rest: &[u8]) -> Result<Command, BadCommand>
+    ensures { result ≡ back_command (words_of rest.now) }
+{
+    let turns = number(one_operand(rest)?)?;
+    Ok(Command::Back(within(turns, 0, MOST_BACK)?))
+}
+
 /// `turns DIGITS`
 #[tactic(auto, unfolding(crate::specs::Grammar::turns_command))]
 fn turns_command(rest: &[u8]) -> Result<Command, BadCommand>
@@ -113,6 +125,17 @@ fn running_command(name: &[u8], rest: &[u8]) -> Option<Result<Command, BadComman
         b"run" => Some(run_command(rest)),
         b"turns" => Some(turns_command(rest)),
         b"feed" => Some(feed_command(rest)),
+        _ => None,
+    }
+}
+
+/// The command that takes turns back; `None` for any other name.
+#[tactic(auto, unfolding(crate::specs::Grammar::past_command))]
+fn past_command(name: &[u8], rest: &[u8]) -> Option<Result<Command, BadCommand>>
+    ensures { result ≡ past_command name.now (words_of rest.now) }
+{
+    match name {
+        b"back" => Some(back_command(rest)),
         _ => None,
     }
 }
@@ -176,6 +199,7 @@ fn named_command(name: &[u8], rest: &[u8]) -> Result<Command, BadCommand>
     ensures { result ≡ words_answer (name.now ∷ words_of rest.now) }
 {
     running_command(name, rest)
+        .or_else(|| past_command(name, rest))
         .or_else(|| hart_view(name, rest))
         .or_else(|| machine_view(name, rest))
         .or_else(|| counts_view(name, rest))

@@ -1,3 +1,4 @@
+pub mod BackLemmas
 pub mod GainLemmas
 pub mod ListingLemmas
 pub mod RunLemmas

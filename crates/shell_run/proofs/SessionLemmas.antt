@@ -13,7 +13,7 @@ use Rattle.shell_turns.specs.declared.ends.ObeyEnd.{ObeyEnd}
 use Rattle.shell_turns.specs.declared.ends.ObeyEnd.TheVariants as ends
 use Rattle.shell_turns.proofs.PutLemmas.{gives, puts_as, puts_not_begun, puts_nothing}
 use Rattle.shell_run.specs.Lines.{refusal_line, turns_line}
-use Rattle.shell_run.specs.Replies.{CutAs, IsCut, IsCutInCount, Reply, breaking, reply_if, clearing, is_kept, reply_to, running, silent, telling, with_break}
+use Rattle.shell_run.specs.Replies.{CutAs, IsCut, IsCutInCount, Reply, backing, breaking, reply_if, clearing, is_kept, reply_to, running, silent, telling, with_break}
 use Rattle.shell_run.specs.Session.{SessionState, ending, is_hart, is_place, is_range}
 
 -- ---- commands that make no turn
@@ -96,12 +96,17 @@ module _ {S T : Type 0} (s : SessionState S T) where
     unfolding running
     run_lives budget order = refl
 
+    back_lives : (turns : ℕ) → (backing eq m s turns).after.ended ≡ s.ended
+    unfolding backing
+    back_lives turns = refl
+
     pub ended_stays : (c : Command) → (reply_to eq m s c).after.ended ≡ s.ended
     unfolding reply_to
     ended_stays command.Blank = refl
     ended_stays (command.Step h n) = checked_lives (is_hart s h) _ (run_lives n (only h))
     ended_stays (command.Run n) = run_lives n (rounds_from 0)
     ended_stays (command.Turns harts) = checked_lives (list_all (is_hart s) harts) _ (run_lives (length harts) (listed harts))
+    ended_stays (command.Back n) = back_lives n
     ended_stays (command.Feed bytes) = refl
     ended_stays (command.Regs h) = checked_lives (is_hart s h) _ refl
     ended_stays (command.Pc h) = checked_lives (is_hart s h) _ refl

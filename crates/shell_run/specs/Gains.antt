@@ -1,5 +1,5 @@
 -- What a command adds to the run of a session, and what its reply tells of that.
-use Rattle.std.specs.Prelude.{◌≡◌, ℕ, Bool, List, [], ◌∷◌, ◌++◌, length, Option, Some, None}
+use Rattle.std.specs.Prelude.{◌≡◌, ℕ, ◌-◌, Bool, List, [], ◌∷◌, ◌++◌, length, take, Option, Some, None}
 use Rattle.host_io.specs.Pieces.{out}
 use Rattle.policy_trait.specs.Model.{PolicyModel}
 use Rattle.turn_steps.specs.Feeds.{tape_of}
@@ -12,17 +12,18 @@ use Rattle.shell_turns.specs.Order.{Order}
 use Rattle.shell_turns.specs.Turns.{turns}
 use Rattle.shell_run.specs.Lines.{turns_line}
 use Rattle.shell_run.specs.Replies.{Reply, reply_to, turns_asked}
-use Rattle.shell_run.specs.Session.{SessionState}
+use Rattle.shell_run.specs.Session.{SessionState, backed_count}
 
 -- the session has the machine and the feed that the run leaves, so that what it shows is shown of them
 pub record StandsAfter {S T : Type 0} (trace : Trace S T) (s : SessionState S T) : Type 0 where
   pub machine : s.standing.machine ≡ trace.machine
   pub feed : s.feed ≡ trace.feed
 
--- a reset begins the run anew, and none of its events is left
-abbrev pub kept_by : {T : Type 0} → Command → List (Event T) → List (Event T)
-kept_by command.Reset events = []
-kept_by _ events = events
+-- what is left of a run's events: those of turns that are taken back go, and a reset begins the run anew
+abbrev pub kept_by : {S T : Type 0} → SessionState S T → Command → List (Event T) → List (Event T)
+kept_by s (command.Back n) events = take (length events - backed_count s n) events
+kept_by s command.Reset events = []
+kept_by s _ events = events
 
 module _ {S T : Type 0} (eq : T → T → Bool) (m : PolicyModel T S) (s : SessionState S T) where
   -- the events of the run from its start along these items
@@ -43,5 +44,5 @@ module _ {S T : Type 0} (eq : T → T → Bool) (m : PolicyModel T S) (s : Sessi
   -- from the events of the run before a command to those after it: what it gains, and that the reply tells just this
   pub record TellsGain (command : Command) (before after : List (Event T)) : Type 0 where
     pub gained : List (Event T)
-    pub run : after ≡ kept_by command before ++ gained
+    pub run : after ≡ kept_by s command before ++ gained
     pub told : TellsAsked (turns_asked s command) gained (reply_to eq m s command)

@@ -46,6 +46,10 @@ sweeps_line count = line (codes "sweeps " ++ decimal count)
 unfoldable pub turns_line : ℕ → List ℕ
 turns_line count = line (codes "turns " ++ decimal count)
 
+-- how many turns were taken back
+unfoldable pub back_line : ℕ → List ℕ
+back_line count = line (codes "back " ++ decimal count)
+
 -- a refusal by its number
 unfoldable pub refusal_line : ℕ → List ℕ
 refusal_line number = line (codes "? " ++ decimal number)

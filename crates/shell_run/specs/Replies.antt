@@ -13,8 +13,8 @@ use Rattle.shell_turns.specs.Cuts.{PutsOut, TurnsCut, all_put, cut_by}
 use Rattle.shell_turns.specs.Order.{Order, listed as listed_harts, only, rounds_from}
 use Rattle.shell_turns.specs.Turns.{Turns, turns}
 use Rattle.shell_turns.specs.declared.ends.ObeyEnd.{ObeyEnd}
-use Rattle.shell_run.specs.Lines.{refusal_line, stats_line, sweeps_line, turns_line}
-use Rattle.shell_run.specs.Session.{SessionState, bytes_in, is_hart, is_place, is_range}
+use Rattle.shell_run.specs.Lines.{back_line, refusal_line, stats_line, sweeps_line, turns_line}
+use Rattle.shell_run.specs.Session.{SessionState, backed, backed_count, bytes_in, is_hart, is_place, is_range}
 use Rattle.shell_run.specs.Shown.{blocks, lines_from, pc_of, register_of, statement_of, tag_of, why_line, word_of}
 
 -- the session after a command, and the lines of the reply
@@ -83,6 +83,10 @@ module _ {S T : Type 0} (eq : T → T → Bool) (m : PolicyModel T S) (s : Sessi
   unfoldable pub running : ℕ → Order → Reply S T
   running budget order = after_turns (turns eq m s.breaks budget order s.standing s.feed)
 
+  -- the last turns taken back, and how many
+  unfoldable pub backing : ℕ → Reply S T
+  backing n = record { after = backed m s (backed_count s n); pieces = out (back_line (backed_count s n)) ∷ [] }
+
   -- what is shown of the machine
   unfoldable pub registers_shown : ℕ → List Piece
   registers_shown h = lines_from (register_of m s.standing.machine h) 0 32
@@ -122,6 +126,7 @@ module _ {S T : Type 0} (eq : T → T → Bool) (m : PolicyModel T S) (s : Sessi
   reply_to (command.Step h n) = reply_if s (is_hart s h) (running n (only h))
   reply_to (command.Run n) = running n (rounds_from 0)
   reply_to (command.Turns harts) = reply_if s (list_all (is_hart s) harts) (running (length harts) (listed_harts harts))
+  reply_to (command.Back n) = backing n
   reply_to (command.Feed bytes) = feeding s bytes
   reply_to (command.Regs h) = reply_if s (is_hart s h) (telling s (registers_shown h))
   reply_to (command.Pc h) = reply_if s (is_hart s h) (telling s (pc_shown h))

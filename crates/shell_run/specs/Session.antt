@@ -1,6 +1,8 @@
 -- A session: a machine that runs on from its start, with what the commands have set.
-use Rattle.std.specs.Prelude.{◌≡◌, ℕ, ◌+◌, ◌*◌, ◌%◌, ◌==◌, ◌≤◌, Bool, false, ◌&&◌, nat_le, nat_lt, List, [], length, Option, Some, None}
+use Rattle.std.specs.Prelude.{◌≡◌, ℕ, ◌+◌, ◌*◌, ◌%◌, ◌==◌, ◌≤◌, Bool, false, ◌&&◌, min, nat_le, nat_lt, List, [], length, Option, Some, None}
+use Rattle.policy_trait.specs.Model.{PolicyModel}
 use Rattle.engine_trait.specs.Accounts.{is_over}
+use Rattle.engine_trait.specs.Back.{backs}
 use Rattle.engine_trait.specs.Standing.{Standing}
 use Rattle.tag_memory.specs.Ram.{ram_bytes}
 use Rattle.turn_steps.specs.Feeds.{Tape, tape_of}
@@ -54,6 +56,14 @@ module _ {S T : Type 0} (s : SessionState S T) where
   abbrev pub is_place : ℕ → Bool
   is_place a = a % 4 == 0 && nat_lt a bytes_in
 
+  -- how many turns are taken back where so many are asked for: no more than are remembered
+  abbrev pub backed_count : ℕ → ℕ
+  backed_count n = min n (length s.standing.account.past.kept)
+
   -- so many words from that address on are all there
   abbrev pub is_range : ℕ → ℕ → Bool
   is_range a n = a % 4 == 0 && nat_le (a + 4 * n) bytes_in
+
+-- the session with its last turns taken back, so many of them
+abbrev pub backed : {S T : Type 0} → PolicyModel T S → SessionState S T → ℕ → SessionState S T
+backed m s n = record s { standing = (backs m s.standing s.feed n).standing; feed = (backs m s.standing s.feed n).feed }

@@ -4,12 +4,12 @@ ghost use Rattle.std.specs.Prelude.{◌≡◌, ◌≤◌, IfErr, OnOk, Some, len
 ghost use Rattle.std.specs.List.{list_all};
 ghost use Rattle.shell_turns.specs.Cuts.{ObeyCause, PutsOut};
 ghost use Rattle.shell_turns.specs.Order.{AreHarts, listed, only, order_of};
-ghost use Rattle.shell_run.specs.Replies.{IsCut, asked_if, reply_if, feeding, restarting, running};
-ghost use Rattle.shell_run.specs.Session.{is_hart};
+ghost use Rattle.shell_run.specs.Replies.{IsCut, asked_if, backing, reply_if, feeding, restarting, running};
+ghost use Rattle.shell_run.specs.Session.{backed, is_hart};
 
 use crate::session::Session;
-use crate::texts::put_turns;
-use engine_trait::{Feed, Loader};
+use crate::texts::{put_back, put_turns};
+use engine_trait::{Engine, Feed, Loader};
 use host_io::Sink;
 use shell_turns::{ObeyEnd, Order, make_turns};
 
@@ -78,6 +78,32 @@ impl<L: Loader> Session<L> {
             return self.refuse(out);
         }
         self.run(harts.len() as u32, Order::Listed(harts), out)
+    }
+
+    /// Takes the last turns back, so many of them, or as many as are remembered.
+    fn take_back(&mut self, count: u32)
+        ensures { self.new ≡ backed L.E.P.model self.old count }
+    {
+        for _ in 0..count {
+            self.engine.back(&mut self.feed);
+        }
+    }
+
+    /// `back N`: the last `N` turns taken back, or as many as are remembered, and how many. That is told first, so that a command
+    /// that is cut short takes none back.
+    #[tactic(auto, unfolding(crate::specs::Replies::backing))]
+    pub(crate) fn back<K: Sink>(&mut self, turns: u32, out: &mut K) -> Result<(), ObeyEnd>
+        ensures after { OnOk result (self.new
+            ≡ (backing L.E.P.Tag.eq L.E.P.model self.old turns).after) }
+        ensures puts { PutsOut (K.taken out.old) (K.taken out.new)
+            (backing L.E.P.Tag.eq L.E.P.model self.old turns).pieces result }
+        ensures cause { ObeyCause (K.faults out.old) (K.faults out.new) result }
+        ensures cut { IfErr result (λ end. self.new ≡ self.old) }
+    {
+        let count = turns.min(self.engine.remembered());
+        put_back(count, out)?;
+        self.take_back(count);
+        Ok(())
     }
 
     /// `feed HEX`: these bytes behind those that are left of the feed.

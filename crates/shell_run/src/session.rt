@@ -89,6 +89,7 @@ impl<L: Loader> Session<L> {
             Command::Step(h, n) => self.step(*h, *n, out),
             Command::Run(n) => self.run(*n, Order::RoundsFrom(0), out),
             Command::Turns(harts) => self.turns(harts.values(), out),
+            Command::Back(turns) => self.back(*turns, out),
             Command::Feed(bytes) => self.fed(bytes.values()),
             Command::Regs(h) => self.registers(*h, out),
             Command::Pc(h) => self.pc(*h, out),

@@ -5,7 +5,7 @@ ghost use Rattle.arrayvec.specs.ArrayVec.{array_vec_len};
 ghost use Rattle.host_io.specs.Pieces.{out as piece};
 ghost use Rattle.asm_show.specs.Listing.{listing_line};
 ghost use Rattle.shell_turns.specs.Cuts.{ObeyCause, PutsOut};
-ghost use Rattle.shell_run.specs.Lines.{block_line, or_dash, pc_line, ready_line, refusal_line, register_line, stats_line, sweeps_line, tag_line, turns_line, word_line};
+ghost use Rattle.shell_run.specs.Lines.{back_line, block_line, or_dash, pc_line, ready_line, refusal_line, register_line, stats_line, sweeps_line, tag_line, turns_line, word_line};
 
 use asm_show::list_word;
 use engine_trait::Counts;
@@ -188,6 +188,19 @@ pub(crate) fn put_turns<K: Sink>(count: u32, out: &mut K) -> Result<(), ObeyEnd>
 {
     let mut line = Line::new();
     write_number(&mut line, b"turns ", u64::from(count));
+    write_text(&mut line, b"\n");
+    put_line(&line, out)
+}
+
+/// Puts how many turns were taken back.
+#[tactic(auto, unfolding(crate::specs::Lines::back_line))]
+pub(crate) fn put_back<K: Sink>(count: u32, out: &mut K) -> Result<(), ObeyEnd>
+    ensures puts { PutsOut (K.taken out.old) (K.taken out.new)
+        (piece (back_line count) ∷ []) result }
+    ensures cause { ObeyCause (K.faults out.old) (K.faults out.new) result }
+{
+    let mut line = Line::new();
+    write_number(&mut line, b"back ", u64::from(count));
     write_text(&mut line, b"\n");
     put_line(&line, out)
 }

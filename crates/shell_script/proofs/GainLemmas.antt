@@ -1,28 +1,25 @@
 -- What lines add to the run of a session, and what the replies to them tell of that.
 use Rattle.std.proofs.Common.{◌≡◌, ℕ, Bool, true, false, nat_lt, List, [], ◌∷◌, ◌++◌, length, take, Ok, Err, if◌then◌else◌, refl, ap, sym, subst, ◌∙◌, append-nil}
 use Rattle.policy_trait.specs.Model.{PolicyModel}
+use Rattle.policy_trait.specs.PolicyLaws.{KeepsLaws}
 use Rattle.turn_steps.specs.Feeds.{tape_of}
 use Rattle.engine_trait.specs.Machine.{Machine}
 use Rattle.engine_trait.specs.Runs.{Item, run_along}
 use Rattle.engine_trait.specs.Standing.{Standing}
 use Rattle.shell_lang.specs.Grammar.{Answer}
 use Rattle.shell_run.specs.Gains.{events_along}
-use Rattle.shell_run.specs.Runs.{IsAlong}
+use Rattle.shell_run.specs.Runs.{IsAlong, IsStart}
 use Rattle.shell_run.specs.Session.{SessionState}
-use Rattle.shell_run.proofs.GainLemmas.{gains_told, start_kept}
+use Rattle.shell_run.proofs.GainLemmas.{gains_told}
 use Rattle.shell_script.specs.Gains.{TellsLine, TellsNext}
 use Rattle.shell_script.specs.Scripts.{Script, behind, followed_by, items_along, items_of, script, script_of_answer}
 use Rattle.shell_script.specs.Shell.{Shell, at_the_end, ending_so, last_in, lines_in, lines_within, shell_of}
 use Rattle.shell_script.specs.declared.reading.ShellEnd.TheVariants.{Quit, TooLong}
-use Rattle.shell_script.proofs.RunLemmas.{script_goes}
+use Rattle.shell_script.proofs.RunLemmas.{line_start, script_goes}
 use Rattle.shell_script.proofs.ScriptLemmas.{goes_on, quit_ends, script_more, script_one}
 
 module _ {S T : Type 0} (eq : T → T → Bool) (m : PolicyModel T S) where
   -- ---- the start stays
-
-  line_start : (s : SessionState S T) (line : Answer) → (script_of_answer eq m s line).after.start ≡ s.start
-  line_start s (Ok command) = start_kept eq m s command
-  line_start s (Err refusal) = refl
 
   first_start : (quits : Bool) (s : SessionState S T) (first others : Script S T) → first.after.start ≡ s.start → others.after.start ≡ first.after.start
       → (if quits then first else behind first.pieces others).after.start ≡ s.start
@@ -34,7 +31,7 @@ module _ {S T : Type 0} (eq : T → T → Bool) (m : PolicyModel T S) where
   script_start s [] = refl
   script_start s (line ∷ lines) =
       let first = script_of_answer eq m s line in
-      first_start first.quits s first (script eq m first.after lines) (line_start s line) (script_start first.after lines)
+      first_start first.quits s first (script eq m first.after lines) (line_start eq m s line) (script_start first.after lines)
 
   -- ---- items along some lines, and then others
 
@@ -104,10 +101,11 @@ module _ {S T : Type 0} (eq : T → T → Bool) (m : PolicyModel T S) where
         (script_more eq m s prefix (line ∷ []) ∙ goes_on first (λ t. script eq m t (line ∷ [])) goes
         ∙ ap (behind first.pieces) (script_one eq m first.after line))
 
-    pub next_told : IsAlong eq m s items → first.quits ≡ false → TellsNext eq m s prefix line (events_along eq m s before) (events_along eq m s after)
-    next_told along goes =
+    pub next_told : (holds : S → Type 0) → KeepsLaws m holds → IsStart m holds s.start → IsAlong eq m s items → first.quits ≡ false
+        → TellsNext eq m s prefix line (events_along eq m s before) (events_along eq m s after)
+    next_told holds laws begun along goes =
         let start = ap (λ (e : Standing S T). e.machine) (script_start s prefix) in
-        let told = line_told first.after before line (script_goes eq m s items prefix along) in
+        let told = line_told first.after before line (script_goes eq m holds laws s items prefix begun along) in
         record {
           reply = reply_behind goes;
           gain =

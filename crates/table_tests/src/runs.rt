@@ -10,6 +10,7 @@ use rule_cache::RuleCache;
 use std::alloc::{AllocError, Global};
 use std::test::Fail;
 use tag_intern::TagTable;
+use undo_log::NoLog;
 use word_loader::start_cached;
 
 /// How a run went.
@@ -86,8 +87,9 @@ pub(crate) fn run_over<P: Policy, T: TagTable<Tag = P::Tag>>(
     if limits.cache == 0 || limits.tags == 0 {
         return Err("no room")?;
     }
-    let started = start_cached(alloc, policy, image, 1, limits.cache, limits.tags);
-    let mut engine: Pump<P, T, RuleCache> = started.ok().ok_or("no engine")?;
+    let log = NoLog::new();
+    let started = start_cached(alloc, policy, image, 1, limits.cache, limits.tags, log);
+    let mut engine: Pump<P, T, RuleCache, NoLog<P::Tag>> = started.ok().ok_or("no engine")?;
     let mut output = Vec::new(alloc);
     let ended = run_out(alloc, &mut engine, limits.turns, &mut output)?;
     Ok(Run {

@@ -11,6 +11,7 @@ use rv_step::Fault;
 use std::alloc::Global;
 use std::test::Fail;
 use tag_intern::{Interner, TagTable};
+use undo_log::NoLog;
 use word_loader::start_cached;
 use workload::write_workload;
 
@@ -64,7 +65,10 @@ fn is_started(alloc: Global, choice: Choice, image: &Image, tags: u32) -> Result
         return Err("no room")?;
     }
     let policy = choose(alloc, Basis { choice }, image)?;
-    match start_cached::<_, AllTable, RuleCache>(alloc, policy, image, 1, 1024, tags) {
+    let log = NoLog::new();
+    match start_cached::<_, AllTable, RuleCache, NoLog<AllTag>>(
+        alloc, policy, image, 1, 1024, tags, log,
+    ) {
         Ok(_) => Ok(true),
         Err(LoadEnd::TagsOut) => Ok(false),
         Err(LoadEnd::Memory) => Err("no memory")?,

@@ -1,3 +1,4 @@
+pub mod FeedLemmas
 pub mod InstrLemmas
 pub mod KeptLemmas
 pub mod LookLemmas

@@ -1,7 +1,6 @@
 -- Looks that come before a rule: with tags changed, and where none is refused.
-use Rattle.std.proofs.Common.{◌≡◌, ℕ, Option, Some, None, Result, Ok, Err, refl, ap, ◌∙◌}
+use Rattle.std.proofs.Common.{◌≡◌, ℕ, Option, Some, None, Result, Ok, Err, refl}
 use Rattle.shared_terms.specs.Steps.{◌>>=◌}
-use Rattle.policy_trait.specs.declared.rules.Refused.{Refused}
 use Rattle.policy_trait.specs.declared.rules.Shape.{Shape}
 use Rattle.policy_trait.specs.declared.rules.Shape.TheVariants as shape
 use Rattle.rv_decode.specs.Groups.{reads_of}
@@ -13,7 +12,7 @@ use Rattle.tag_memory.specs.Maps.{hart_by, ram_by}
 use Rattle.tag_memory.specs.Ram.{RamState, ram_tag}
 use Rattle.tag_memory.proofs.MapLemmas.{ram_tag_by, reg_tag_by}
 use Rattle.turn_steps.specs.Looks.{fetch_result, operand_tag, read_instr}
-use Rattle.turn_steps.specs.Peeks.{Peek, asked_at, asked_if, fetched_peeked, operands_peeked, peek_by, peeked, shape_of, word_peeked}
+use Rattle.turn_steps.specs.Peeks.{Peek, asked_at, asked_if, fetched_peeked, peek_by, peeked, shape_of, word_peeked}
 
 -- ---- with each tag changed, who is asked is asked with the changed ones
 

@@ -1,7 +1,7 @@
 //! The bytes that programs get.
 
 ghost use Rattle.std.specs.Prelude.{◌≡◌, [], OnErr, OnOk};
-ghost use Rattle.turn_steps.specs.Feeds.{fed_after, first_fed, tape_of, with_fed};
+ghost use Rattle.turn_steps.specs.Feeds.{byte_unread, fed_after, first_fed, tape_of, with_fed};
 
 use std::alloc::{AllocError, Global};
 use std::marker::Model;
@@ -61,5 +61,20 @@ impl Feed {
         let byte = self.bytes.get(self.place).copied()?;
         self.place += 1;
         Some(byte)
+    }
+
+    /// The byte that `next` will read, `None` where none is left.
+    pub fn peek(&self) -> Option<u8>
+        ensures { result ≡ first_fed self.now.left }
+    {
+        self.bytes.get(self.place).copied()
+    }
+
+    /// Puts the last byte that was read back, so that it is the next one again; nothing changes where none was read. It takes no
+    /// memory.
+    pub fn unread(&mut self)
+        ensures tape { self.new ≡ byte_unread self.old }
+    {
+        self.place = self.place.saturating_sub(1);
     }
 }

@@ -1,1 +1,3 @@
-mod PopLemmas
+pub mod MapLemmas
+pub mod PopLemmas
+pub mod TagLemmas

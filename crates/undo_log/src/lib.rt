@@ -2,9 +2,13 @@
 #![tactic(auto)]
 
 mod log;
+mod no_log;
 mod record;
 #[cfg(test)]
 mod tests;
+mod word_log;
 
 pub use log::UndoLog;
-pub use record::{OldWords, Record, Replaced};
+pub use no_log::NoLog;
+pub use record::{OldPlan, OldWords, Record, Replaced};
+pub use word_log::WordLog;

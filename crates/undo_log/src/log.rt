@@ -1,8 +1,8 @@
 //! `UndoLog`: the records of the last turns.
 
-ghost use Rattle.std.specs.Prelude.{◌≡◌, ◌<◌, ◌≤◌, [], ◌∷◌, ◌++◌, Some, length, slice_get, IfNone, IfOk, IfSome};
+ghost use Rattle.std.specs.Prelude.{◌≡◌, ◌<◌, ◌≤◌, ◌↔◌, [], ◌∷◌, ◌++◌, Some, false, length, slice_get, IfNone, IfOk, IfSome, IsTrue};
 ghost use Rattle.std.specs.Borrow.{sem};
-ghost use Rattle.undo_log.specs.Past.{IsPast, emptied, past_of, pushed, with_newest};
+ghost use Rattle.undo_log.specs.Past.{IsPast, emptied, newest, older, past_of, pushed};
 
 use crate::record::Record;
 use circular_buffer::HeapCircularBuffer;
@@ -46,7 +46,17 @@ impl<T: Copy, U: Copy> UndoLog<T, U> {
         self.records.len() as u32
     }
 
+    /// Whether the log is for any record: one that is pushed is kept then.
+    pub fn keeps(&self) -> bool
+        ensures value { IsTrue result ↔ (0 < self.now.most) }
+        ensures none { result ≡ false → self.now ≡ past_of [] 0 }
+        ensures valid { IsPast self.now }
+    {
+        0 < self.records.capacity()
+    }
+
     /// Adds a record, the newest. A full log drops its oldest for it; a log for none drops this one.
+    #[inline(always)]
     pub fn push(&mut self, made: Record<T, U>)
         ensures kept { self.new ≡ pushed self.old made }
     {
@@ -56,9 +66,9 @@ impl<T: Copy, U: Copy> UndoLog<T, U> {
     /// Takes the newest record out; `None` where there is none.
     #[tactic(auto, using(crate::proofs::PopLemmas::last_back, crate::proofs::PopLemmas::none_last))]
     pub fn pop(&mut self) -> Option<Record<T, U>>
-        ensures newest { IfSome result (λ made. self.old ≡ with_newest self.new made) }
+        ensures newest { result ≡ newest self.old }
+        ensures others { self.new ≡ older self.old }
         ensures empty { IfNone result (self.old.kept ≡ []) }
-        ensures unchanged { IfNone result (self.new ≡ self.old) }
     {
         self.records.pop_back()
     }

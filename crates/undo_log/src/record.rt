@@ -1,10 +1,10 @@
 //! `Record`: what a turn replaced.
 
-ghost use Rattle.std.specs.Prelude.{◌≡◌, []};
+ghost use Rattle.std.specs.Prelude.{◌≡◌, [], None, Some, IfOk, option_copied};
 ghost use Rattle.std.specs.Borrow.{sem};
 
 use policy_trait::Plan;
-use std::alloc::Global;
+use std::alloc::{AllocError, Global};
 use std::marker::Model;
 
 /// What stood at a place before a turn wrote there: in a register, or in a word of memory.
@@ -37,6 +37,7 @@ impl<T: Copy> OldWords<T> {
     ghost use Rattle.undo_log.specs.Lending.{LendsWords};
 
     /// No word. It takes no memory.
+    #[inline]
     pub fn none(alloc: Global) -> OldWords<T>
         ensures empty { result ≡ [] }
     {
@@ -68,6 +69,50 @@ impl<T: Copy> OldWords<T> {
     }
 }
 
+/// The plan that a policy committed in a turn, or none. Contracts see it as that. It stands in memory of its own, so that the records
+/// of the many turns without one stay small.
+#[derive(Drop)]
+pub struct OldPlan<U: Copy> {
+    plan: Option<Box<Plan<U>>>,
+}
+
+impl<U: Copy> Model for OldPlan<U> {
+    ghost use Rattle.std.specs.Prelude.{Option, option_map};
+    ghost use Rattle.policy_trait.specs.declared.services.Plan.{Plan};
+
+    ghost Value = { Option (Plan U) };
+
+    ghost view = { λ old. option_map (λ kept. kept.value) old.plan };
+}
+
+impl<U: Copy> OldPlan<U> {
+    /// No plan. It takes no memory.
+    #[inline]
+    pub fn none() -> OldPlan<U>
+        ensures empty { result ≡ None }
+    {
+        OldPlan { plan: None }
+    }
+
+    /// This plan. The only error is running out of memory.
+    pub fn of(alloc: Global, plan: &Plan<U>) -> Result<OldPlan<U>, AllocError>
+        ensures value { IfOk result (λ old. old ≡ Some plan.now) }
+    {
+        let kept = Box::new(alloc, *plan)?;
+        Ok(OldPlan { plan: Some(kept) })
+    }
+
+    /// The plan, if there is one.
+    pub fn get(&self) -> Option<&Plan<U>>
+        ensures value { option_copied result ≡ self.now }
+    {
+        match &self.plan {
+            Some(kept) => Some(kept.as_ref()),
+            None => None,
+        }
+    }
+}
+
 /// What a turn replaced, and what it read and committed: enough to take it back. `T` is the engine's kind of tag, and
 /// `U` the policy's.
 #[derive(Drop)]
@@ -85,7 +130,7 @@ pub struct Record<T: Copy, U: Copy> {
     /// The words that a service wrote, as they were before; empty where no service wrote any.
     pub range: OldWords<T>,
     /// The plan that the policy committed; `None` where no service was carried out.
-    pub plan: Option<Plan<U>>,
+    pub plan: OldPlan<U>,
     /// The byte of the feed that was read; `None` where none was.
     pub fed: Option<u8>,
 }

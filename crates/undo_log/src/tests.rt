@@ -1,8 +1,9 @@
-//! Logs by hand: which records are kept, the order in which they come out, and a tag changed in its place.
+//! Logs by hand: which records are kept, the order in which they come out, a tag changed in its place, and the words that
+//! logs hold.
 
 ghost use Rattle.std.specs.Prelude.{◌≤◌};
 
-use crate::{OldWords, Record, Replaced, UndoLog};
+use crate::{NoLog, OldPlan, OldWords, Record, Replaced, UndoLog, WordLog};
 use std::alloc::{AllocError, Global};
 use std::test::Fail;
 
@@ -26,7 +27,7 @@ fn record_at(alloc: Global, pc: u32) -> Result<Record<u32, u64>, AllocError> {
         }),
         word: None,
         range: OldWords::of(vec![in alloc; word]?),
-        plan: None,
+        plan: OldPlan::none(),
         fed: Some(65),
     })
 }
@@ -125,5 +126,36 @@ fn tags_changed_in_their_places(rt: HostRuntime) -> Result<(), Fail> {
     assert_eq!(rt; tags_at(&log, 1), Some((9, 9)));
     assert_eq!(rt; tags_at(&log, 2), Some((6, 8)));
     assert_eq!(rt; pc_at(&log, 1), Some(104));
+    Ok(())
+}
+
+/// The words that the records of a log hold.
+fn words_of<L: WordLog>(alloc: Global, log: &L) -> Result<Vec<u32>, AllocError> {
+    let mut words = Vec::new(alloc);
+    log.push_words(&mut words)?;
+    Ok(words)
+}
+
+#[test]
+fn words_told_and_renumbered(rt: HostRuntime) -> Result<(), Fail> {
+    let mut log = log_of(rt.alloc(), 2, &[100, 104])?;
+    assert!(rt; log.keeps());
+    let told = words_of(rt.alloc(), &log)?;
+    assert_eq!(rt; told.as_slice(), [6, 7, 8, 6, 7, 8].as_slice());
+    // the number of 8 is past the end of the list
+    log.renumber(&[10, 11, 12, 13, 14, 15, 16, 17]);
+    let told = words_of(rt.alloc(), &log)?;
+    assert_eq!(rt; told.as_slice(), [16, 17, 0, 16, 17, 0].as_slice());
+    Ok(())
+}
+
+#[test]
+fn a_log_that_never_keeps_a_record(rt: HostRuntime) -> Result<(), Fail> {
+    let mut log: NoLog<u64> = NoLog::new();
+    assert!(rt; !log.keeps());
+    log.push(record_at(rt.alloc(), 100)?);
+    log.renumber(&[10]);
+    assert_eq!(rt; words_of(rt.alloc(), &log)?.len(), 0);
+    assert!(rt; log.pop().is_none());
     Ok(())
 }

@@ -21,6 +21,9 @@ use Rattle.tag_intern.specs.Words.{tag_at}
 use Rattle.miss_handler.specs.Asked.{AreRules}
 use Rattle.miss_handler.specs.Books.{Rulebook, rulebook_of}
 use Rattle.pump_engine.specs.Low.{IsLowCore, Low}
+use Rattle.undo_log.specs.Past.{Past, past_by, past_of}
+use Rattle.engine_trait.specs.Standing.{with_history_for}
+use Rattle.pump_engine.proofs.PastLemmas.{low_none}
 use Rattle.pump_engine.specs.Pump.{IsPump, decode, machine_by_words, standing_by_words}
 use Rattle.pump_engine.specs.Steps.{pump_start}
 use Rattle.word_loader.specs.Named.{AreHartsOf, AreWordsOf, Named}
@@ -122,13 +125,13 @@ module _ {S T : Type 0} (m : PolicyModel T S) (policy : S) (g : Picture) where
       is = core_written ∙ sym (core_on lowered (λ (w : Low (length table.tags)). w.word) named_core);
     }
 
-    module _ (sets ways : ℕ) where
-      machine_read : machine_by_words m (pump_start policy harts own_ram table (empty_store sets ways)) ≡ start_machine m policy g
+    module _ (sets ways : ℕ) (past : Past ℕ T) (none : past.kept ≡ []) where
+      machine_read : machine_by_words m (pump_start policy harts own_ram table (empty_store sets ways) past) ≡ start_machine m policy g
       unfolding start_machine
       machine_read = λ j. record { policy = policy; core = core_read j }
 
       pub start_is_pump : HasSizes g → m.room policy ≤ g.ram → length table.tags ≤ table.limit → 1 ≤ ways
-          → IsPump m (pump_start policy harts own_ram table (empty_store sets ways))
+          → IsPump m (pump_start policy harts own_ram table (empty_store sets ways) past)
       start_is_pump has room within some = record {
         machine = subst (IsMachine m) (sym machine_read) (start_is_sound has room);
         plain_word = plain_is;
@@ -136,16 +139,19 @@ module _ {S T : Type 0} (m : PolicyModel T S) (policy : S) (g : Picture) where
         words = core_low;
         rules = no_rules (rulebook_of m policy) table.tags sets;
         room = some;
+        remembered = low_none (length table.tags) past none;
       }
 
       pub start_is_read : (eq : T → T → Bool) (limit : ℕ) → table.tags ≡ with_tags eq [] (first_tags m policy g) → table.limit ≡ limit
-          → standing_by_words m (pump_start policy harts own_ram table (empty_store sets ways)) ≡ cached_standing eq m policy g sets ways limit
+          → standing_by_words m (pump_start policy harts own_ram table (empty_store sets ways) past)
+          ≡ with_history_for past.most (cached_standing eq m policy g sets ways limit)
       start_is_read eq limit seen limit_is = λ j. record {
         machine = machine_read j;
         account = record plain_account {
           table = seen j;
           limit = limit_is j;
-          sets = none_read (decode m (pump_start policy harts own_ram table (empty_store sets ways))) sets j;
+          sets = none_read (decode m (pump_start policy harts own_ram table (empty_store sets ways) past)) sets j;
           ways = ways;
+          past = past_by reading (past_of (none j) past.most);
         };
       }

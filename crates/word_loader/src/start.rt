@@ -2,6 +2,7 @@
 
 ghost use Rattle.std.specs.Prelude.{◌≡◌, ◌*◌, ◌<◌, ◌≤◌, [], Err, IfOk, OnOk, Some, false, length, slice_get, true};
 ghost use Rattle.engine_trait.specs.Accounts.{is_over, with_tags};
+ghost use Rattle.engine_trait.specs.Standing.{with_history_for};
 ghost use Rattle.pump_engine.specs.Pump.{standing_by_words};
 ghost use Rattle.word_loader.specs.Named.{AreHartsOf, AreWordsOf};
 ghost use Rattle.tag_loader.specs.Start.{start_harts, start_tags};
@@ -18,6 +19,7 @@ use std::alloc::Global;
 use tag_intern::{InternEnd, TagTable};
 use tag_loader::words_of;
 use tag_memory::{Hart, Pages, Ram};
+use undo_log::WordLog;
 
 /// The harts and the tags of memory at the start, as words of a table that had none: the plain tag gets word 0, then each
 /// tag of a hart's pc gets one, and each of a word of memory.
@@ -49,26 +51,29 @@ fn first_words<P: Policy, T: TagTable<Tag = P::Tag>>(
     Ok((harts, tags))
 }
 
-/// The engine at the start of the image under this policy, that keeps rules in `sets` sets of at most `ways` each, and has
-/// words for at most `limit` tags.
+/// The engine at the start of the image under this policy, that keeps rules in `sets` sets of at most `ways` each, has words for at
+/// most `limit` tags, and keeps the records of its turns in this log, which has none yet.
 ///
 /// `TagsOut` is told only where the start has more tags than `limit`, and an engine is made only where it hasn't; else memory
 /// was out.
-pub fn start_cached<P: Policy, T: TagTable<Tag = P::Tag>, C: RuleStore>(
+pub fn start_cached<P: Policy, T: TagTable<Tag = P::Tag>, C: RuleStore, H: WordLog<Tag = P::Tag>>(
     alloc: Global,
     policy: P,
     image: &Image,
     sets: u32,
     ways: u32,
     limit: u32,
-) -> Result<Pump<P, T, C>, LoadEnd>
+    log: H,
+) -> Result<Pump<P, T, C, H>, LoadEnd>
     requires room { P.model.room policy ≤ image.now.ram }
     requires sets { 1 ≤ sets }
     requires ways { 1 ≤ ways }
     requires fits { C.fits sets ways }
     requires limit { 1 ≤ limit }
+    requires empty { (H.past log).kept ≡ [] }
     ensures start { IfOk result (λ engine. standing_by_words P.model engine
-        ≡ cached_standing P.Tag.eq P.model policy image.now sets ways limit) }
+        ≡ with_history_for (H.past log).most
+        (cached_standing P.Tag.eq P.model policy image.now sets ways limit)) }
     ensures within { IfOk result (λ engine. is_over
         (cached_account P.Tag.eq P.model policy image.now sets ways limit) ≡ false) }
     ensures out { result ≡ Err LoadEnd.TagsOut → is_over
@@ -97,5 +102,6 @@ pub fn start_cached<P: Policy, T: TagTable<Tag = P::Tag>, C: RuleStore>(
         harts,
         table,
         store,
+        log,
     ))
 }

@@ -25,10 +25,16 @@ pub returns-in-Err-clause-safe_here : goal.returns-in-Err-clause-safe_here
 returns-in-Err-clause-safe_here g c = safe_runs (texts_of c.args.words.now.items) _ _ (g.met.F.Files.tells_bytes c.args.files.now)
 
 pub returns-in-Ok-clause-replies : goal.returns-in-Ok-clause-replies
-returns-in-Ok-clause-replies g c = session_told (texts_of c.args.words.now.items)
+returns-in-Ok-clause-replies g c held left tells = session_told (texts_of c.args.words.now.items) held left tells
+
+pub returns-in-Ok-clause-replies_here : goal.returns-in-Ok-clause-replies_here
+returns-in-Ok-clause-replies_here g c = session_told (texts_of c.args.words.now.items) _ _ (g.met.F.Files.tells_bytes c.args.files.now)
 
 pub returns-in-Err-clause-replies : goal.returns-in-Err-clause-replies
-returns-in-Err-clause-replies g c = session_told (texts_of c.args.words.now.items)
+returns-in-Err-clause-replies g c held left tells = session_told (texts_of c.args.words.now.items) held left tells
+
+pub returns-in-Err-clause-replies_here : goal.returns-in-Err-clause-replies_here
+returns-in-Err-clause-replies_here g c = session_told (texts_of c.args.words.now.items) _ _ (g.met.F.Files.tells_bytes c.args.files.now)
 
 pub returns-in-Ok-clause-loads : goal.returns-in-Ok-clause-loads
 returns-in-Ok-clause-loads g c task is = load_due (texts_of c.args.words.now.items) _ _ task is

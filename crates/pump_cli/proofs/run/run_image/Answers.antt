@@ -1,4 +1,4 @@
-use Rattle.std.proofs.Common.{◌≡◌, Bool, false, rules, subst, sym, true, ◌∙◌}
+use Rattle.std.proofs.Common.{◌≡◌, false, rules, subst, sym, true, ◌∙◌}
 use Rattle.image_format.specs.Picture.{Picture}
 use Rattle.policy_product.specs.Nothing.{nothing}
 use Rattle.turn_steps.specs.Feeds.{tape_of}

@@ -1,4 +1,4 @@
-use Rattle.std.proofs.Common.{Err, Ok, refl, ◌≡◌, ◌∙◌}
+use Rattle.std.proofs.Common.{Err, refl, ◌≡◌, ◌∙◌}
 use Rattle.pump_line.specs.Task.{shell}
 use Rattle.pump_line.specs.Told.{shell_value}
 use Rattle.pump_cli.specs.Reading.{secret_held, secret_read}

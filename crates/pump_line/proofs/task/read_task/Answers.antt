@@ -23,11 +23,16 @@ returns-in-Ok-clause-task c = task_if_ok c.task_matched.result c.ok_or.result _ 
 
 pub returns-in-Ok-clause-tags : goal.returns-in-Ok-clause-tags
 returns-in-Ok-clause-tags c =
-    IfOk-weaker c.ok_or.result _ _ (λ task asked. (words_allow (texts_of c.args.words.now.items) (task_value task) asked).0)
+    IfOk-weaker c.ok_or.result _ _ (λ task asked. (words_allow (texts_of c.args.words.now.items) (task_value task) asked).0.0)
     (task_if_ok c.task_matched.result c.ok_or.result _ (reads c) c.ok_or.ensures.value)
 
 pub returns-in-Ok-clause-rules : goal.returns-in-Ok-clause-rules
 returns-in-Ok-clause-rules c =
+    IfOk-weaker c.ok_or.result _ _ (λ task asked. (words_allow (texts_of c.args.words.now.items) (task_value task) asked).0.1)
+    (task_if_ok c.task_matched.result c.ok_or.result _ (reads c) c.ok_or.ensures.value)
+
+pub returns-in-Ok-clause-history : goal.returns-in-Ok-clause-history
+returns-in-Ok-clause-history c =
     IfOk-weaker c.ok_or.result _ _ (λ task asked. (words_allow (texts_of c.args.words.now.items) (task_value task) asked).1)
     (task_if_ok c.task_matched.result c.ok_or.result _ (reads c) c.ok_or.ensures.value)
 

@@ -3,13 +3,14 @@ use Rattle.shell_script.proofs.RunLemmas.{script_goes}
 use Rattle.shell_script.proofs.law.script_law.Goals as goal
 
 pub returns-clause-along : goal.returns-clause-along
-returns-clause-along g c s items lines along = script_goes g.P.Tag.PartialEq.eq g.P.Policy.model s items lines along
+returns-clause-along g c = script_goes g.P.Tag.PartialEq.eq g.P.Policy.model g.P.Policy.holds g.met.P.Policy.lawful
 
 pub returns-clause-stays : goal.returns-clause-stays
 returns-clause-stays g c = script_start g.P.Tag.PartialEq.eq g.P.Policy.model
 
 pub returns-clause-tells : goal.returns-clause-tells
-returns-clause-tells g c s items prefix line along goes = next_told g.P.Tag.PartialEq.eq g.P.Policy.model s items prefix line along goes
+returns-clause-tells g c s items prefix line =
+    next_told g.P.Tag.PartialEq.eq g.P.Policy.model s items prefix line g.P.Policy.holds g.met.P.Policy.lawful
 
 pub returns-clause-closed : goal.returns-clause-closed
 returns-clause-closed g c s items prefix line quits = closed_by g.P.Tag.PartialEq.eq g.P.Policy.model s items prefix line quits

@@ -17,8 +17,8 @@ from_parts-requires g c =
       few = omega (arith, words, ram.value, ram.most);
     }
 
-pub new-requires : goal.new-requires
-new-requires g c =
+pub new-requires-clause-start : goal.new-requires-clause-start
+new-requires-clause-start g c =
     let model = g.P.Policy.model in
     let policy = c.args.policy in
     let image = c.args.image.now in
@@ -29,10 +29,11 @@ new-requires g c =
     let has = has_sizes image c.ram-ram.result c.ram-ram.ensures.value c.ram-ram.ensures.least c.ram-ram.ensures.most
     c.entries-entries.result.now entries.value entries.least entries.most entries.places
     c.in-Ok-words_of.words.items c.in-Ok-words_of.ensures.words c.in-Ok-words_of.ensures.size in
+    let past = g.H.WordLog.past c.args.log in
     let ram = c.from_parts.ensures ∙ ap (λ memory. ram_in_words memory tags) c.in-Ok-words_of.ensures.words in
-    subst (IsPump model) (λ j. pump_start policy harts (sym ram j) table (sym c.in-Ok-made.ensures.empty j))
+    subst (IsPump model) (λ j. pump_start policy harts (sym ram j) table (sym c.in-Ok-made.ensures.empty j) past)
     (start_is_pump model policy image table c.in-Ok-first_words.ensures.plain harts tags c.in-Ok-first_words.ensures.harts c.in-Ok-first_words.ensures.words c.args.sets c.args.ways
-    has c.requires.room c.len-count.ensures.sound.within c.requires.ways)
+    past c.requires.empty has c.requires.room c.len-count.ensures.sound.within c.requires.ways)
 
 pub returns-clause-start : goal.returns-clause-start
 returns-clause-start g c =
@@ -42,10 +43,11 @@ returns-clause-start g c =
     let table = g.T.TagTable.state c.first_words.new.table in
     let harts = c.in-Ok-first_words.parts.0.items in
     let tags = items_of c.in-Ok-first_words.parts.1 in
+    let past = g.H.WordLog.past c.args.log in
     let ram = c.from_parts.ensures ∙ ap (λ memory. ram_in_words memory tags) c.in-Ok-words_of.ensures.words in
-    ap (standing_by_words model) (c.new.ensures ∙ (λ j. pump_start policy harts (ram j) table (c.in-Ok-made.ensures.empty j)))
+    ap (standing_by_words model) (c.new.ensures ∙ (λ j. pump_start policy harts (ram j) table (c.in-Ok-made.ensures.empty j) past))
     ∙ start_is_read model policy image table c.in-Ok-first_words.ensures.plain harts tags c.in-Ok-first_words.ensures.harts c.in-Ok-first_words.ensures.words c.args.sets c.args.ways
-    g.P.Tag.PartialEq.eq c.args.limit c.in-Ok-first_words.ensures.seen (c.first_words.ensures.limit ∙ (λ j. (c.in-Ok.ensures j).limit))
+    past c.requires.empty g.P.Tag.PartialEq.eq c.args.limit c.in-Ok-first_words.ensures.seen (c.first_words.ensures.limit ∙ (λ j. (c.in-Ok.ensures j).limit))
 
 pub returns-clause-within : goal.returns-clause-within
 returns-clause-within g c =

@@ -19,4 +19,6 @@ invariant_of-self-2 g c =
           (served_stays g.P.Policy.model s c.self.invariant.machine g.P.Policy.holds g.met.P.Policy.lawful c.args.h c.args.job.now.plan c.args.job.now.words.items
           c.args.job.now.plan.answer c.args.look.now.effect.next c.args.outs.pc there c.requires.aligned given).machine);
       account = record { ways = refl; table = refl; sets = refl };
+      past = refl;
+      words = c.self.invariant.words;
     }

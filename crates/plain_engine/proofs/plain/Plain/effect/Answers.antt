@@ -15,4 +15,6 @@ invariant_of-self g c =
       machine = subst (λ (core : CoreState g.row.P-Tag.Denot). IsMachine g.P.Policy.model (record { policy = c.self.inside.policy; core = core })) (sym c.effect-end.ensures.core)
           (effected_stays g.P.Policy.model s c.self.invariant.machine c.args.feed.now c.args.h c.args.look.now c.args.outs there sound).machine;
       account = record { ways = refl; table = refl; sets = refl };
+      past = refl;
+      words = c.self.invariant.words;
     }

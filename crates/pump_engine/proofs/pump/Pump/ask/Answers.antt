@@ -16,7 +16,7 @@ ask-requires-clause-in_words g c =
 pub invariant_of-self : goal.invariant_of-self
 invariant_of-self g c =
     let p : PumpState g.row.P.Denot g.row.P-Tag.Denot =
-    pump_of c.self.inside.policy c.self.inside.core (g.T.TagTable.state c.self.inside.tags) (g.C.RuleStore.state c.self.inside.store) c.self.inside.turns c.self.inside.sweeps c.self.inside.halt in
+    pump_of c.self.inside.policy c.self.inside.core (g.T.TagTable.state c.self.inside.tags) (g.C.RuleStore.state c.self.inside.store) c.self.inside.turns c.self.inside.sweeps c.self.inside.halt (g.H.WordLog.past c.self.inside.log) in
     let asks : AsksOwn g.P.Tag.PartialEq.eq g.P.Policy.model p c.args.h c.args.look.now (g.T.TagTable.state c.ask.new.tags) (g.C.RuleStore.state c.ask.new.store) c.ask.result =
     subst (λ s. IsAsked g.P.Tag.PartialEq.eq g.P.Policy.model p c.args.h c.args.look.now (g.T.TagTable.state c.ask.new.tags) (g.C.RuleStore.state c.ask.new.store) s (rule_inputs c.self.inside.core c.args.h c.args.look.now) c.ask.result)
     c.new-rules.ensures.policy
@@ -40,7 +40,7 @@ invariant_of-self g c =
 pub returns-clause-allowed : goal.returns-clause-allowed
 returns-clause-allowed g c =
     let p : PumpState g.row.P.Denot g.row.P-Tag.Denot =
-    pump_of c.self.inside.policy c.self.inside.core (g.T.TagTable.state c.self.inside.tags) (g.C.RuleStore.state c.self.inside.store) c.self.inside.turns c.self.inside.sweeps c.self.inside.halt in
+    pump_of c.self.inside.policy c.self.inside.core (g.T.TagTable.state c.self.inside.tags) (g.C.RuleStore.state c.self.inside.store) c.self.inside.turns c.self.inside.sweeps c.self.inside.halt (g.H.WordLog.past c.self.inside.log) in
     let asks : AsksOwn g.P.Tag.PartialEq.eq g.P.Policy.model p c.args.h c.args.look.now (g.T.TagTable.state c.ask.new.tags) (g.C.RuleStore.state c.ask.new.store) c.ask.result =
     subst (λ s. IsAsked g.P.Tag.PartialEq.eq g.P.Policy.model p c.args.h c.args.look.now (g.T.TagTable.state c.ask.new.tags) (g.C.RuleStore.state c.ask.new.store) s (rule_inputs c.self.inside.core c.args.h c.args.look.now) c.ask.result)
     c.new-rules.ensures.policy
@@ -65,7 +65,7 @@ returns-clause-allowed g c =
 pub returns-clause-unanswered : goal.returns-clause-unanswered
 returns-clause-unanswered g c =
     let p : PumpState g.row.P.Denot g.row.P-Tag.Denot =
-    pump_of c.self.inside.policy c.self.inside.core (g.T.TagTable.state c.self.inside.tags) (g.C.RuleStore.state c.self.inside.store) c.self.inside.turns c.self.inside.sweeps c.self.inside.halt in
+    pump_of c.self.inside.policy c.self.inside.core (g.T.TagTable.state c.self.inside.tags) (g.C.RuleStore.state c.self.inside.store) c.self.inside.turns c.self.inside.sweeps c.self.inside.halt (g.H.WordLog.past c.self.inside.log) in
     let asks : AsksOwn g.P.Tag.PartialEq.eq g.P.Policy.model p c.args.h c.args.look.now (g.T.TagTable.state c.ask.new.tags) (g.C.RuleStore.state c.ask.new.store) c.ask.result =
     subst (λ s. IsAsked g.P.Tag.PartialEq.eq g.P.Policy.model p c.args.h c.args.look.now (g.T.TagTable.state c.ask.new.tags) (g.C.RuleStore.state c.ask.new.store) s (rule_inputs c.self.inside.core c.args.h c.args.look.now) c.ask.result)
     c.new-rules.ensures.policy
@@ -90,7 +90,7 @@ returns-clause-unanswered g c =
 pub returns-clause-kept : goal.returns-clause-kept
 returns-clause-kept g c =
     let p : PumpState g.row.P.Denot g.row.P-Tag.Denot =
-    pump_of c.self.inside.policy c.self.inside.core (g.T.TagTable.state c.self.inside.tags) (g.C.RuleStore.state c.self.inside.store) c.self.inside.turns c.self.inside.sweeps c.self.inside.halt in
+    pump_of c.self.inside.policy c.self.inside.core (g.T.TagTable.state c.self.inside.tags) (g.C.RuleStore.state c.self.inside.store) c.self.inside.turns c.self.inside.sweeps c.self.inside.halt (g.H.WordLog.past c.self.inside.log) in
     let asks : AsksOwn g.P.Tag.PartialEq.eq g.P.Policy.model p c.args.h c.args.look.now (g.T.TagTable.state c.ask.new.tags) (g.C.RuleStore.state c.ask.new.store) c.ask.result =
     subst (λ s. IsAsked g.P.Tag.PartialEq.eq g.P.Policy.model p c.args.h c.args.look.now (g.T.TagTable.state c.ask.new.tags) (g.C.RuleStore.state c.ask.new.store) s (rule_inputs c.self.inside.core c.args.h c.args.look.now) c.ask.result)
     c.new-rules.ensures.policy

@@ -30,7 +30,7 @@ settle-requires-clause-in_words g c =
 pub invariant_of-self : goal.invariant_of-self
 invariant_of-self g c =
     let p : PumpState g.row.P.Denot g.row.P-Tag.Denot =
-    pump_of c.self.inside.policy c.self.inside.core (g.T.TagTable.state c.self.inside.tags) (g.C.RuleStore.state c.self.inside.store) c.self.inside.turns c.self.inside.sweeps c.self.inside.halt in
+    pump_of c.self.inside.policy c.self.inside.core (g.T.TagTable.state c.self.inside.tags) (g.C.RuleStore.state c.self.inside.store) c.self.inside.turns c.self.inside.sweeps c.self.inside.halt (g.H.WordLog.past c.self.inside.log) in
     let settles : SettlesOwn g.P.Tag.PartialEq.eq g.P.Policy.model p c.args.h c.args.look.now (g.T.TagTable.state c.settle.new.tags) (g.C.RuleStore.state c.settle.new.store) c.settle.result =
     subst (λ s. IsSettled g.P.Tag.PartialEq.eq g.P.Policy.model p c.args.h c.args.look.now (g.T.TagTable.state c.settle.new.tags) (g.C.RuleStore.state c.settle.new.store) s (rule_inputs c.self.inside.core c.args.h c.args.look.now) c.settle.result)
     c.new-rules.ensures.policy
@@ -53,7 +53,7 @@ invariant_of-self g c =
 pub returns-clause-settled : goal.returns-clause-settled
 returns-clause-settled g c =
     let p : PumpState g.row.P.Denot g.row.P-Tag.Denot =
-    pump_of c.self.inside.policy c.self.inside.core (g.T.TagTable.state c.self.inside.tags) (g.C.RuleStore.state c.self.inside.store) c.self.inside.turns c.self.inside.sweeps c.self.inside.halt in
+    pump_of c.self.inside.policy c.self.inside.core (g.T.TagTable.state c.self.inside.tags) (g.C.RuleStore.state c.self.inside.store) c.self.inside.turns c.self.inside.sweeps c.self.inside.halt (g.H.WordLog.past c.self.inside.log) in
     let settles : SettlesOwn g.P.Tag.PartialEq.eq g.P.Policy.model p c.args.h c.args.look.now (g.T.TagTable.state c.settle.new.tags) (g.C.RuleStore.state c.settle.new.store) c.settle.result =
     subst (λ s. IsSettled g.P.Tag.PartialEq.eq g.P.Policy.model p c.args.h c.args.look.now (g.T.TagTable.state c.settle.new.tags) (g.C.RuleStore.state c.settle.new.store) s (rule_inputs c.self.inside.core c.args.h c.args.look.now) c.settle.result)
     c.new-rules.ensures.policy

@@ -10,7 +10,7 @@ use Rattle.pump_engine.specs.Steps.{service_in}
 pub returns-clause-ok : goal.returns-clause-ok
 returns-clause-ok g c =
     let p : PumpState g.row.P.Denot g.row.P-Tag.Denot =
-    pump_of c.self.inside.policy c.self.inside.core (g.T.TagTable.state c.self.inside.tags) (g.C.RuleStore.state c.self.inside.store) c.self.inside.turns c.self.inside.sweeps c.self.inside.halt in
+    pump_of c.self.inside.policy c.self.inside.core (g.T.TagTable.state c.self.inside.tags) (g.C.RuleStore.state c.self.inside.store) c.self.inside.turns c.self.inside.sweeps c.self.inside.halt (g.H.WordLog.past c.self.inside.log) in
     let same = service_as g.P.Tag.PartialEq.eq g.P.Policy.model p c.args.h c.args.look.now c.args.outs c.args.self.now
     c.service_call-call.result.memory.decoder.plain (g.T.TagTable.state c.service_call-call.result.memory.decoder.tags.now) c.service_call-call.result.memory.ram.now
     c.service_call-call.result.arguments c.service_call-call.result.pc c.self.view_is (c.service_call-call.ensures.service c.args.look.now) in
@@ -20,7 +20,7 @@ returns-clause-ok g c =
 pub returns-clause-err : goal.returns-clause-err
 returns-clause-err g c =
     let p : PumpState g.row.P.Denot g.row.P-Tag.Denot =
-    pump_of c.self.inside.policy c.self.inside.core (g.T.TagTable.state c.self.inside.tags) (g.C.RuleStore.state c.self.inside.store) c.self.inside.turns c.self.inside.sweeps c.self.inside.halt in
+    pump_of c.self.inside.policy c.self.inside.core (g.T.TagTable.state c.self.inside.tags) (g.C.RuleStore.state c.self.inside.store) c.self.inside.turns c.self.inside.sweeps c.self.inside.halt (g.H.WordLog.past c.self.inside.log) in
     let same = service_as g.P.Tag.PartialEq.eq g.P.Policy.model p c.args.h c.args.look.now c.args.outs c.args.self.now
     c.service_call-call.result.memory.decoder.plain (g.T.TagTable.state c.service_call-call.result.memory.decoder.tags.now) c.service_call-call.result.memory.ram.now
     c.service_call-call.result.arguments c.service_call-call.result.pc c.self.view_is (c.service_call-call.ensures.service c.args.look.now) in
@@ -30,7 +30,7 @@ returns-clause-err g c =
 pub returns-clause-memory : goal.returns-clause-memory
 returns-clause-memory g c out =
     let p : PumpState g.row.P.Denot g.row.P-Tag.Denot =
-    pump_of c.self.inside.policy c.self.inside.core (g.T.TagTable.state c.self.inside.tags) (g.C.RuleStore.state c.self.inside.store) c.self.inside.turns c.self.inside.sweeps c.self.inside.halt in
+    pump_of c.self.inside.policy c.self.inside.core (g.T.TagTable.state c.self.inside.tags) (g.C.RuleStore.state c.self.inside.store) c.self.inside.turns c.self.inside.sweeps c.self.inside.halt (g.H.WordLog.past c.self.inside.log) in
     let same = service_as g.P.Tag.PartialEq.eq g.P.Policy.model p c.args.h c.args.look.now c.args.outs c.args.self.now
     c.service_call-call.result.memory.decoder.plain (g.T.TagTable.state c.service_call-call.result.memory.decoder.tags.now) c.service_call-call.result.memory.ram.now
     c.service_call-call.result.arguments c.service_call-call.result.pc c.self.view_is (c.service_call-call.ensures.service c.args.look.now) in

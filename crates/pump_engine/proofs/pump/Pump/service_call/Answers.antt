@@ -9,7 +9,7 @@ use Rattle.pump_engine.specs.Steps.{job_over, service_in}
 pub returns-clause-service : goal.returns-clause-service
 returns-clause-service g c look =
     let p : PumpState g.row.P.Denot g.row.P-Tag.Denot =
-    pump_of c.self.inside.policy c.self.inside.core (g.T.TagTable.state c.self.inside.tags) (g.C.RuleStore.state c.self.inside.store) c.self.inside.turns c.self.inside.sweeps c.self.inside.halt in
+    pump_of c.self.inside.policy c.self.inside.core (g.T.TagTable.state c.self.inside.tags) (g.C.RuleStore.state c.self.inside.store) c.self.inside.turns c.self.inside.sweeps c.self.inside.halt (g.H.WordLog.past c.self.inside.log) in
     let same = service_by g.P.Tag.PartialEq.eq g.P.Policy.model p c.args.h look c.args.outs c.decoder-decoder.result.plain (g.T.TagTable.state c.decoder-decoder.result.tags.now)
     c.ram.result.now c.map-arguments.result c.image-pc.result
     (c.decoder-decoder.ensures.tags ∙ ap (λ (q : PumpState g.row.P.Denot g.row.P-Tag.Denot). q.table) (sym c.self.view_is))

@@ -14,6 +14,17 @@ returns-in-Step g c =
       cut = c.step.ensures.cut;
     })
 
+pub returns-in-Back : goal.returns-in-Back
+unfolding reply_to
+returns-in-Back g c =
+    rw c.in-Back.is
+    (record {
+      after = c.back.ensures.after;
+      puts = c.back.ensures.puts;
+      cause = c.back.ensures.cause;
+      cut = cut_unmoved g.L.E.P.Tag.PartialEq.eq g.L.E.P.Policy.model c.args.self.now (g.K.Sink.taken c.args.out.now) (g.K.Sink.taken c.back.new.out) c.back.new.self c.back.result c.back.ensures.cut;
+    })
+
 pub returns-in-Regs : goal.returns-in-Regs
 unfolding reply_to
 returns-in-Regs g c =

@@ -9,7 +9,7 @@ use Rattle.turn_steps.proofs.StepLemmas.{not_call}
 use Rattle.pump_engine.proofs.CountLemmas.{step_by_words}
 use Rattle.pump_engine.proofs.EndLemmas.{count_stays, fails_alone, memory_unanswered, missed_grows}
 use Rattle.pump_engine.proofs.TurnLemmas.{effect_turn, unanswered_gives_up, unanswered_turn}
-use Rattle.pump_engine.proofs.pump.PumpEngine.ready_turn.Goals as goal
+use Rattle.pump_engine.proofs.pump.Pump.turn_of_ready.Goals as goal
 
 -- ---- a rule without outputs
 
