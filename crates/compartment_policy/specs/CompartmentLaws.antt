@@ -163,6 +163,7 @@ pub compartment_laws : KeepsLaws compartments IsCount
 compartment_laws = record {
   masks = λ state g x. run_masked (entry_owner x.pc x.ci) g x;
   unpeeked = λ state shape first second none. refl;
+  parted = λ state shape first second one other. refl;
   keeps = λ state p given. record {
     plain = refl;
     rule = λ g x. refl;

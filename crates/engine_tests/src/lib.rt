@@ -15,6 +15,8 @@ mod ends;
 #[cfg(test)]
 mod images;
 #[cfg(test)]
+mod opening;
+#[cfg(test)]
 mod products;
 #[cfg(test)]
 mod programs;

@@ -190,6 +190,7 @@ impl Policy for Toy {
     ghost lawful = { record {
       masks = λ s g x. refl;
       unpeeked = λ s shape first second none. refl;
+      parted = λ s shape first second one other. refl;
       keeps = λ s p given. record {
         plain = refl;
         rule = λ g x. refl;

@@ -24,23 +24,23 @@ use Rattle.tag_memory.specs.Hart.{HartState, fresh_hart, moved_to, reg_tag, reg_
 use Rattle.tag_memory.specs.Ram.{IsPlace, RamState, ram_bytes, ram_tag, ram_word}
 use Rattle.monitor_calls.specs.Service.{Job}
 use Rattle.monitor_calls.proofs.JobLemmas.{job_places}
-use Rattle.turn_steps.specs.Effects.{Carried, carried_by, effect_result, result_value}
+use Rattle.turn_steps.specs.Effects.{Carried, carried_by, effect_result, result_value, with_store}
 use Rattle.turn_steps.specs.Feeds.{Tape, fed_after, fed_value, first_fed, unread, with_fed}
 use Rattle.turn_steps.specs.Services.{args_on, with_answer, with_words}
 use Rattle.turn_steps.proofs.LookLemmas.{looked_is_sound}
 use Rattle.turn_steps.specs.Looks.{is_call}
 use Rattle.turn_steps.specs.declared.look.Look.{Look}
 use Rattle.turn_steps.specs.declared.stop.Stop.{Stop}
-use Rattle.undo_log.specs.declared.record.Record.{Record}
+use Rattle.undo_log.specs.Past.{Record}
 use Rattle.undo_log.specs.declared.record.Replaced.{Replaced}
-use Rattle.engine_trait.specs.History.{answer_before, bare_record, core_undone, policy_undone, record_by, record_done, record_of, record_or_bare, reg_before, replaced, with_old_reg, with_old_word, with_old_words, word_at, word_before, words_before}
+use Rattle.engine_trait.specs.History.{answer_before, bare_record, core_undone, policy_undone, record_by, record_done, record_of, record_or_bare, reg_before, replaced, with_old_reg, with_old_word, with_old_words, word_at, words_before, written_record}
 use Rattle.engine_trait.specs.HistoryLaws.{IsFit, TakesBack}
 use Rattle.engine_trait.specs.Machine.{CoreState, IsMachine, Machine, has_no_stop, hart_at, is_ready_in, stop_at, stopping, with_hart}
 use Rattle.engine_trait.specs.Turn.{Turned, attempt, carried_at, core_effected, core_ended, core_served, preparation, rule_answer, service_on, settlement, turn_effect, turn_job, turn_of}
 use Rattle.engine_trait.proofs.MachineLemmas.{Prepares, can_plan, hart_is, planned_given, plans, prepared_is}
 use Rattle.engine_trait.proofs.TurnLemmas.{allowed_turn, planned_turn, turn_ready}
-use Rattle.engine_trait.proofs.RegisterLemmas.{looked_small}
-use Rattle.engine_trait.proofs.RestoredLemmas.{reg_restored, store_restored, words_restored}
+use Rattle.engine_trait.proofs.RegisterLemmas.{StoresAlone, looked_small, looked_stores}
+use Rattle.engine_trait.proofs.RestoredLemmas.{reg_restored, store_restored, words_restored, zero_kept}
 
 -- ---- the feed
 
@@ -141,22 +141,42 @@ module _ {T : Type 0} (core : CoreState T) (h : ℕ) (ready : is_ready_in core h
     result_again =
         reg_restored (hart_at core h) look.places.result (result_value core.ram look.effect.value look.effect.access) look.effect.next outs.result outs.pc
 
-    by_group : (called : Group) → core_undone (core_ended core h (carried called) (carried called).done) (record_by_group called) ≡ core
-    by_group group.Exit = core_again (hart_at core h) _ core.ram None None [] None None refl (stops_again _) refl
-    by_group group.Put = core_again _ core.stops core.ram None None [] None None refl stops_same refl
-    by_group group.Get =
+    abbrev written : HartState T
+    written = (carried group.Break).hart
+
+    written_again : (accessed : Access) → StoresAlone accessed look.places.result
+        → core_undone {U = T} (record { harts = slice_set core.harts h written; stops = core.stops; ram = with_store core.ram accessed outs.result }) (written_record core h look.places.result accessed) ≡ core
+    written_again access.None alone = core_again written core.stops core.ram _ None [] None None result_again stops_same refl
+    written_again (access.Load addr width signed) alone = core_again written core.stops core.ram _ None [] None None result_again stops_same refl
+    written_again (access.Store addr width value) alone =
+        core_again written core.stops (with_store core.ram (access.Store addr width value) outs.result) None _ [] None None
+        (zero_kept (hart_at core h) look.places.result (result_value core.ram look.effect.value look.effect.access) look.effect.next outs.result outs.pc alone)
+        stops_same (store_restored core.ram addr width value outs.result)
+
+    by_group : StoresAlone look.effect.access look.places.result → (called : Group) → core_undone (core_ended core h (carried called) (carried called).done) (record_by_group called) ≡ core
+    by_group alone group.Exit = core_again (hart_at core h) _ core.ram None None [] None None refl (stops_again _) refl
+    by_group alone group.Put = core_again _ core.stops core.ram None None [] None None refl stops_same refl
+    by_group alone group.Get =
         core_again _ core.stops core.ram (reg_before (hart_at core h) a0) None [] None (first_fed feed.left)
         (reg_restored (hart_at core h) a0 (fed_value feed.left) look.effect.next outs.result outs.pc) stops_same refl
-    by_group group.Break = core_again _ core.stops core.ram _ None [] None None result_again stops_same refl
-    by_group _ = core_again _ core.stops _ _ _ [] None None result_again stops_same (store_restored core.ram look.effect.access outs.result)
+    by_group alone group.Break = core_again _ core.stops core.ram _ None [] None None result_again stops_same refl
+    by_group alone _ = written_again look.effect.access alone
 
-    effect_again : core_undone (core_effected core feed h look outs) (record_by_group look.group) ≡ core
+    effect_again : StoresAlone look.effect.access look.places.result → core_undone (core_effected core feed h look outs) (record_by_group look.group) ≡ core
     unfolding core_effected carried_at effect_result
-    effect_again = by_group look.group
+    effect_again alone = by_group alone look.group
+
+    written_fed : (accessed : Access) → (written_record {U = T} core h look.places.result accessed).fed ≡ None
+    written_fed access.None = refl
+    written_fed (access.Load addr width signed) = refl
+    written_fed (access.Store addr width value) = refl
 
     fed_by_group : (called : Group) (bytes : List ℕ) → unread (record_by_group called).fed (with_fed (carried called).feed bytes) ≡ with_fed feed bytes
     fed_by_group group.Get bytes = feed_again feed bytes
-    fed_by_group _ bytes = refl
+    fed_by_group group.Exit bytes = refl
+    fed_by_group group.Put bytes = refl
+    fed_by_group group.Break bytes = refl
+    fed_by_group _ bytes = ap (λ (fed : Option ℕ). unread fed (with_fed feed bytes)) (written_fed look.effect.access)
 
     effect_fed : (bytes : List ℕ) → unread (record_by_group look.group).fed (with_fed (carried_at core feed h look outs).feed bytes) ≡ with_fed feed bytes
     unfolding carried_at effect_result
@@ -164,13 +184,9 @@ module _ {T : Type 0} (core : CoreState T) (h : ℕ) (ready : is_ready_in core h
 
 -- ---- what a record names is there
 
--- the word that holds an access is a word of memory
-store_place : {T : Type 0} (ram : RamState T) (accessed : Access) → EndsWithin (ram_bytes ram) accessed → ForSome (word_before ram accessed) (λ old. IsPlace (ram_bytes ram) old.place)
-store_place ram access.None within old is = absurd cc
-store_place ram (access.Load addr width signed) within old is = absurd cc
-store_place ram (access.Store addr width value) within old is =
-    subst (λ (old : Replaced _). IsPlace (ram_bytes ram) old.place) (same_Some (word_at ram (addr - addr % 4)) old is)
-    (record { aligned = omega arith; within = whole width within })
+-- the word that holds a store is a word of memory
+store_place : {T : Type 0} (ram : RamState T) (addr : ℕ) (width : Width) → addr + bytes_of width ≤ ram_bytes ram → IsPlace (ram_bytes ram) (addr - addr % 4)
+store_place ram addr width within = record { aligned = omega arith; within = whole width within }
   where
     whole : (width : Width) → addr + bytes_of width ≤ ram_bytes ram → addr - addr % 4 + 4 ≤ ram_bytes ram
     whole Byte within = omega arith
@@ -253,15 +269,26 @@ module _ {S T : Type 0} (m : PolicyModel T S) (holds : S → Type 0) (laws : Kee
     result_place : ForSome (reg_before (hart_at s.core h) look.places.result) IsRegister
     result_place = reg_place (hart_at s.core h) look.places.result (looked_small (hart_at s.core h) s.core.ram look found.looked_is)
 
+    -- of an instruction that goes on
+    written_fit : (accessed : Access) → EndsWithin (ram_bytes s.core.ram) accessed → Fits (written_record s.core h look.places.result accessed)
+    written_fit access.None within = fits_wordless (reg_before (hart_at s.core h) look.places.result) None result_place
+    written_fit (access.Load addr width signed) within = fits_wordless (reg_before (hart_at s.core h) look.places.result) None result_place
+    written_fit (access.Store addr width value) within =
+        fits None (Some (word_at s.core.ram (addr - addr % 4))) [] None None (nowhere IsRegister)
+        (λ old same. subst IsWord (same_Some (word_at s.core.ram (addr - addr % 4)) old same) (store_place s.core.ram addr width within)) (All-nil IsWord)
+
     -- of any instruction but a service
     effect_fit : (called : Group) → EndsWithin (ram_bytes s.core.ram) look.effect.access → Fits (record_by called s.core (first_fed feed.left) h look)
     effect_fit group.Exit within = fits_wordless None None (nowhere IsRegister)
     effect_fit group.Put within = fits_wordless None None (nowhere IsRegister)
     effect_fit group.Get within = fits_wordless (reg_before (hart_at s.core h) a0) (first_fed feed.left) (reg_place (hart_at s.core h) a0 (omega arith))
     effect_fit group.Break within = fits_wordless (reg_before (hart_at s.core h) look.places.result) None result_place
-    effect_fit _ within =
-        fits (reg_before (hart_at s.core h) look.places.result) (word_before s.core.ram look.effect.access) [] None None result_place
-        (store_place s.core.ram look.effect.access within) (All-nil IsWord)
+    effect_fit _ within = written_fit look.effect.access within
+
+    written_plan : (accessed : Access) → (written_record {U = T} s.core h look.places.result accessed).plan ≡ None
+    written_plan access.None = refl
+    written_plan (access.Load addr width signed) = refl
+    written_plan (access.Store addr width value) = refl
 
     -- which commits no plan
     uncommitted : (called : Group) → (record_by {U = T} called s.core (first_fed feed.left) h look).plan ≡ None
@@ -269,7 +296,7 @@ module _ {S T : Type 0} (m : PolicyModel T S) (holds : S → Type 0) (laws : Kee
     uncommitted group.Put = refl
     uncommitted group.Get = refl
     uncommitted group.Break = refl
-    uncommitted _ = refl
+    uncommitted _ = written_plan look.effect.access
 
     job_back : (outs : Outs T) (job : Option (Job T)) → turn_job m s h look outs ≡ Ok job → TakenBy (Ok (turn_effect m s feed h look outs job)) (Ok (record_done s.core (first_fed feed.left) h look job))
     job_back outs (Some job) e =
@@ -281,7 +308,7 @@ module _ {S T : Type 0} (m : PolicyModel T S) (holds : S → Type 0) (laws : Kee
           committed = committed_is job.plan given;
         }
     job_back outs None e = record {
-      machine = λ j. record { policy = policy_undone m s.policy (uncommitted look.group j); core = effect_again s.core h ready feed look outs j };
+      machine = λ j. record { policy = policy_undone m s.policy (uncommitted look.group j); core = effect_again s.core h ready feed look outs (looked_stores (hart_at s.core h) s.core.ram look found.looked_is) j };
       tape = effect_fed s.core h ready feed look outs;
       fit = effect_fit look.group (looked_is_sound (hart_at s.core h) s.core.ram look (hart_is m s is h (there s.core h ready)).shape found.looked_is).in_memory;
       committed = subst (λ (plan : Option (Plan T)). ForSome plan (IsCommitted m holds s.policy)) (sym (uncommitted look.group)) (nowhere (IsCommitted m holds s.policy));

@@ -11,8 +11,7 @@ use Rattle.tag_memory.specs.Ram.{ram_bytes}
 use Rattle.turn_steps.specs.Feeds.{Tape}
 use Rattle.turn_steps.specs.Looks.{is_system}
 use Rattle.turn_steps.specs.declared.look.Look.{Look}
-use Rattle.undo_log.specs.Past.{Past, newest, older, past_of, pushed}
-use Rattle.undo_log.specs.declared.record.Record.{Record}
+use Rattle.undo_log.specs.Past.{Past, Record, newest, older, past_of, pushed}
 use Rattle.undo_log.proofs.PopLemmas.{newest_kept}
 use Rattle.engine_trait.specs.Accounts.{Account, remembering}
 use Rattle.engine_trait.specs.Back.{IsLed, IsPastOf, LeadTo, back, back_by}

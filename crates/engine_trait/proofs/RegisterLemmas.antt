@@ -1,19 +1,24 @@
--- The register that a turn writes is one of x0 to x31.
-use Rattle.std.proofs.Common.{◌≡◌, ℕ, ◌<◌, ◌==◌, Option, Some, None, Result, Ok, IfSome, cond, eqb, if◌then◌else◌, subst, arith}
+-- The register that a turn writes is one of x0 to x31, and x0 where the turn stores.
+use Rattle.std.proofs.Common.{◌≡◌, ℕ, ◌<◌, ◌==◌, Option, Some, None, Result, Ok, IfSome, cond, eqb, if◌then◌else◌, refl, subst, arith}
 use Rattle.std.proofs.lemmas.Bool.{cond_both}
 use Rattle.shared_terms.proofs.StepLemmas.{on_ok}
 use Rattle.rv_decode.specs.Decoding.{branch_of, instr_of_word, load_of, product_or_quotient_of, shift_down_of, shift_up_of, store_of, system_of, with_immediate_of, with_registers_of}
 use Rattle.rv_decode.specs.Fields.{f3_of, f7_of, opcode_of, rd_of}
-use Rattle.rv_decode.specs.Groups.{a0, a7, get_service, result_register, writes_of}
+use Rattle.rv_decode.specs.Groups.{a0, a7, get_service, places_of, reads_of, result_register, writes_of}
 use Rattle.rv_decode.specs.declared.instructions.Instr.{Instr}
 use Rattle.rv_decode.specs.declared.places.Slot.{Slot}
 use Rattle.rv_decode.specs.declared.places.Slot.TheVariants as slot
+use Rattle.rv_decode.specs.declared.instructions.Instr.TheVariants.{Sb, Sh, Sw}
 use Rattle.rv_step.specs.Checks.{first_fault}
+use Rattle.rv_step.specs.Effects.{effect_of}
+use Rattle.rv_step.specs.declared.accesses.Access.{Access}
+use Rattle.rv_step.specs.declared.accesses.Access.TheVariants as access
+use Rattle.rv_step.specs.declared.effects.Effect.{Effect}
 use Rattle.rv_step.specs.declared.faults.Fault.{Fault}
 use Rattle.rv_step.specs.declared.faults.Fault.TheVariants.{Illegal}
 use Rattle.tag_memory.specs.Hart.{HartState, reg_value}
 use Rattle.tag_memory.specs.Ram.{RamState, ram_bytes}
-use Rattle.turn_steps.specs.Looks.{effect_at, effect_or_fault, fetch_result, found_or, look_at, look_result, read_instr}
+use Rattle.turn_steps.specs.Looks.{effect_at, effect_or_fault, fetch_result, found_or, look_at, look_result, operand, read_instr}
 use Rattle.turn_steps.specs.declared.look.Look.{Look}
 
 abbrev WritesSmall : Instr → Type 0
@@ -146,3 +151,31 @@ looked_small hart ram look e =
     on_ok (effect_or_fault (effect_at hart instr) (first_fault (effect_at hart instr) (ram_bytes ram))) _ look e2 λ effect effect-is e3.
     subst (λ (l : Look). l.places.result < 32) (look_is (look_at hart word instr effect) look e3)
     (found_small (Illegal word) (instr_of_word word) instr (decoded_small word) instr-is (reg_value hart a7))
+
+-- ---- a store
+
+-- a turn whose access is this writes this register: a store writes none but x0
+abbrev pub StoresAlone : Access → ℕ → Type 0
+StoresAlone (access.Store addr width value) r = r ≡ 0
+StoresAlone _ r = Unit {0}
+
+instr_stores : (instr : Instr) (pc a b service : ℕ) → StoresAlone (effect_of instr pc a b).access (result_register (writes_of instr service))
+instr_stores (Sb rs1 rs2 imm) pc a b service = refl
+instr_stores (Sh rs1 rs2 imm) pc a b service = refl
+instr_stores (Sw rs1 rs2 imm) pc a b service = refl
+instr_stores _ pc a b service = tt
+
+same_effect : (computed effect : Effect) (fault : Option Fault) → effect_or_fault computed fault ≡ Ok effect → computed ≡ effect
+same_effect computed effect None e = cc
+same_effect computed effect (Some fault) e = absurd cc
+
+pub looked_stores : {T : Type 0} (hart : HartState T) (ram : RamState T) (look : Look) → look_result hart ram ≡ Ok look → StoresAlone look.effect.access look.places.result
+unfolding look_result
+looked_stores hart ram look e =
+    on_ok (fetch_result hart ram) _ look e λ word word-is e1.
+    on_ok (read_instr word) _ look e1 λ instr instr-is e2.
+    on_ok (effect_or_fault (effect_at hart instr) (first_fault (effect_at hart instr) (ram_bytes ram))) _ look e2 λ effect effect-is e3.
+    subst (λ (l : Look). StoresAlone l.effect.access l.places.result) (look_is (look_at hart word instr effect) look e3)
+    (subst (λ (found : Effect). StoresAlone found.access (places_of instr (reg_value hart a7)).result)
+    (same_effect (effect_at hart instr) effect (first_fault (effect_at hart instr) (ram_bytes ram)) effect-is)
+    (instr_stores instr hart.pc (operand hart (reads_of instr).t1) (operand hart (reads_of instr).t2) (reg_value hart a7)))

@@ -6,12 +6,12 @@ use Rattle.std.proofs.lemmas.List.{ext_get_or, get_or-set_other, get_or-set_same
 use Rattle.tag_memory.specs.Hart.{HartState, moved_to, reg_tag, reg_value}
 use Rattle.tag_memory.specs.Ram.{RamState, ram_tag, ram_word, with_ram_tag, with_ram_word}
 use Rattle.rv_step.specs.Accesses.{stored_in}
-use Rattle.rv_step.specs.declared.accesses.Access.{Access}
 use Rattle.rv_step.specs.declared.accesses.Access.TheVariants as access
+use Rattle.rv_step.specs.declared.accesses.Width.{Width}
 use Rattle.turn_steps.specs.Effects.{with_store, with_tagged}
 use Rattle.turn_steps.specs.Services.{with_words}
 use Rattle.undo_log.specs.declared.record.Replaced.{Replaced}
-use Rattle.engine_trait.specs.History.{reg_before, replaced, with_old_reg, with_old_word, with_old_words, word_before, words_before}
+use Rattle.engine_trait.specs.History.{reg_before, replaced, with_old_reg, with_old_word, with_old_words, word_at, words_before}
 
 -- ---- lists
 
@@ -112,6 +112,12 @@ pub reg_restored : {T : Type 0} (hart : HartState T) (r value next : ℕ) (tag p
     → moved_to (with_old_reg (moved_to (with_tagged hart r value tag) next pc_tag) (reg_before hart r)) hart.pc hart.pc_tag ≡ hart
 reg_restored hart r value next tag pc_tag = reg_restored_by (r == 0) hart r value next tag pc_tag refl
 
+-- x0 stays as it is
+pub zero_kept : {T : Type 0} (hart : HartState T) (r value next : ℕ) (tag pc_tag : T) → r ≡ 0
+    → moved_to (moved_to (with_tagged hart r value tag) next pc_tag) hart.pc hart.pc_tag ≡ hart
+zero_kept hart r value next tag pc_tag is =
+    subst (λ (n : ℕ). moved_to (moved_to (with_tagged hart n value tag) next pc_tag) hart.pc hart.pc_tag ≡ hart) (sym is) refl
+
 -- ---- words of memory
 
 module _ {T : Type 0} where
@@ -174,8 +180,7 @@ module _ {T : Type 0} where
         tags = (set-set ram.tags place tag (get_or ram.tags place ram.plain) ∙ set-get_or ram.tags place ram.plain) j;
       })
 
-  pub store_restored : (ram : RamState T) (access : Access) (tag : T) → with_old_word (with_store ram access tag) (word_before ram access) ≡ ram
-  store_restored ram access.None tag = refl
-  store_restored ram (access.Load addr width signed) tag = refl
-  store_restored ram (access.Store addr width value) tag =
+  pub store_restored : (ram : RamState T) (addr : ℕ) (width : Width) (value : ℕ) (tag : T)
+      → with_old_word (with_store ram (access.Store addr width value) tag) (Some (word_at ram (addr - addr % 4))) ≡ ram
+  store_restored ram addr width value tag =
       word_restored ram (addr / 4) ((addr - addr % 4) / 4) (stored_in (ram_word ram addr) addr width value) tag (omega arith)

@@ -4,7 +4,7 @@ use Rattle.std.proofs.lemmas.List.{append-nil, append_assoc}
 use Rattle.policy_trait.specs.Model.{PolicyModel}
 use Rattle.policy_trait.specs.PolicyLaws.{KeepsLaws}
 use Rattle.turn_steps.specs.Feeds.{Tape, with_fed}
-use Rattle.undo_log.specs.declared.record.Record.{Record}
+use Rattle.undo_log.specs.Past.{Record}
 use Rattle.engine_trait.specs.History.{AreMade, Reached, all_undone, bytes_fed, has_turn, reached_after, reached_undone, record_of, records_along, without_last}
 use Rattle.engine_trait.specs.HistoryLaws.{StepsBack, TakesBack}
 use Rattle.engine_trait.specs.Machine.{IsMachine, Machine}

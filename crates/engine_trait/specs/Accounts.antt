@@ -12,8 +12,7 @@ use Rattle.monitor_calls.specs.Service.{Job}
 use Rattle.turn_steps.specs.declared.look.Look.{Look}
 use Rattle.turn_steps.specs.declared.stop.Stop.{Stop}
 use Rattle.shared_terms.specs.Counts.{next_count}
-use Rattle.undo_log.specs.Past.{Past, past_of, past_tags, pushed}
-use Rattle.undo_log.specs.declared.record.Record.{Record}
+use Rattle.undo_log.specs.Past.{Past, Record, past_of, past_tags, pushed}
 use Rattle.engine_trait.specs.Machine.{Machine, core_tags}
 use Rattle.engine_trait.specs.Turn.{job_at, preparation, rule_answer, rule_at, rule_inputs}
 use Rattle.engine_trait.specs.declared.ends.Counts.{Counts}

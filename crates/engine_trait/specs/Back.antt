@@ -2,8 +2,7 @@
 use Rattle.std.specs.Prelude.{◌≡◌, ℕ, zero, suc, true, List, [], ◌∷◌, Option, Some, None}
 use Rattle.policy_trait.specs.Model.{PolicyModel}
 use Rattle.turn_steps.specs.Feeds.{Tape, unread}
-use Rattle.undo_log.specs.Past.{newest, older}
-use Rattle.undo_log.specs.declared.record.Record.{Record}
+use Rattle.undo_log.specs.Past.{Record, newest, older}
 use Rattle.engine_trait.specs.History.{record_of, undone}
 use Rattle.engine_trait.specs.Machine.{IsMachine, Machine, is_ready_in}
 use Rattle.engine_trait.specs.Standing.{Standing}

@@ -16,7 +16,7 @@ use Rattle.turn_steps.specs.Effects.{with_tagged}
 use Rattle.turn_steps.specs.Feeds.{Tape, first_fed, unread, with_fed}
 use Rattle.turn_steps.specs.declared.look.Look.{Look}
 use Rattle.turn_steps.specs.declared.stop.Stop.{Stop}
-use Rattle.undo_log.specs.declared.record.Record.{Record}
+use Rattle.undo_log.specs.Past.{Record}
 use Rattle.undo_log.specs.declared.record.Replaced.{Replaced}
 use Rattle.engine_trait.specs.Machine.{CoreState, Machine, hart_at, is_ready_in}
 use Rattle.engine_trait.specs.Runs.{Item, fed, run_along, turn}
@@ -41,12 +41,6 @@ module _ {T : Type 0} where
   abbrev pub word_at : RamState T → ℕ → Replaced T
   word_at ram address = replaced address (ram_word ram address) (ram_tag ram address)
 
-  -- the whole word of a store
-  abbrev pub word_before : RamState T → Access → Option (Replaced T)
-  word_before ram access.None = None
-  word_before ram (access.Load addr width signed) = None
-  word_before ram (access.Store addr width value) = Some (word_at ram (addr - addr % 4))
-
   -- the words of a service's range
   abbrev pub words_before : {U : Type 0} → RamState T → List (ℕ × ℕ × U) → List (Replaced T)
   words_before {U} ram words = map (λ (word : ℕ × ℕ × U). word_at ram word.0) words
@@ -67,16 +61,18 @@ module _ {T U : Type 0} where
     fed = None;
   }
 
+  -- of an instruction that goes on: a store replaces the word that it writes to, and no register; any other its register
+  abbrev pub written_record : CoreState T → ℕ → ℕ → Access → Record T U
+  written_record core h r (access.Store addr width value) = record (bare_record core h) { word = Some (word_at core.ram (addr - addr % 4)) }
+  written_record core h r _ = record (bare_record core h) { reg = reg_before (hart_at core h) r }
+
   -- of an instruction, by its group; this is the next byte of the feed, if one is left
   abbrev pub record_by : Group → CoreState T → Option ℕ → ℕ → Look → Record T U
   record_by group.Exit core next h look = bare_record core h
   record_by group.Put core next h look = bare_record core h
   record_by group.Get core next h look = record (bare_record core h) { reg = reg_before (hart_at core h) a0; fed = next }
   record_by group.Break core next h look = record (bare_record core h) { reg = reg_before (hart_at core h) look.places.result }
-  record_by _ core next h look = record (bare_record core h) {
-    reg = reg_before (hart_at core h) look.places.result;
-    word = word_before core.ram look.effect.access;
-  }
+  record_by _ core next h look = written_record core h look.places.result look.effect.access
 
   -- of a service by this plan, which writes these words
   abbrev pub record_served : {V : Type 0} → CoreState T → ℕ → List (ℕ × ℕ × V) → Plan U → Record T U

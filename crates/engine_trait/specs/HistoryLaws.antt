@@ -4,7 +4,7 @@ use Rattle.std.specs.Option.{ForSome}
 use Rattle.policy_trait.specs.Model.{IsCommitted, PolicyModel}
 use Rattle.tag_memory.specs.Ram.{IsPlace, ram_bytes}
 use Rattle.turn_steps.specs.Feeds.{Tape, unread, with_fed}
-use Rattle.undo_log.specs.declared.record.Record.{Record}
+use Rattle.undo_log.specs.Past.{Record}
 use Rattle.undo_log.specs.declared.record.Replaced.{Replaced}
 use Rattle.engine_trait.specs.History.{AreMade, records_along, undone}
 use Rattle.engine_trait.specs.Machine.{Machine}

@@ -8,7 +8,7 @@ ghost use Rattle.tag_memory.specs.Ram.{IsPlace, ram_bytes};
 ghost use Rattle.turn_steps.specs.Effects.{IsSound};
 ghost use Rattle.turn_steps.specs.Feeds.{Tape};
 ghost use Rattle.turn_steps.specs.Looks.{is_call, is_system, look_result, unless_system};
-ghost use Rattle.turn_steps.specs.Peeks.{peeked};
+ghost use Rattle.turn_steps.specs.Peeks.{looks_of, peeked};
 ghost use Rattle.turn_steps.specs.Services.{args_on};
 ghost use Rattle.engine_trait.specs.Machine.{CoreState, core_tags, fresh_core, hart_at, stop_at, stopping};
 ghost use Rattle.engine_trait.specs.Maps.{core_by};
@@ -22,8 +22,8 @@ use std::alloc::{AllocError, Global};
 use std::marker::Model;
 use tag_memory::{Hart, Ram};
 use turn_steps::{
-    Done, Feed, Look, Peeks, Stop, answer_to, arguments_of, carry_out, carry_step, inputs_at,
-    inputs_of, look_ahead, peeked, step_look, write_words,
+    Done, Feed, Look, Looks, Peeks, Stop, answer_to, arguments_of, carry_out, carry_step,
+    inputs_at, inputs_of, look_ahead, looks_of, peeked, step_look, write_words,
 };
 
 /// The most harts of a machine.
@@ -101,6 +101,16 @@ impl<T: Copy> Core<T> {
         ensures { result ≡ peeked (K.answer peeks.now) (hart_at self.now h) self.now.ram }
     {
         peeked(peeks, &self.harts[h as usize], &self.ram)
+    }
+
+    /// What the hart's turn looks at before its rule, where its checks pass and this is what it is about to do.
+    #[inline]
+    pub fn looks(&self, h: u32, look: &Look) -> Looks<T>
+        requires hart { h < length self.now.harts }
+        requires within { (hart_at self.now h).pc + 4 ≤ ram_bytes self.now.ram }
+        ensures { result ≡ looks_of (hart_at self.now h) self.now.ram look.now }
+    {
+        looks_of(&self.harts[h as usize], &self.ram, look)
     }
 
     /// What the hart is about to do, or the first of the checks that fails.

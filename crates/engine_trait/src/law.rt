@@ -3,7 +3,7 @@
 ghost use Rattle.std.specs.Prelude.{◌≡◌, ◌≢◌, ℕ, ◌<◌, ◌≤◌, false, true, List, [], ◌∷◌, ◌++◌, length};
 ghost use Rattle.policy_trait.specs.Mirrors.{Mirrors};
 ghost use Rattle.turn_steps.specs.Feeds.{Tape, with_fed};
-ghost use Rattle.undo_log.specs.declared.record.Record.{Record};
+ghost use Rattle.undo_log.specs.Past.{Record};
 ghost use Rattle.engine_trait.specs.Accounts.{IsUncached};
 ghost use Rattle.engine_trait.specs.Events.{event_of, is_retirement};
 ghost use Rattle.engine_trait.specs.EngineLaws.{FollowsTurn, HasPlainZero, RunsOut, StaysIdle, StaysMachine, is_made};

@@ -1,13 +1,14 @@
 //! What a core's turn will replace, and a core taken back by it.
 
-ghost use Rattle.std.specs.Prelude.{◌≡◌, ◌<◌, IfOk, length};
+ghost use Rattle.std.specs.Prelude.{◌≡◌, ◌<◌, None, IfOk, false, length};
 ghost use Rattle.std.specs.List.{All};
 ghost use Rattle.std.specs.Option.{ForSome};
-ghost use Rattle.rv_step.specs.Accesses.{EndsWithin};
 ghost use Rattle.tag_memory.specs.Ram.{IsPlace, ram_bytes};
 ghost use Rattle.turn_steps.specs.Effects.{IsSound};
-ghost use Rattle.engine_trait.specs.History.{answer_before, bare_record, core_undone, record_by, record_served, reg_before, with_old_reg, with_old_word, with_old_words, word_at, word_before, words_before};
+ghost use Rattle.turn_steps.specs.Looks.{is_system};
+ghost use Rattle.engine_trait.specs.History.{answer_before, bare_record, core_undone, record_by, record_served, reg_before, with_old_reg, with_old_word, with_old_words, word_at, words_before, written_record};
 ghost use Rattle.engine_trait.specs.HistoryLaws.{IsFit};
+ghost use Rattle.engine_trait.specs.Machine.{hart_at};
 
 use crate::cores::Core;
 use policy_trait::{Answer, Plan};
@@ -16,57 +17,86 @@ use rv_step::Access;
 use std::alloc::{AllocError, Global};
 use tag_memory::{Hart, Ram};
 use turn_steps::Look;
-use undo_log::{OldPlan, OldWords, Record, Replaced};
+use undo_log::{Record, Replaced, TurnStart};
 
 impl<T: Copy> Core<T> {
-    /// What a turn of hart `h` replaces that stops before its effect: nothing but the stop, so that it names the hart and its pc
-    /// alone. It takes no memory.
+    /// Where a turn of hart `h` begins.
     #[inline(always)]
-    pub fn bare_record<U: Copy>(&self, alloc: Global, h: u32) -> Record<T, U>
+    fn turn_start(&self, h: u32) -> TurnStart<T>
         requires { h < length self.now.harts }
-        ensures { result ≡ bare_record self.now h }
+        ensures hart { result.hart ≡ h }
+        ensures pc { result.pc ≡ (hart_at self.now h).pc }
+        ensures pc_tag { result.pc_tag ≡ (hart_at self.now h).pc_tag }
     {
         let hart = self.hart(h);
-        Record {
+        TurnStart {
             hart: h,
             pc: hart.pc(),
             pc_tag: hart.pc_tag(),
-            reg: None,
-            word: None,
-            range: OldWords::none(alloc),
-            plan: OldPlan::none(),
-            fed: None,
         }
+    }
+
+    /// What a turn of hart `h` replaces that stops before its effect: nothing but the stop, so that it names the hart and its pc
+    /// alone. It takes no memory.
+    #[inline(always)]
+    pub fn bare_record<U: Copy>(&self, h: u32) -> Record<T, U>
+        requires { h < length self.now.harts }
+        ensures { result ≡ bare_record self.now h }
+    {
+        Record::bare(self.turn_start(h))
+    }
+
+    /// What an instruction replaces that goes on: a store its word, any other its register. It takes no memory.
+    #[inline(always)]
+    fn written_record<U: Copy>(&self, h: u32, look: &Look) -> Record<T, U>
+        requires hart { h < length self.now.harts }
+        requires safe { IsSound (ram_bytes self.now.ram) look.now.effect }
+        ensures { result
+            ≡ written_record self.now h look.now.places.result look.now.effect.access }
+    {
+        let start = self.turn_start(h);
+        match look.effect.access() {
+            Access::Store { addr, .. } => {
+                Record::of_word(start, word_at(self.ram(), addr - addr % 4))
+            }
+            Access::Load { .. } | Access::None => {
+                let reg = reg_before(self.hart(h), look.places.result);
+                Record::of_register(start, reg, None)
+            }
+        }
+    }
+
+    /// What carrying out this instruction will replace, neither an ECALL nor an EBREAK. It takes no memory.
+    #[inline(always)]
+    #[tactic(auto, using(crate::proofs::PastLemmas::next_unused))]
+    pub fn step_record<U: Copy>(&self, h: u32, look: &Look) -> Record<T, U>
+        requires hart { h < length self.now.harts }
+        requires plain { is_system look.now.group ≡ false }
+        requires safe { IsSound (ram_bytes self.now.ram) look.now.effect }
+        ensures { result ≡ record_by look.now.group self.now None h look.now }
+    {
+        self.written_record(h, look)
     }
 
     /// What carrying out this instruction will replace, none of a policy's services; `next` is the next byte of the feed, which `get`
     /// reads. It takes no memory.
-    #[inline]
-    pub fn record<U: Copy>(
-        &self,
-        alloc: Global,
-        h: u32,
-        look: &Look,
-        next: Option<u8>,
-    ) -> Record<T, U>
+    pub fn record<U: Copy>(&self, h: u32, look: &Look, next: Option<u8>) -> Record<T, U>
         requires hart { h < length self.now.harts }
         requires safe { IsSound (ram_bytes self.now.ram) look.now.effect }
         ensures { result ≡ record_by look.now.group self.now next h look.now }
     {
-        let mut made = self.bare_record(alloc, h);
         match look.group {
-            Group::Exit | Group::Put => {}
+            Group::Exit | Group::Put => self.bare_record(h),
             Group::Get => {
-                made.reg = reg_before(self.hart(h), Register::A0);
-                made.fed = next;
+                let reg = reg_before(self.hart(h), Register::A0);
+                Record::of_register(self.turn_start(h), reg, next)
             }
-            Group::Break => made.reg = reg_before(self.hart(h), look.places.result),
-            _ => {
-                made.reg = reg_before(self.hart(h), look.places.result);
-                made.word = word_before(self.ram(), look.effect.access());
+            Group::Break => {
+                let reg = reg_before(self.hart(h), look.places.result);
+                Record::of_register(self.turn_start(h), reg, None)
             }
+            _ => self.written_record(h, look),
         }
-        made
     }
 
     /// What a policy's service by this plan will replace, which writes these words. The only error is running out of memory.
@@ -82,11 +112,8 @@ impl<T: Copy> Core<T> {
         ensures { IfOk result (λ made. made ≡ record_served self.now h words.now plan.now) }
     {
         let range = words_before(alloc, self.ram(), words)?;
-        let mut made = self.bare_record(alloc, h);
-        made.reg = answer_before(self.hart(h), plan.answer);
-        made.range = OldWords::of(range);
-        made.plan = OldPlan::of(alloc, plan)?;
-        Ok(made)
+        let answered = answer_before(self.hart(h), plan.answer);
+        Record::of_service(alloc, self.turn_start(h), answered, range, plan)
     }
 
     /// Takes a turn back by what it replaced: the hart goes on where it was, and what stood there stands again. The core has what the
@@ -98,13 +125,13 @@ impl<T: Copy> Core<T> {
         ensures harts { length self.new.harts ≡ length self.old.harts }
         ensures bytes { ram_bytes self.new.ram ≡ ram_bytes self.old.ram }
     {
-        let h = made.hart as usize;
+        let h = made.hart() as usize;
         let hart = &mut self.harts[h];
-        restore_reg(hart, made.reg);
-        hart.set_pc(made.pc, made.pc_tag);
+        restore_reg(hart, made.reg());
+        hart.set_pc(made.pc(), made.pc_tag());
         self.stops[h] = None;
-        restore_word(&mut self.ram, made.word);
-        restore_words(&mut self.ram, made.range.words());
+        restore_word(&mut self.ram, made.word());
+        restore_words(&mut self.ram, made.range());
     }
 }
 
@@ -144,19 +171,6 @@ fn word_at<T: Copy>(ram: &Ram<T>, address: u32) -> Replaced<T>
         place: address,
         value: ram.word(address),
         tag: ram.tag(address),
-    }
-}
-
-// What stands in the whole word of a store; `None` of any other access.
-#[inline(always)]
-fn word_before<T: Copy>(ram: &Ram<T>, access: Access) -> Option<Replaced<T>>
-    requires { EndsWithin (ram_bytes ram.now) access }
-    ensures { result ≡ word_before ram.now access }
-{
-    if let Access::Store { addr, .. } = access {
-        Some(word_at(ram, addr - addr % 4))
-    } else {
-        None
     }
 }
 

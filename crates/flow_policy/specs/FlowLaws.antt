@@ -30,6 +30,7 @@ pub flow_laws : KeepsLaws flow HoldsAlways
 flow_laws = record {
   masks = rule_masked;
   unpeeked = λ edges shape first second none. refl;
+  parted = λ edges shape first second one other. refl;
   keeps = λ edges p given. record {
     plain = refl;
     rule = λ g x. refl;

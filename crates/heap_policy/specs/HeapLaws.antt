@@ -344,6 +344,7 @@ pub heap_laws : KeepsLaws heap IsHeap
 heap_laws = record {
   masks = λ state g x. rule_masked g x;
   unpeeked = λ state shape first second none. refl;
+  parted = λ state shape first second one other. refl;
   keeps = λ state p given. record {
     plain = refl;
     rule = λ g x. refl;

@@ -9,8 +9,7 @@ use Rattle.monitor_calls.specs.Service.{Job}
 use Rattle.turn_steps.specs.Feeds.{Tape, unread}
 use Rattle.turn_steps.specs.declared.look.Look.{Look}
 use Rattle.turn_steps.specs.declared.stop.Stop.{Stop}
-use Rattle.undo_log.specs.Past.{Past, newest, older, past_of, pushed}
-use Rattle.undo_log.specs.declared.record.Record.{Record}
+use Rattle.undo_log.specs.Past.{Past, Record, newest, older, past_of, pushed}
 use Rattle.undo_log.proofs.PopLemmas.{pushed_none}
 use Rattle.engine_trait.specs.Accounts.{Account, IsUncached, account_after_turn, is_over, remembering}
 use Rattle.engine_trait.specs.Back.{Backed, IsPastOf, back}

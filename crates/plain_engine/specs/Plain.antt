@@ -1,14 +1,14 @@
 -- The engine that asks its policy at every turn, and keeps no rules.
-use Rattle.std.specs.Prelude.{◌≡◌, ℕ, ◌+◌, ◌-◌, ◌^◌, min, List, [], Option, Some, None, Ok}
+use Rattle.std.specs.Prelude.{◌≡◌, ℕ, ◌+◌, ◌-◌, ◌^◌, min, List, [], Option, Some, None, Result, Ok, Err}
 use Rattle.policy_trait.specs.Model.{PolicyModel}
 use Rattle.shared_terms.specs.Steps.{◌>>=◌}
 use Rattle.policy_trait.specs.declared.rules.Outs.{Outs}
+use Rattle.policy_trait.specs.declared.rules.Refused.{Refused}
 use Rattle.tag_memory.specs.Hart.{HartState}
 use Rattle.tag_memory.specs.Ram.{RamState}
 use Rattle.turn_steps.specs.Feeds.{Tape, first_fed}
 use Rattle.turn_steps.specs.declared.look.Look.{Look}
-use Rattle.undo_log.specs.Past.{Past, past_of}
-use Rattle.undo_log.specs.declared.record.Record.{Record}
+use Rattle.undo_log.specs.Past.{Past, Record, past_of}
 use Rattle.engine_trait.specs.Accounts.{IsUncached, plain_account}
 use Rattle.engine_trait.specs.Back.{awake}
 use Rattle.engine_trait.specs.History.{record_done, record_or_bare, undone}
@@ -19,6 +19,11 @@ use Rattle.engine_trait.specs.Turn.{Turned, turn_effect, turn_job, settlement}
 use Rattle.engine_trait.specs.declared.ends.Halt.{Halt}
 use Rattle.engine_trait.specs.declared.ends.Halt.TheVariants as halt
 use Rattle.engine_trait.specs.declared.ends.TurnEnd.{TurnEnd}
+
+-- what the hart is about to do, where the policy lets it look
+abbrev pub where_seen : Result (Unit {0}) Refused → Option Look → Option Look
+where_seen (Ok seen) look = look
+where_seen (Err refused) look = None
 
 -- a count that stands still at the largest value of a `u64`
 abbrev pub capped : ℕ → ℕ

@@ -33,14 +33,6 @@ pub(crate) struct Noted<T: Copy> {
 }
 
 impl<P: Policy> Plain<P> {
-    /// Whether the policy refuses any look that comes before a rule.
-    #[inline(always)]
-    pub(crate) fn peeks(&self) -> bool
-        ensures { result ≡ P.model.peeks self.now.machine.policy }
-    {
-        self.policy.peeks()
-    }
-
     /// What hart `h` will replace by an instruction that is neither an ECALL nor an EBREAK.
     #[inline(always)]
     pub(crate) fn step_record(&self, h: u32, look: &Look) -> Record<P::Tag, P::Tag>
@@ -50,7 +42,7 @@ impl<P: Policy> Plain<P> {
         ensures { (next : Option ℕ)
             → result ≡ record_by look.now.group self.now.machine.core next h look.now }
     {
-        self.core.record(self.alloc, h, look, None)
+        self.core.step_record(h, look)
     }
 
     /// A turn of hart `h`, whichever it is, and what it replaced.
@@ -91,7 +83,7 @@ impl<P: Policy> Plain<P> {
         if is_call(look.group) {
             return self.noted_service(h, &look, outs);
         }
-        let made = self.core.record(self.alloc, h, &look, feed.peek());
+        let made = self.core.record(h, &look, feed.peek());
         Noted {
             end: self.effect(h, feed, &look, outs),
             made: Some(made),
@@ -105,7 +97,7 @@ impl<P: Policy> Plain<P> {
         ensures end { result.end ≡ TurnEnd.Stopped why }
         ensures made { result.made ≡ Some (bare_record self.old.machine.core h) }
     {
-        let made = self.core.bare_record(self.alloc, h);
+        let made = self.core.bare_record(h);
         Noted {
             end: self.stop_unasked(h, why),
             made: Some(made),
@@ -119,7 +111,7 @@ impl<P: Policy> Plain<P> {
         ensures end { result.end ≡ TurnEnd.Stopped why }
         ensures made { result.made ≡ Some (bare_record self.old.machine.core h) }
     {
-        let made = self.core.bare_record(self.alloc, h);
+        let made = self.core.bare_record(h);
         Noted {
             end: self.stop_asked(h, why),
             made: Some(made),
@@ -231,7 +223,7 @@ impl<P: Policy> Plain<P> {
         ensures bytes { ram_bytes self.new.machine.core.ram ≡ ram_bytes self.old.machine.core.ram }
     {
         self.core.undo(made);
-        if let Some(plan) = made.plan.get() {
+        if let Some(plan) = made.plan() {
             self.policy.uncommit(plan);
         }
     }

@@ -1,6 +1,6 @@
 //! The engine that keeps tags as values and asks its policy at every turn.
 
-ghost use Rattle.std.specs.Prelude.{◌≡◌, ◌≢◌, ◌+◌, ◌%◌, ◌<◌, ◌≤◌, [], Err, Ok, Some, None, IfErr, IfOk, IfSome, IsOk, IsTrue, OnOk, false, true, length};
+ghost use Rattle.std.specs.Prelude.{◌≡◌, ◌≢◌, ◌+◌, ◌%◌, ◌<◌, ◌≤◌, [], Err, Ok, Some, None, IfErr, IfOk, IfSome, IsOk, IsTrue, OnOk, OnSome, false, is_ok, true, length};
 ghost use Rattle.std.specs.List.{All};
 ghost use Rattle.policy_trait.specs.Model.{IsGiven};
 ghost use Rattle.monitor_calls.specs.Ends.{EndsAs, job_by};
@@ -14,7 +14,8 @@ ghost use Rattle.engine_trait.specs.Machine.{IsMachine, hart_at, stop_at};
 ghost use Rattle.engine_trait.specs.Standing.{GivesUp, IsFailure, StopsOnly, Unchanged, is_ready, step};
 ghost use Rattle.engine_trait.specs.Turn.{is_offered, is_served, may_look, preparation, rule_answer, service_on, stopped_at, turn_effect, violation};
 ghost use Rattle.turn_steps.specs.Looks.{is_call, is_system, look_result, unless_system};
-ghost use Rattle.plain_engine.specs.Plain.{EndsService, after_asked, after_look_up, after_turn, given_up, machine_of, standing_of};
+ghost use Rattle.turn_steps.specs.Peeks.{looks_allowed};
+ghost use Rattle.plain_engine.specs.Plain.{EndsService, after_asked, after_look_up, after_turn, given_up, machine_of, standing_of, where_seen};
 
 use engine_trait::{Core, Counts, Engine, Feed, Halt, Stop, TurnEnd};
 use monitor_calls::{Job, ServeEnd, serve};
@@ -25,7 +26,7 @@ use shared_terms::count_up;
 use std::alloc::Global;
 use std::marker::Model;
 use tag_memory::{Hart, Ram};
-use turn_steps::{Look, Peeks, is_call};
+use turn_steps::{Look, Looks, Peeks, is_call};
 
 /// An engine that keeps tags as values and asks its policy at every turn. Contracts see it as a `Standing`.
 #[derive(Drop)]
@@ -125,15 +126,14 @@ impl<P: Policy> Plain<P> {
         self.core.peeked(h, &peeks)
     }
 
-    /// What hart `h` is about to do, where every check passes and it makes neither an ECALL nor an EBREAK; `None` else. The policy is one
-    /// that refuses no look.
+    /// What hart `h` is about to do, where the policy lets it look, every check passes, and it makes neither an ECALL nor an EBREAK;
+    /// `None` else.
     #[inline(always)]
     pub(crate) fn step_look(&self, h: u32) -> Option<Look>
         requires hart { h < length self.now.machine.core.harts }
-        requires free { P.model.peeks self.now.machine.policy ≡ false }
-        ensures value { result ≡ unless_system
-            (look_result (hart_at self.now.machine.core h) self.now.machine.core.ram) }
-        ensures seen { may_look P.model self.now.machine h ≡ Ok tt }
+        ensures value { result ≡ where_seen (may_look P.model self.now.machine h) (unless_system
+            (look_result (hart_at self.now.machine.core h) self.now.machine.core.ram)) }
+        ensures seen { OnSome result (may_look P.model self.now.machine h ≡ Ok tt) }
         ensures looked { IfSome result (λ look.
             look_result (hart_at self.now.machine.core h) self.now.machine.core.ram ≡ Ok look) }
         ensures plain { IfSome result (λ look. is_system look.group ≡ false) }
@@ -142,7 +142,42 @@ impl<P: Policy> Plain<P> {
         ensures sound { IfSome result
             (λ look. IsSound (ram_bytes self.now.machine.core.ram) look.effect) }
     {
-        self.core.step_look(h)
+        let look = self.core.step_look(h)?;
+        if !self.lets_look(h, &look) {
+            return None;
+        }
+        Some(look)
+    }
+
+    /// Whether the policy lets hart `h` look at what it looks at before the rule of what it is about to do.
+    #[inline(always)]
+    fn lets_look(&self, h: u32, look: &Look) -> bool
+        requires hart { h < length self.now.machine.core.harts }
+        requires looked { look_result (hart_at self.now.machine.core h) self.now.machine.core.ram
+            ≡ Ok look.now }
+        requires within { (hart_at self.now.machine.core h).pc + 4
+            ≤ ram_bytes self.now.machine.core.ram }
+        ensures { result ≡ is_ok (may_look P.model self.now.machine h) }
+    {
+        !self.policy.peeks() || self.allows(&self.core.looks(h, look))
+    }
+
+    /// Whether the policy allows these looks.
+    #[inline(never)]
+    fn allows(&self, looks: &Looks<P::Tag>) -> bool
+        ensures { result ≡ is_ok (looks_allowed (P.model.peek self.now.machine.policy)
+            (P.model.plain self.now.machine.policy) looks.now) }
+    {
+        let plain = self.policy.plain();
+        let word = self.policy.peek(Shape::Word, &looks.word, &plain);
+        word.is_ok()
+            && match &looks.operands {
+                None => true,
+                Some(look) => self
+                    .policy
+                    .peek(look.shape, &look.first, &look.second)
+                    .is_ok(),
+            }
     }
 
     /// The checks of hart `h`'s turn.
@@ -474,9 +509,6 @@ impl<P: Policy> Engine for Plain<P> {
     {
         // Serves the proof alone: no rules are kept.
         let _ready = self.is_ready(h);
-        if self.policy.peeks() {
-            return self.rare_turn(h, feed);
-        }
         let Some(look) = self.step_look(h) else {
             return self.rare_turn(h, feed);
         };

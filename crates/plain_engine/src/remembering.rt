@@ -132,9 +132,6 @@ impl<P: Policy> Engine for RememberingPlain<P> {
             self.plain.forgets();
             return end;
         }
-        if self.plain.peeks() {
-            return self.rare_turn(h, feed);
-        }
         let Some(look) = self.plain.step_look(h) else {
             return self.rare_turn(h, feed);
         };
@@ -157,7 +154,7 @@ impl<P: Policy> Engine for RememberingPlain<P> {
             return false;
         };
         self.plain.undo(&made);
-        unread(feed, made.fed);
+        unread(feed, made.fed());
         true
     }
 

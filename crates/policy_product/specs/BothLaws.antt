@@ -10,6 +10,7 @@ use Rattle.policy_trait.specs.UseLaws.{agrees_by, rule_by_key, uses_a0, words_by
 use Rattle.policy_trait.specs.Maps.{answer_by, args_by, ins_by, ok_by, plan_by}
 use Rattle.policy_trait.specs.Model.{CanPlan, IsCommitted, IsGiven, PolicyModel, masked_inputs}
 use Rattle.shared_terms.specs.Steps.{◌>>=◌}
+use Rattle.shared_terms.proofs.StepLemmas.{on_ok}
 use Rattle.policy_trait.specs.declared.rules.Ins.{Ins}
 use Rattle.policy_trait.specs.declared.rules.Outs.{Outs}
 use Rattle.policy_trait.specs.declared.rules.Part.{Part}
@@ -278,6 +279,17 @@ module _ {T U S R : Type 0} (m : PolicyModel T S) (n : PolicyModel U R) (holds :
       let second = also_laws.unpeeked s.1 shape x.1 y.1 parts.1 in
       λ j. first j >>= λ seen. second j
 
+  -- where each allows both values alone, each allows the look at both
+  parted : (s : S × R) (shape : Shape) (x y : T × U) → (both m n).peek s shape x ((both m n).plain s) ≡ Ok tt
+      → (both m n).peek s shape y ((both m n).plain s) ≡ Ok tt → (both m n).peek s shape x y ≡ Ok tt
+  parted s shape x y one other =
+      on_ok (m.peek s.0 shape x.0 (m.plain s.0)) (λ seen. n.peek s.1 shape x.1 (n.plain s.1)) tt one
+      (λ a left_one right_one. on_ok (m.peek s.0 shape y.0 (m.plain s.0)) (λ seen. n.peek s.1 shape y.1 (n.plain s.1)) tt other
+      (λ b left_other right_other.
+      let first = laws.parted s.0 shape x.0 y.0 left_one left_other in
+      let second = also_laws.parted s.1 shape x.1 y.1 right_one right_other in
+      λ j. first j >>= λ seen. second j))
+
   -- ---- a commit changes what services answer, and nothing else
 
   same_left : (s t : S) (r : R) → SameRules m s t → SameRules (both m n) (s, r) (t, r)
@@ -513,6 +525,7 @@ module _ {T U S R : Type 0} (m : PolicyModel T S) (n : PolicyModel U R) (holds :
   both_laws = record {
     masks = rule_masked;
     unpeeked = unpeeked;
+    parted = parted;
     keeps = λ s p given. keeps (m.knows s.0 p.service) s p refl given;
     stays = λ s p given held. stays (m.knows s.0 p.service) s p refl given held;
     undoes = λ s p given held. undoes (m.knows s.0 p.service) s p refl given held;

@@ -91,6 +91,11 @@ module _ {T S : Type 0} (m : PolicyModel T S) (holds : S → Type 0) (laws : Kee
   unpeeked None shape first second none = refl
   unpeeked (Some s) shape first second none = laws.unpeeked s shape (read_by m s first) (read_by m s second) none
 
+  parted : (part : Option S) (shape : Shape) (first second : Option T) → peek_in m part shape first (plain_in m part) ≡ Ok tt
+      → peek_in m part shape second (plain_in m part) ≡ Ok tt → peek_in m part shape first second ≡ Ok tt
+  parted None shape first second one other = refl
+  parted (Some s) shape first second one other = laws.parted s shape (read_by m s first) (read_by m s second) one other
+
   same_off : SameRules (maybe m) (record { part = None }) (record { part = None })
   same_off = record {
     plain = refl;
@@ -251,6 +256,7 @@ module _ {T S : Type 0} (m : PolicyModel T S) (holds : S → Type 0) (laws : Kee
   maybe_laws = record {
     masks = λ s g x. rule_masked s.part g x;
     unpeeked = λ s shape first second none. unpeeked s.part shape first second none;
+    parted = λ s shape first second one other. parted s.part shape first second one other;
     keeps = λ s p given. keeps s.part p given;
     stays = λ s p given held. stays s.part p given held;
     undoes = λ s p given held. ap off_or_on (undoes s.part p given held);

@@ -8,6 +8,7 @@ pub nothing_laws : KeepsLaws nothing (λ s. Unit {0})
 nothing_laws = record {
   masks = λ s g x. refl;
   unpeeked = λ s shape first second none. refl;
+  parted = λ s shape first second one other. refl;
   keeps = λ s p given. record {
     plain = refl;
     rule = λ g x. refl;

@@ -64,6 +64,9 @@ pub record KeepsLaws {T S : Type 0} (m : PolicyModel T S) (holds : S → Type 0)
   pub masks : (s : S) (g : Group) (x : Ins T) → m.rule s g x ≡ m.rule s g (masked_inputs (m.ignores s g) (m.plain s) x)
   -- a policy that refuses no look allows each
   pub unpeeked : (s : S) (shape : Shape) (first second : T) → m.peeks s ≡ false → m.peek s shape first second ≡ Ok tt
+  -- a look at two values is allowed where it is at each of them alone
+  pub parted : (s : S) (shape : Shape) (first second : T) → m.peek s shape first (m.plain s) ≡ Ok tt → m.peek s shape second (m.plain s) ≡ Ok tt
+      → m.peek s shape first second ≡ Ok tt
   -- a commit changes what plan, retag, listed and later commits answer, and nothing else
   pub keeps : (s : S) (p : Plan T) → IsGiven m s p → SameRules m s (m.commit s p)
   -- and leaves the policy's invariant

@@ -10,8 +10,7 @@ use Rattle.policy_trait.specs.declared.services.Plan.{Plan}
 use Rattle.tag_memory.specs.Maps.{hart_by}
 use Rattle.tag_memory.specs.Ram.{IsPlace, ram_bytes}
 use Rattle.turn_steps.specs.Feeds.{Tape, unread}
-use Rattle.undo_log.specs.Past.{Past, newest, older, past_by, record_with, replaced_by, some_replaced_by}
-use Rattle.undo_log.specs.declared.record.Record.{Record}
+use Rattle.undo_log.specs.Past.{Past, Record, newest, older, past_by, record_with, replaced_by, some_replaced_by}
 use Rattle.undo_log.specs.declared.record.Replaced.{Replaced}
 use Rattle.undo_log.proofs.MapLemmas.{newest_none_by, newest_some_by, older_by}
 use Rattle.engine_trait.specs.Accounts.{Account}

@@ -3,6 +3,7 @@ mod BackLemmas
 mod CountLemmas
 mod EndLemmas
 mod LowLemmas
+mod OpenLemmas
 mod OutLemmas
 pub mod PastLemmas
 mod RecordLemmas

@@ -3,8 +3,7 @@ use Rattle.std.proofs.Common.{◌≡◌, ℕ, ◌<◌, ◌≤◌, List, [], All,
 use Rattle.std.proofs.lemmas.Option.{none-some, same_Some}
 use Rattle.policy_trait.specs.declared.services.Plan.{Plan}
 use Rattle.turn_steps.specs.declared.look.Look.{Look}
-use Rattle.undo_log.specs.Past.{Past, newest, older, past_by, past_of, pushed, record_with}
-use Rattle.undo_log.specs.declared.record.Record.{Record}
+use Rattle.undo_log.specs.Past.{Past, Record, newest, older, past_by, past_of, pushed, record_with}
 use Rattle.undo_log.proofs.MapLemmas.{newest_some_by, newest_none_by, older_by, past_by_past_by, pushed_by}
 use Rattle.engine_trait.specs.History.{bare_record, core_undone, record_by, record_served}
 use Rattle.engine_trait.specs.Machine.{CoreState}

@@ -13,10 +13,9 @@ use Rattle.tag_memory.specs.Maps.{hart_by, ram_by}
 use Rattle.tag_memory.specs.Ram.{RamState, ram_word, with_ram_word}
 use Rattle.tag_memory.proofs.MapLemmas.{ram_tag_by, reg_tag_by, with_ram_tag_by, with_reg_by, with_reg_tag_by}
 use Rattle.turn_steps.specs.declared.look.Look.{Look}
-use Rattle.undo_log.specs.Past.{record_with, replaced_by, some_replaced_by}
-use Rattle.undo_log.specs.declared.record.Record.{Record}
+use Rattle.undo_log.specs.Past.{Record, record_with, replaced_by, some_replaced_by}
 use Rattle.undo_log.specs.declared.record.Replaced.{Replaced}
-use Rattle.engine_trait.specs.History.{answer_before, bare_record, core_undone, record_by, record_served, reg_before, replaced, with_old_reg, with_old_word, with_old_words, word_at, word_before, words_before}
+use Rattle.engine_trait.specs.History.{answer_before, bare_record, core_undone, record_by, record_served, reg_before, replaced, with_old_reg, with_old_word, with_old_words, word_at, words_before, written_record}
 use Rattle.engine_trait.specs.Machine.{CoreState, hart_at}
 use Rattle.engine_trait.specs.Maps.{core_by, words_by}
 use Rattle.engine_trait.proofs.MapLemmas.{hart_at_by}
@@ -46,11 +45,6 @@ module _ {T V : Type 0} (f : T → V) where
 
   word_at_by : (ram : RamState T) (address : ℕ) → word_at (ram_by f ram) address ≡ replaced_by f (word_at ram address)
   word_at_by ram address = ap (replaced address (ram_word ram address)) (ram_tag_by f ram address)
-
-  word_before_by : (ram : RamState T) (place : Access) → word_before (ram_by f ram) place ≡ some_replaced_by f (word_before ram place)
-  word_before_by ram access.None = refl
-  word_before_by ram (access.Load addr width signed) = refl
-  word_before_by ram (access.Store addr width value) = ap Some (word_at_by ram (addr - addr % 4))
 
   -- whatever tags the service writes there
   words_before_by : {A B : Type 0} (g : A → B) (ram : RamState T) (words : List (ℕ × ℕ × A))
@@ -101,6 +95,13 @@ module _ {T V U : Type 0} (f : T → V) (core : CoreState T) where
     pub bare_record_by : bare_record {U = U} (core_by f core) h ≡ record_with f (bare_record core h)
     bare_record_by = parts_by None None refl None None refl [] [] refl None None
 
+    written_record_by : (r : ℕ) (accessed : Access) → written_record {U = U} (core_by f core) h r accessed ≡ record_with f (written_record core h r accessed)
+    written_record_by r (access.Store addr width value) =
+        parts_by None None refl (Some (word_at (ram_by f core.ram) (addr - addr % 4))) (Some (word_at core.ram (addr - addr % 4)))
+        (ap Some (word_at_by f core.ram (addr - addr % 4))) [] [] refl None None
+    written_record_by r _ =
+        parts_by (reg_before (hart_at (core_by f core) h) r) (reg_before (hart_at core h) r) (reg_at f core h r) None None refl [] [] refl None None
+
     pub record_by_by : (called : Group) (next : Option ℕ) (look : Look) → record_by {U = U} called (core_by f core) next h look ≡ record_with f (record_by called core next h look)
     record_by_by group.Exit next look = bare_record_by
     record_by_by group.Put next look = bare_record_by
@@ -108,10 +109,7 @@ module _ {T V U : Type 0} (f : T → V) (core : CoreState T) where
     record_by_by group.Break next look =
         parts_by (reg_before (hart_at (core_by f core) h) look.places.result) (reg_before (hart_at core h) look.places.result) (reg_at f core h look.places.result)
         None None refl [] [] refl None None
-    record_by_by _ next look =
-        parts_by (reg_before (hart_at (core_by f core) h) look.places.result) (reg_before (hart_at core h) look.places.result) (reg_at f core h look.places.result)
-        (word_before (ram_by f core.ram) look.effect.access) (word_before core.ram look.effect.access) (word_before_by f core.ram look.effect.access)
-        [] [] refl None None
+    record_by_by _ next look = written_record_by look.places.result look.effect.access
 
     pub record_served_by : {A B : Type 0} (g : A → B) (words : List (ℕ × ℕ × A)) (plan : Plan U)
         → record_served (core_by f core) h (words_by g words) plan ≡ record_with f (record_served core h words plan)

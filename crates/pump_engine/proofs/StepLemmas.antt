@@ -9,7 +9,7 @@ use Rattle.turn_steps.specs.Feeds.{Tape, first_fed}
 use Rattle.turn_steps.specs.Looks.{is_call}
 use Rattle.turn_steps.specs.declared.look.Look.{Look}
 use Rattle.turn_steps.specs.declared.stop.Stop.{Stop}
-use Rattle.undo_log.specs.declared.record.Record.{Record}
+use Rattle.undo_log.specs.Past.{Record}
 use Rattle.engine_trait.specs.Accounts.{Account, account_after_turn, after_look, after_rule, after_service, is_over, key_of, look_counted, remembering, rule_counted, rule_kept, ruled_tags, seeing, served_tags, service_counted, standing_tags, swept, with_room, with_tag, with_tags}
 use Rattle.shared_terms.specs.Counts.{next_count}
 use Rattle.engine_trait.specs.History.{bare_record, record_done, record_of, record_or_bare}

@@ -4,8 +4,7 @@ use Rattle.std.specs.Option.{ForSome}
 use Rattle.policy_trait.specs.Model.{IsCommitted, PolicyModel}
 use Rattle.tag_memory.specs.Ram.{ram_bytes}
 use Rattle.turn_steps.specs.Feeds.{Tape, unread}
-use Rattle.undo_log.specs.Past.{older, record_with}
-use Rattle.undo_log.specs.declared.record.Record.{Record}
+use Rattle.undo_log.specs.Past.{Record, older, record_with}
 use Rattle.engine_trait.specs.Back.{IsPastOf, awake}
 use Rattle.engine_trait.specs.History.{core_undone, policy_undone, undone}
 use Rattle.engine_trait.specs.HistoryLaws.{IsFit}

@@ -1,7 +1,6 @@
 -- Harts, memory and records of turns whose tags are words that a table has.
 use Rattle.std.specs.Prelude.{◌≡◌, ℕ, ◌<◌}
-use Rattle.undo_log.specs.Past.{Past, past_by, record_with}
-use Rattle.undo_log.specs.declared.record.Record.{Record}
+use Rattle.undo_log.specs.Past.{Past, Record, past_by, record_with}
 use Rattle.engine_trait.specs.Machine.{CoreState}
 use Rattle.engine_trait.specs.Maps.{core_by}
 

@@ -1,6 +1,6 @@
 -- The engine whose tags are words of a table, and which keeps rules: what it is, and which machine with which account it is
 -- by what its words stand for.
-use Rattle.std.specs.Prelude.{◌≡◌, ℕ, ◌≤◌, Option, Some, length, map, slice_get}
+use Rattle.std.specs.Prelude.{◌≡◌, ℕ, ◌≤◌, Bool, List, Option, Some, length, map, slice_get}
 use Rattle.rv_decode.specs.declared.groups.Group.{Group}
 use Rattle.policy_trait.specs.Model.{PolicyModel}
 use Rattle.policy_trait.specs.declared.rules.Mask.{Mask}
@@ -15,6 +15,7 @@ use Rattle.rule_cache.specs.Stores.{Store}
 use Rattle.tag_intern.specs.Table.{TableState}
 use Rattle.tag_intern.specs.Words.{tag_at}
 use Rattle.miss_handler.specs.Asked.{AreRules}
+use Rattle.open_words.specs.Open.{AreOpen}
 use Rattle.miss_handler.specs.Books.{rulebook_of}
 use Rattle.pump_engine.specs.Low.{IsLowCore, IsLowPast}
 
@@ -74,7 +75,8 @@ module _ {S T : Type 0} (m : PolicyModel T S) where
     pub room : 1 ≤ p.store.ways
     pub remembered : IsLowPast (length p.table.tags) p.past
 
-  -- the masks that were taken are the policy's
-  pub record IsMasked (masks : Group → Mask) (p : PumpState S T) : Type 0 where
+  -- the masks that were taken are the policy's, and what is known of open words is so
+  pub record IsMasked (masks : Group → Mask) (known : List Bool) (p : PumpState S T) : Type 0 where
     pub pump : IsPump p
     pub masks_are : (group : Group) → masks group ≡ m.ignores p.policy group
+    pub open_are : AreOpen m p.policy p.table.tags known

@@ -13,8 +13,7 @@ use Rattle.monitor_calls.specs.Service.{Job, service_job}
 use Rattle.turn_steps.specs.Feeds.{Tape, first_fed}
 use Rattle.turn_steps.specs.declared.look.Look.{Look}
 use Rattle.turn_steps.specs.declared.stop.Stop.{Stop}
-use Rattle.undo_log.specs.Past.{Past, pushed}
-use Rattle.undo_log.specs.declared.record.Record.{Record}
+use Rattle.undo_log.specs.Past.{Past, Record, pushed}
 use Rattle.engine_trait.specs.Accounts.{Account, Key, after_rule, first_written, is_kept, is_over, key_of, looked_up, remembering, seeing, standing_tags, swept, with_room, written_tags}
 use Rattle.shared_terms.specs.Counts.{next_count}
 use Rattle.engine_trait.specs.History.{bare_record, record_by, record_served}

@@ -1,32 +1,30 @@
 //! The engine whose tags are words of a table, with a cache of rules.
 
-ghost use Rattle.std.specs.Prelude.{◌≡◌, ◌≢◌, ◌+◌, ◌%◌, ◌<◌, ◌≤◌, not, [], Err, Ok, Some, None, IfErr, IfOk, IfSome, IsOk, IsOkAnd, IsTrue, OnErr, OnOk, false, is_some, true, length};
+ghost use Rattle.std.specs.Prelude.{◌≡◌, ◌≢◌, ◌+◌, ◌%◌, ◌<◌, ◌≤◌, [], Err, Ok, Some, None, IfErr, IfOk, IfSome, IsOk, IsOkAnd, IsTrue, OnErr, OnOk, OnSome, false, true, length};
 ghost use Rattle.std.specs.List.{All, AllByRecursion};
-ghost use Rattle.std.specs.Option.{ForSome};
 ghost use Rattle.policy_trait.specs.Model.{IsGiven};
 ghost use Rattle.monitor_calls.specs.Ends.{EndsAs, job_by};
-ghost use Rattle.tag_memory.specs.Hart.{reg_tag, reg_value};
-ghost use Rattle.tag_memory.specs.Ram.{IsPlace, ram_bytes, ram_tag, ram_word};
+ghost use Rattle.tag_memory.specs.Ram.{IsPlace, ram_bytes};
 ghost use Rattle.turn_steps.specs.Effects.{IsSound};
 ghost use Rattle.turn_steps.specs.Feeds.{Tape};
 ghost use Rattle.turn_steps.specs.Looks.{is_call, is_system, look_result, unless_system};
 ghost use Rattle.turn_steps.specs.declared.look.Look.{Look as AnyLook};
-ghost use Rattle.undo_log.specs.Past.{newest};
-ghost use Rattle.engine_trait.specs.Accounts.{counts_of, is_kept, is_over, seeing, written_tags};
-ghost use Rattle.engine_trait.specs.Machine.{IsMachine, hart_at, stop_at};
-ghost use Rattle.engine_trait.specs.Standing.{GivesUp, IsFailure, StopsOnly, Unchanged, is_ready, step};
+ghost use Rattle.engine_trait.specs.Accounts.{is_kept, is_over, seeing, written_tags};
+ghost use Rattle.engine_trait.specs.Machine.{hart_at};
+ghost use Rattle.engine_trait.specs.Standing.{GivesUp, IsFailure, StopsOnly, is_ready, step};
 ghost use Rattle.engine_trait.specs.Turn.{carried_at, end_of, is_offered, may_look, preparation, violation};
 ghost use Rattle.miss_handler.specs.Asked.{AreOutWords};
-ghost use Rattle.pump_engine.specs.Back.{CanTakeBack, taken_back, unread_by};
 ghost use Rattle.pump_engine.specs.Pump.{IsPump, account_by_words, machine_by_words, standing_by_words};
 ghost use Rattle.pump_engine.specs.Steps.{Allows, CarriesOut, EndsService, HasParts, IsSwept, Settles, TriesOut, Unanswered, Unruled};
 ghost use Rattle.pump_engine.specs.Steps.{after_effect, after_halt, after_stop, after_unanswered, job_over, key_in, pump_start, service_in, takes_memory, unanswered_end};
 
-use crate::records::{push_if, remember_effect, remember_stop, service_record};
-use crate::taking_back::{awake, uncommit_if, unread_if};
-use engine_trait::{Core, Counts, Engine, Feed, Halt, Stop, TurnEnd};
+mod engine;
+
+use crate::records::{push_if, remember_effect, remember_step, remember_stop, service_record};
+use engine_trait::{Core, Feed, Halt, Stop, TurnEnd};
 use miss_handler::{AskEnd, Asking, Masks, ask, settle};
 use monitor_calls::{Job, ServeEnd, serve};
+use open_words::OpenWords;
 use policy_trait::{Args, Policy, Refused, Shape, TagMap};
 use rule_cache::{OutWords, RuleStore};
 use rv_step::Fault;
@@ -36,7 +34,7 @@ use std::marker::Model;
 use tag_intern::{Decoder, InternEnd, TagTable, remade, renumbering};
 use tag_memory::{Hart, Ram};
 use turn_steps::{Look, Peeks, is_call};
-use undo_log::{NoLog, WordLog};
+use undo_log::WordLog;
 use word_service::{Decoded, intern_job};
 
 /// An engine whose tags are words of a table, and which asks its policy for a rule only where the rule is not kept.
@@ -50,6 +48,7 @@ pub struct Pump<P: Policy, T: TagTable<Tag = P::Tag>, C: RuleStore, H: WordLog<T
     masks: Masks,
     core: Core<u32>,
     tags: T,
+    open_words: OpenWords,
     store: C,
     turns: u64,
     sweeps: u64,
@@ -100,7 +99,7 @@ impl<P: Policy, T: TagTable<Tag = P::Tag>, C: RuleStore, H: WordLog<Tag = P::Tag
     ghost view = { λ p. pump_of p.policy p.core (T.state p.tags) (C.state p.store)
         p.turns p.sweeps p.halt (H.past p.log) };
 
-    ghost invariant = { λ p. IsMasked P.model p.masks
+    ghost invariant = { λ p. IsMasked P.model p.masks p.open_words
         (pump_of p.policy p.core (T.state p.tags) (C.state p.store)
         p.turns p.sweeps p.halt (H.past p.log)) };
 }
@@ -134,6 +133,7 @@ impl<P: Policy, T: TagTable<Tag = P::Tag>, C: RuleStore, H: WordLog<Tag = P::Tag
             masks,
             core: Core::new(ram, harts),
             tags,
+            open_words: OpenWords::new(alloc),
             store,
             turns: 0,
             sweeps: 0,
@@ -194,15 +194,17 @@ impl<P: Policy, T: TagTable<Tag = P::Tag>, C: RuleStore, H: WordLog<Tag = P::Tag
         self.core.peeked(h, &peeks)
     }
 
-    /// What hart `h` is about to do, where every check passes and it makes neither an ECALL nor an EBREAK; `None` else. The policy is one
-    /// that refuses no look.
+    /// What hart `h` is about to do, where every check passes, it makes neither an ECALL nor an EBREAK, and it is known that the policy
+    /// lets it look; `None` else.
     #[inline(always)]
     fn step_look(&self, h: u32) -> Option<Look>
         requires hart { h < length self.now.core.harts }
-        requires free { P.model.peeks self.now.policy ≡ false }
-        ensures value { result
+        ensures value { IfSome result (λ look. unless_system
+            (look_result (hart_at self.now.core h) self.now.core.ram) ≡ Some look) }
+        ensures free { P.model.peeks self.now.policy ≡ false → result
             ≡ unless_system (look_result (hart_at self.now.core h) self.now.core.ram) }
-        ensures seen { may_look P.model (machine_by_words P.model self.now) h ≡ Ok tt }
+        ensures seen { OnSome result
+            (may_look P.model (machine_by_words P.model self.now) h ≡ Ok tt) }
         ensures looked { IfSome result
             (λ look. look_result (hart_at self.now.core h) self.now.core.ram ≡ Ok look) }
         ensures plain { IfSome result (λ look. is_system look.group ≡ false) }
@@ -211,7 +213,23 @@ impl<P: Policy, T: TagTable<Tag = P::Tag>, C: RuleStore, H: WordLog<Tag = P::Tag
         ensures sound { IfSome result
             (λ look. IsSound (ram_bytes self.now.core.ram) look.effect) }
     {
-        self.core.step_look(h)
+        let look = self.core.step_look(h)?;
+        if !self.is_open(h, &look) {
+            return None;
+        }
+        Some(look)
+    }
+
+    /// Whether it is known that the policy lets hart `h` look at what it looks at before the rule of what it is about to do.
+    #[inline(always)]
+    fn is_open(&self, h: u32, look: &Look) -> bool
+        requires hart { h < length self.now.core.harts }
+        requires looked { look_result (hart_at self.now.core h) self.now.core.ram ≡ Ok look.now }
+        requires within { (hart_at self.now.core h).pc + 4 ≤ ram_bytes self.now.core.ram }
+        ensures seen { IsTrue result → may_look P.model (machine_by_words P.model self.now) h ≡ Ok tt }
+        ensures free { P.model.peeks self.now.policy ≡ false → result ≡ true }
+    {
+        !self.policy.peeks() || self.open_words.allow(&self.core.looks(h, look))
     }
 
     /// How hart `h` stops where the policy refused a look.
@@ -255,7 +273,7 @@ impl<P: Policy, T: TagTable<Tag = P::Tag>, C: RuleStore, H: WordLog<Tag = P::Tag
         ensures state { self.new ≡ after_stop self.old h why }
         ensures end { result ≡ TurnEnd.Stopped why }
     {
-        remember_stop(&mut self.log, self.alloc, &self.core, h);
+        remember_stop(&mut self.log, &self.core, h);
         self.core.stop_hart(h, why);
         count_up(&mut self.turns);
         TurnEnd::Stopped(why)
@@ -330,6 +348,7 @@ impl<P: Policy, T: TagTable<Tag = P::Tag>, C: RuleStore, H: WordLog<Tag = P::Tag
         self.core.renumber(&numbers);
         self.log.renumber(&numbers);
         self.tags = table;
+        self.open_words.forget();
         self.store.clear();
         count_up(&mut self.sweeps);
         Ok(numbers)
@@ -445,7 +464,7 @@ impl<P: Policy, T: TagTable<Tag = P::Tag>, C: RuleStore, H: WordLog<Tag = P::Tag
         ensures harts { length self.new.core.harts ≡ length self.old.core.harts }
         ensures bytes { ram_bytes self.new.core.ram ≡ ram_bytes self.old.core.ram }
     {
-        remember_effect(&mut self.log, self.alloc, &self.core, h, look, feed.peek());
+        remember_effect(&mut self.log, &self.core, h, look, feed.peek());
         count_up(&mut self.turns);
         self.core.effect(h, feed, look, outs)
     }
@@ -465,7 +484,7 @@ impl<P: Policy, T: TagTable<Tag = P::Tag>, C: RuleStore, H: WordLog<Tag = P::Tag
         ensures harts { length self.new.core.harts ≡ length self.old.core.harts }
         ensures bytes { ram_bytes self.new.core.ram ≡ ram_bytes self.old.core.ram }
     {
-        remember_effect(&mut self.log, self.alloc, &self.core, h, look, None);
+        remember_step(&mut self.log, &self.core, h, look);
         count_up(&mut self.turns);
         self.core.step(h, look, outs);
         TurnEnd::Ran(None)
@@ -700,6 +719,23 @@ impl<P: Policy, T: TagTable<Tag = P::Tag>, C: RuleStore, H: WordLog<Tag = P::Tag
         self.effect(h, feed, &look, outs)
     }
 
+    /// Learns which of the words are open that came since the last time, where the policy refuses some look. Where memory runs out,
+    /// nothing is known.
+    #[cold]
+    #[inline(never)]
+    fn learn(&mut self)
+        ensures { self.new ≡ self.old }
+    {
+        if !self.policy.peeks() {
+            return;
+        }
+        let words = Decoder {
+            tags: &self.tags,
+            plain: self.policy.plain(),
+        };
+        let _learned = self.open_words.learn(&self.policy, &words);
+    }
+
     /// The turn of a hart that is ready.
     #[inline(always)]
     #[tactic(auto)]
@@ -726,10 +762,8 @@ impl<P: Policy, T: TagTable<Tag = P::Tag>, C: RuleStore, H: WordLog<Tag = P::Tag
     {
         // Serves the proof alone: no more tags have words than may.
         let _ready = self.is_ready(h);
-        if self.policy.peeks() {
-            return self.rare_turn(h, feed);
-        }
         let Some(look) = self.step_look(h) else {
+            self.learn();
             return self.rare_turn(h, feed);
         };
         let outs = match self.answered(h, &look) {
@@ -737,192 +771,5 @@ impl<P: Policy, T: TagTable<Tag = P::Tag>, C: RuleStore, H: WordLog<Tag = P::Tag
             Err(end) => return self.end_unanswered(h, end),
         };
         self.step(h, &look, outs)
-    }
-
-    /// How many turns are remembered, 0 to 65,536.
-    pub(crate) fn remembered(&self) -> u32
-        ensures { result ≡ length self.now.past.kept }
-    {
-        self.log.len()
-    }
-
-    /// Takes the newest turn back that is remembered, by its record, with the byte of the feed that it read; `false` where none is.
-    pub(crate) fn take_back(&mut self, feed: &mut Feed) -> bool
-        requires can { ForSome (newest self.old.past) (CanTakeBack P.model self.old P.holds) }
-        ensures state { self.new ≡ taken_back P.model self.old (newest self.old.past) }
-        ensures feed { feed.new ≡ unread_by (newest self.old.past) feed.old }
-        ensures some { result ≡ is_some (newest self.old.past) }
-        ensures harts { length self.new.core.harts ≡ length self.old.core.harts }
-        ensures bytes { ram_bytes self.new.core.ram ≡ ram_bytes self.old.core.ram }
-    {
-        let Some(made) = self.log.pop() else {
-            return false;
-        };
-        self.core.undo(&made);
-        uncommit_if(&mut self.policy, &made.plan);
-        unread_if(feed, made.fed);
-        self.halt = awake(self.halt);
-        true
-    }
-
-    /// Harts and memory, whose tags are words.
-    pub(crate) fn core(&self) -> &Core<u32>
-        ensures { result.now ≡ self.now.core }
-    {
-        &self.core
-    }
-
-    /// The policy.
-    pub(crate) fn asked_policy(&self) -> &P
-        ensures { result.now ≡ self.now.policy }
-    {
-        &self.policy
-    }
-
-    /// Why the engine as a whole is stopped, `None` where it is not.
-    pub(crate) fn why_stopped(&self) -> Option<Halt>
-        ensures { result ≡ self.now.halt }
-    {
-        self.halt
-    }
-
-    /// How many turns, hits, misses and sweeps there were.
-    pub(crate) fn told_counts(&self) -> Counts
-        ensures { result ≡ counts_of (account_by_words P.model self.now) }
-    {
-        Counts {
-            turns: self.turns,
-            hits: self.store.hits(),
-            misses: self.store.misses(),
-            sweeps: self.sweeps,
-        }
-    }
-}
-
-impl<P: Policy, T: TagTable<Tag = P::Tag>, C: RuleStore> Engine for Pump<P, T, C, NoLog<P::Tag>> {
-    ghost use Rattle.pump_engine.specs.Pump.{standing_by_words};
-
-    type P = P;
-
-    ghost standing = { λ p. standing_by_words P.model p };
-
-    #[inline(always)]
-    #[tactic(auto)]
-    fn turn(&mut self, h: u32, feed: &mut Feed) -> TurnEnd
-        requires { h < length (standing_by_words P.model self.old).machine.core.harts }
-        ensures step { result ≢ TurnEnd.Memory
-            → step P.Tag.eq P.model (standing_by_words P.model self.old) feed.old h
-            ≡ record { standing = standing_by_words P.model self.new; feed = feed.new; ended = result } }
-        ensures memory { result ≡ TurnEnd.Memory
-            → GivesUp P.Tag.eq P.model (standing_by_words P.model self.old) feed.old h
-            (standing_by_words P.model self.new) feed.new }
-        ensures failure { (why : Stop) → IsFailure why → result ≡ TurnEnd.Stopped why
-            → StopsOnly (standing_by_words P.model self.old) feed.old h why
-            (standing_by_words P.model self.new) feed.new }
-        ensures idle { result ≡ TurnEnd.Idle
-            → Unchanged (standing_by_words P.model self.old) feed.old
-            (standing_by_words P.model self.new) feed.new }
-        ensures harts { length (standing_by_words P.model self.new).machine.core.harts
-            ≡ length (standing_by_words P.model self.old).machine.core.harts }
-        ensures ram { ram_bytes (standing_by_words P.model self.new).machine.core.ram
-            ≡ ram_bytes (standing_by_words P.model self.old).machine.core.ram }
-        // A turn whose rule is kept takes no memory, but for a service of the policy that nothing refuses.
-        ensures kept { result ≡ TurnEnd.Memory
-            → takes_memory P.Tag.eq P.model (standing_by_words P.model self.old) h ≡ true }
-    {
-        if !self.is_ready(h) {
-            return TurnEnd::Idle;
-        }
-        self.ready_turn(h, feed)
-    }
-
-    #[inline(always)]
-    #[tactic(auto)]
-    fn ready_turn(&mut self, h: u32, feed: &mut Feed) -> TurnEnd
-        requires hart { h < length (standing_by_words P.model self.old).machine.core.harts }
-        requires ready { is_ready (standing_by_words P.model self.old) h ≡ true }
-        ensures step { result ≢ TurnEnd.Memory
-            → step P.Tag.eq P.model (standing_by_words P.model self.old) feed.old h
-            ≡ record { standing = standing_by_words P.model self.new; feed = feed.new; ended = result } }
-        ensures memory { result ≡ TurnEnd.Memory
-            → GivesUp P.Tag.eq P.model (standing_by_words P.model self.old) feed.old h
-            (standing_by_words P.model self.new) feed.new }
-        ensures failure { (why : Stop) → IsFailure why → result ≡ TurnEnd.Stopped why
-            → StopsOnly (standing_by_words P.model self.old) feed.old h why
-            (standing_by_words P.model self.new) feed.new }
-        ensures busy { result ≢ TurnEnd.Idle }
-        ensures harts { length (standing_by_words P.model self.new).machine.core.harts
-            ≡ length (standing_by_words P.model self.old).machine.core.harts }
-        ensures ram { ram_bytes (standing_by_words P.model self.new).machine.core.ram
-            ≡ ram_bytes (standing_by_words P.model self.old).machine.core.ram }
-        // A turn whose rule is kept takes no memory, but for a service of the policy that nothing refuses.
-        ensures kept { result ≡ TurnEnd.Memory
-            → takes_memory P.Tag.eq P.model (standing_by_words P.model self.old) h ≡ true }
-    {
-        self.turn_of_ready(h, feed)
-    }
-
-    fn remembered(&self) -> u32 {
-        // Serves the proof alone: no turn is remembered.
-        let _keeps = self.log.keeps();
-        0
-    }
-
-    fn back(&mut self, _feed: &mut Feed) -> bool {
-        // Serves the proof alone: no turn is remembered.
-        let _keeps = self.log.keeps();
-        false
-    }
-
-    fn harts(&self) -> u32 {
-        self.core.harts()
-    }
-
-    fn ram(&self) -> u32 {
-        self.core.ram().bytes()
-    }
-
-    fn reg(&self, h: u32, r: u32) -> u32 {
-        self.core.hart(h).reg(r)
-    }
-
-    fn reg_tag(&self, h: u32, r: u32) -> P::Tag {
-        self.decoder().image(self.core.hart(h).reg_tag(r))
-    }
-
-    fn pc(&self, h: u32) -> u32 {
-        self.core.hart(h).pc()
-    }
-
-    fn pc_tag(&self, h: u32) -> P::Tag {
-        self.decoder().image(self.core.hart(h).pc_tag())
-    }
-
-    fn word(&self, address: u32) -> u32 {
-        self.core.ram().word(address)
-    }
-
-    fn word_tag(&self, address: u32) -> P::Tag {
-        self.decoder().image(self.core.ram().tag(address))
-    }
-
-    fn stop(&self, h: u32) -> Option<Stop> {
-        self.core.stop(h)
-    }
-
-    fn stopped(&self) -> bool {
-        self.halt.is_some()
-    }
-
-    fn halt(&self) -> Option<Halt> {
-        self.halt
-    }
-
-    fn policy(&self) -> &P {
-        &self.policy
-    }
-
-    fn counts(&self) -> Counts {
-        self.told_counts()
     }
 }

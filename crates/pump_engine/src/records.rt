@@ -1,9 +1,10 @@
 //! Records of turns where tags are words, taken only where turns are remembered.
 
-ghost use Rattle.std.specs.Prelude.{◌≡◌, ◌<◌, IfOk, length};
+ghost use Rattle.std.specs.Prelude.{◌≡◌, ◌<◌, None, IfOk, false, length};
 ghost use Rattle.std.specs.List.{All};
 ghost use Rattle.tag_memory.specs.Ram.{IsPlace, ram_bytes};
 ghost use Rattle.turn_steps.specs.Effects.{IsSound};
+ghost use Rattle.turn_steps.specs.Looks.{is_system};
 ghost use Rattle.undo_log.specs.Past.{pushed};
 ghost use Rattle.engine_trait.specs.History.{bare_record, record_by, record_served};
 ghost use Rattle.pump_engine.specs.Steps.{pushed_if};
@@ -16,21 +17,20 @@ use undo_log::{Record, WordLog};
 
 /// Remembers a turn of hart `h` that stops it before its effect.
 #[inline(always)]
-pub(crate) fn remember_stop<H: WordLog>(log: &mut H, alloc: Global, core: &Core<u32>, h: u32)
+pub(crate) fn remember_stop<H: WordLog>(log: &mut H, core: &Core<u32>, h: u32)
     requires { h < length core.now.harts }
     ensures { H.past log.new ≡ pushed (H.past log.old) (bare_record core.now h) }
 {
     if !log.keeps() {
         return;
     }
-    log.push(core.bare_record(alloc, h));
+    log.push(core.bare_record(h));
 }
 
 /// Remembers a turn of hart `h` that carries out this instruction, none of a policy's services; `next` is the next byte of the feed.
 #[inline(always)]
 pub(crate) fn remember_effect<H: WordLog>(
     log: &mut H,
-    alloc: Global,
     core: &Core<u32>,
     h: u32,
     look: &Look,
@@ -44,7 +44,22 @@ pub(crate) fn remember_effect<H: WordLog>(
     if !log.keeps() {
         return;
     }
-    log.push(core.record(alloc, h, look, next));
+    log.push(core.record(h, look, next));
+}
+
+/// Remembers a turn of hart `h` that carries out this instruction, neither an ECALL nor an EBREAK.
+#[inline(always)]
+pub(crate) fn remember_step<H: WordLog>(log: &mut H, core: &Core<u32>, h: u32, look: &Look)
+    requires hart { h < length core.now.harts }
+    requires plain { is_system look.now.group ≡ false }
+    requires safe { IsSound (ram_bytes core.now.ram) look.now.effect }
+    ensures { H.past log.new
+        ≡ pushed (H.past log.old) (record_by look.now.group core.now None h look.now) }
+{
+    if !log.keeps() {
+        return;
+    }
+    log.push(core.step_record(h, look));
 }
 
 /// The record of a turn of hart `h` whose service writes these words by this plan; `None` where it would not be kept. The only error is

@@ -9,14 +9,14 @@ ghost use Rattle.engine_trait.specs.History.{policy_undone};
 
 use engine_trait::{Feed, Halt};
 use policy_trait::Policy;
-use undo_log::OldPlan;
+use undo_log::Record;
 
-/// Takes back the commit of this plan, if there is one, the policy's last.
-pub(crate) fn uncommit_if<P: Policy>(policy: &mut P, plan: &OldPlan<P::Tag>)
-    requires { ForSome plan.now (IsCommitted P.model P.holds policy.old) }
-    ensures { policy.new ≡ policy_undone P.model policy.old plan.now }
+/// Takes back the commit of this record's plan, if there is one, the policy's last.
+pub(crate) fn uncommit_if<P: Policy>(policy: &mut P, made: &Record<u32, P::Tag>)
+    requires { ForSome made.now.plan (IsCommitted P.model P.holds policy.old) }
+    ensures { policy.new ≡ policy_undone P.model policy.old made.now.plan }
 {
-    if let Some(plan) = plan.get() {
+    if let Some(plan) = made.plan() {
         policy.uncommit(plan);
     }
 }

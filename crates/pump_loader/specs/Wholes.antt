@@ -1,4 +1,4 @@
--- Policies that an image can be started under, each as one: the four, and the four with secrecy beside them.
+-- Policies that an image can be started under, each as one: the four, and the four with another policy beside them, as secrecy.
 use Rattle.std.specs.Prelude.{ℕ, Bool, true, false, ◌&&◌, List}
 use Rattle.image_format.specs.Picture.{Picture}
 use Rattle.policy_trait.specs.Model.{PolicyModel}
@@ -6,6 +6,8 @@ use Rattle.policy_product.specs.Both.{both}
 use Rattle.policy_choice.specs.All.{AllState, AllTag, all, all_eq, choice_state}
 use Rattle.policy_choice.specs.declared.basis.Basis.{Basis}
 use Rattle.secrecy_policy.specs.Secrecy.{SecretState, secrecy}
+use Rattle.secrecy_policy.specs.Start.{begun}
+pub use Rattle.secrecy_policy.specs.Start.{unanswered}
 use Rattle.secrecy_policy.specs.contracts.tag.SecretTagPartialEq.TheImpl as secret_tag
 use Rattle.secrecy_policy.specs.declared.tag.SecretTag.{SecretTag}
 
@@ -23,13 +25,13 @@ hidden = both all secrecy
 abbrev pub hidden_eq : HiddenTag → HiddenTag → Bool
 hidden_eq x y = all_eq x.0 y.0 && secret_tag.eq-value.it x.1 y.1
 
--- secret bytes of which none was answered
-abbrev pub unanswered : List ℕ → SecretState
-unanswered bytes = record { bytes = bytes; next = 0 }
+-- the chosen ones of the four at the start of an image, and a policy beside them that is this then
+abbrev pub beside_state : {S : Type 0} → (List ℕ → Picture → S) → Basis → List ℕ → Picture → AllState × S
+beside_state begun basis secret g = (choice_state basis g, begun secret g)
 
--- the chosen ones of the four at the start of an image, and secrecy of these bytes
+-- the same with secrecy of these bytes
 abbrev pub hidden_state : Basis → List ℕ → Picture → HiddenState
-hidden_state basis bytes g = (choice_state basis g, unanswered bytes)
+hidden_state basis bytes g = beside_state begun basis bytes g
 
 -- the chosen ones of the four, which have no use for secret bytes
 abbrev pub open_state : Basis → List ℕ → Picture → AllState

@@ -5,8 +5,9 @@ ghost use Rattle.std.specs.Prelude.{◌≡◌, ◌≤◌, IfOk};
 use image_format::Image;
 use policy_choice::{All, AllTag, Basis, Together};
 use policy_product::Both;
+use policy_start::Begins;
 use policy_trait::Policy;
-use secrecy_policy::{Secrecy, SecretTag};
+use secrecy_policy::Secrecy;
 use std::alloc::{AllocError, Global};
 use tag_intern::{Interner, TagTable};
 use tag_pairs::Pairs;
@@ -50,23 +51,24 @@ impl Whole for Together<AllTag> {
     }
 }
 
-impl Whole for Both<All, Secrecy> {
-    ghost use Rattle.pump_loader.specs.Wholes.{hidden_state};
+/// The four with any policy beside them that begins: none of its services has a number of theirs.
+impl<P: Begins> Whole for Both<All, P> {
+    ghost use Rattle.pump_loader.specs.Wholes.{beside_state};
 
     // Each side has a table of its own, so that the words of the four's tags are found by the very code that finds them
-    // without secrecy: with a second caller it would no longer be inlined there.
-    type Table = Pairs<Interner<AllTag>, Interner<SecretTag>>;
+    // without another policy: with a second caller it would no longer be inlined there.
+    type Table = Pairs<Interner<AllTag>, Interner<P::Tag>>;
 
-    ghost chosen = { hidden_state };
+    ghost chosen = { beside_state P.begun };
 
     fn choose(
         alloc: Global,
         basis: Basis,
         secret: &[u8],
         image: &Image,
-    ) -> Result<Both<All, Secrecy>, AllocError> {
+    ) -> Result<Both<All, P>, AllocError> {
         let all = policy_choice::choose(alloc, basis, image)?;
-        let secrecy = Secrecy::new(alloc, secret)?;
-        Ok(Both::new(all, secrecy))
+        let other = P::begin(alloc, secret, image)?;
+        Ok(Both::new(all, other))
     }
 }

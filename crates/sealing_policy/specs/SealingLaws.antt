@@ -170,6 +170,7 @@ pub sealing_laws : KeepsLaws sealing HasFewKeys
 sealing_laws = record {
   masks = λ keys g x. rule_masked g x;
   unpeeked = λ keys shape first second none. refl;
+  parted = λ keys shape first second one other. refl;
   keeps = λ keys p given. record {
     plain = refl;
     rule = λ g x. refl;

@@ -1,3 +1,4 @@
 pub mod Secrecy
 pub mod SecrecyLaws
+pub mod Start
 pub mod TextLaws

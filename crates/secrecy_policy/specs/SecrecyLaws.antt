@@ -12,7 +12,7 @@ use Rattle.policy_trait.specs.declared.services.Answer.{Answer}
 use Rattle.policy_trait.specs.declared.services.Args.{Args}
 use Rattle.policy_trait.specs.declared.services.Plan.{Plan}
 use Rattle.policy_trait.specs.declared.services.Rest.TheVariants as rest
-use Rattle.secrecy_policy.specs.Secrecy.{IsLeft, SecretState, after_secret, answered, before_secret, next_secret, no_secret, secrecy, secret_ignores, secret_plan, secret_rule}
+use Rattle.secrecy_policy.specs.Secrecy.{IsLeft, SecretState, after_secret, answered, before_secret, next_secret, no_secret, secrecy, secret_ignores, secret_peek, secret_plan, secret_rule}
 use Rattle.secrecy_policy.specs.declared.tag.SecretTag.{SecretTag}
 use Rattle.secrecy_policy.specs.declared.tag.SecretTag.TheVariants.{Open, Secret}
 
@@ -87,10 +87,17 @@ can_take_back s p committed =
     let fits = at_least_by (nat_lt before.next (length before.bytes)) before in
     omega (arith, fits, noted before p committed.given, ap (λ (after : SecretState). after.next) committed.left)
 
+-- two values are looked at where each is open
+parted : (first second : SecretTag) → secret_peek first Open ≡ Ok tt → secret_peek second Open ≡ Ok tt → secret_peek first second ≡ Ok tt
+parted Open Open one other = refl
+parted Open Secret one other = absurd (cc other)
+parted Secret second one other = absurd (cc one)
+
 pub secrecy_laws : KeepsLaws secrecy IsLeft
 secrecy_laws = record {
   masks = λ s g x. rule_masked g x;
   unpeeked = λ s shape first second none. absurd (true≢false none);
+  parted = λ s shape. parted;
   keeps = λ s p given. record {
     plain = refl;
     rule = λ g x. refl;

@@ -5,8 +5,7 @@ use Rattle.std.proofs.lemmas.List.{length-append}
 use Rattle.policy_trait.specs.Model.{PolicyModel}
 use Rattle.policy_trait.specs.PolicyLaws.{KeepsLaws}
 use Rattle.turn_steps.specs.Feeds.{tape_of, unread}
-use Rattle.undo_log.specs.Past.{Past, newest, older}
-use Rattle.undo_log.specs.declared.record.Record.{Record}
+use Rattle.undo_log.specs.Past.{Past, Record, newest, older}
 use Rattle.undo_log.proofs.PopLemmas.{newest_kept, newest_none}
 use Rattle.engine_trait.specs.Back.{back, back_by}
 use Rattle.engine_trait.specs.History.{records_along, undone, without_last, without_lasts}

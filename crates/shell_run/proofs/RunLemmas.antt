@@ -4,7 +4,7 @@ use Rattle.std.specs.List.{list_all}
 use Rattle.policy_trait.specs.Model.{PolicyModel}
 use Rattle.policy_trait.specs.PolicyLaws.{KeepsLaws}
 use Rattle.turn_steps.specs.Feeds.{Tape, tape_of, with_fed}
-use Rattle.undo_log.specs.declared.record.Record.{Record}
+use Rattle.undo_log.specs.Past.{Record}
 use Rattle.engine_trait.specs.History.{AreMade, Reached, record_of, records_along, without_lasts}
 use Rattle.engine_trait.specs.Machine.{Machine}
 use Rattle.engine_trait.specs.Runs.{Item, Trace, fed, run_along, turn}

@@ -3,7 +3,7 @@ use Rattle.std.specs.Prelude.{◌≡◌, ℕ, Bool, List, [], ◌++◌, length, 
 use Rattle.std.specs.List.{list_all}
 use Rattle.policy_trait.specs.Model.{PolicyModel}
 use Rattle.turn_steps.specs.Feeds.{tape_of}
-use Rattle.undo_log.specs.declared.record.Record.{Record}
+use Rattle.undo_log.specs.Past.{Record}
 use Rattle.engine_trait.specs.History.{AreMade, records_along, without_lasts}
 use Rattle.engine_trait.specs.Machine.{IsMachine}
 use Rattle.engine_trait.specs.Runs.{Item, fed, run_along, turn}

@@ -10,7 +10,8 @@ pub(crate) fn is_break(breaks: &[u32], pc: u32, end: TurnEnd) -> bool
     ensures { result ≡ is_break breaks.now pc end }
 {
     match end {
-        TurnEnd::Ran(_) => breaks.contains(&pc),
+        // Most sessions have no breakpoint, and a turn's path needs no call then.
+        TurnEnd::Ran(_) => !breaks.is_empty() && breaks.contains(&pc),
         TurnEnd::Break => true,
         _ => false,
     }

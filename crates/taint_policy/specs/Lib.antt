@@ -1,3 +1,4 @@
 pub mod Taint
 pub mod TaintLaws
+pub mod Start
 pub mod TextLaws

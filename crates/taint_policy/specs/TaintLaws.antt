@@ -40,6 +40,7 @@ pub taint_laws : KeepsLaws taint HoldsAlways
 taint_laws = record {
   masks = λ policy g x. rule_masked g x;
   unpeeked = λ policy shape first second none. refl;
+  parted = λ policy shape first second one other. refl;
   keeps = λ policy p given. record {
     plain = refl;
     rule = λ g x. refl;

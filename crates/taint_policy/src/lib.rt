@@ -5,6 +5,7 @@
 
 mod law;
 mod policy;
+mod start;
 mod table;
 mod tag;
 

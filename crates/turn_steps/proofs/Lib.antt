@@ -6,5 +6,6 @@ pub mod MapLemmas
 pub mod PeekLemmas
 pub mod PlaceLemmas
 pub mod RowLemmas
+pub mod SeenLemmas
 pub mod StepLemmas
 pub mod ValueLemmas

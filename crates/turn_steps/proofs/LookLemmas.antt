@@ -45,7 +45,7 @@ looked_is_sound hart ram look is e =
     on_passed (effect_at hart instr) effect (first_fault (effect_at hart instr) (ram_bytes ram)) effect-is λ none same.
     subst (IsSound (ram_bytes ram)) (same ∙ effect_is (look_at hart word instr effect) look e3) (sound_if_none hart ram instr is none)
 
-look_is : (look given : Look) → done look ≡ done given → look ≡ given
+pub look_is : (look given : Look) → done look ≡ done given → look ≡ given
 look_is look given e = cc
 
 found_is : (fault : Fault) (found : Option Instr) (given instr : Instr) → found_or fault found ≡ Ok given → found ≡ Some instr → given ≡ instr

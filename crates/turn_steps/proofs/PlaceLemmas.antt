@@ -17,7 +17,7 @@ value_is : {T : Type 0} (hart : HartState T) (register : Option ℕ) → reg_val
 value_is hart None = refl
 value_is hart (Some r) = refl
 
-tag_is : {T : Type 0} (hart : HartState T) (register : Option ℕ) → reg_tag hart (register_or_zero register) ≡ operand_tag hart register
+pub tag_is : {T : Type 0} (hart : HartState T) (register : Option ℕ) → reg_tag hart (register_or_zero register) ≡ operand_tag hart register
 tag_is hart None = refl
 tag_is hart (Some r) = refl
 

@@ -6,13 +6,19 @@ use Rattle.policy_trait.specs.declared.rules.Refused.{Refused}
 use Rattle.policy_trait.specs.declared.rules.Shape.{Shape}
 use Rattle.policy_trait.specs.declared.rules.Shape.TheVariants as shape
 use Rattle.rv_decode.specs.Groups.{reads_of}
+use Rattle.rv_decode.specs.declared.groups.Group.{Group}
+use Rattle.rv_decode.specs.declared.groups.Group.TheVariants as group
 use Rattle.rv_decode.specs.declared.instructions.Instr.{Instr}
 use Rattle.rv_decode.specs.declared.instructions.Instr.TheVariants as instr
+use Rattle.rv_decode.specs.declared.places.Places.{Places}
 use Rattle.rv_decode.specs.declared.places.Reads.{Reads}
 use Rattle.rv_step.specs.declared.faults.Fault.{Fault}
-use Rattle.tag_memory.specs.Hart.{HartState}
+use Rattle.tag_memory.specs.Hart.{HartState, reg_tag}
 use Rattle.tag_memory.specs.Ram.{RamState, ram_tag}
 use Rattle.turn_steps.specs.Looks.{fetch_result, operand_tag, read_instr}
+use Rattle.turn_steps.specs.declared.look.Look.{Look}
+use Rattle.turn_steps.specs.declared.peeking.Looks.{Looks}
+use Rattle.turn_steps.specs.declared.peeking.OperandLook.{OperandLook}
 
 -- whether a turn may look so at values with these tags
 abbrev pub Peek : Type 0 → Type 0
@@ -73,3 +79,45 @@ module _ {T : Type 0} (peek : Peek T) (hart : HartState T) where
   -- The word at the pc is looked at, and then what its instruction looks at: the first refusal decides.
   unfoldable pub peeked : RamState T → Result (Unit {0}) Refused
   peeked ram = fetched_peeked ram (fetch_result hart ram)
+
+-- ---- the same of a turn whose checks pass, by what it is about to do
+
+-- how an instruction of this group looks at its operands
+abbrev pub shape_of_group : Group → Option Shape
+shape_of_group group.LoadWord = Some shape.Load
+shape_of_group group.LoadPart = Some shape.Load
+shape_of_group group.StoreWord = Some shape.Store
+shape_of_group group.StorePart = Some shape.Store
+shape_of_group group.Jalr = Some shape.Jump
+shape_of_group group.Branch = Some shape.Branch
+shape_of_group group.Exit = Some shape.Call
+shape_of_group group.Put = Some shape.Call
+shape_of_group group.Get = Some shape.Call
+shape_of_group group.Call = Some shape.Call
+shape_of_group _ = None
+
+module _ {T : Type 0} where
+  abbrev pub operand_look : Shape → T → T → OperandLook T
+  operand_look look first second = record { shape = look; first = first; second = second }
+
+  -- the operands that it looks at so, where they stand
+  abbrev pub operands_at : HartState T → Places → Shape → OperandLook T
+  operands_at hart places shape.Branch = operand_look shape.Branch (reg_tag hart places.first) (reg_tag hart places.second)
+  operands_at hart places shape.Call = operand_look shape.Call (reg_tag hart places.second) hart.plain
+  operands_at hart places look = operand_look look (reg_tag hart places.first) hart.plain
+
+  abbrev pub operands_if : HartState T → Places → Option Shape → Option (OperandLook T)
+  operands_if hart places None = None
+  operands_if hart places (Some look) = Some (operands_at hart places look)
+
+  -- all that is looked at
+  abbrev pub looks_of : HartState T → RamState T → Look → Looks T
+  looks_of hart ram look = record { word = ram_tag ram hart.pc; operands = operands_if hart look.places (shape_of_group look.group) }
+
+  abbrev pub operands_allowed : Peek T → Option (OperandLook T) → Result (Unit {0}) Refused
+  operands_allowed peek None = Ok tt
+  operands_allowed peek (Some look) = peek look.shape look.first look.second
+
+  -- who is asked is asked of the word, and then of the operands
+  abbrev pub looks_allowed : Peek T → T → Looks T → Result (Unit {0}) Refused
+  looks_allowed peek plain looks = peek shape.Word looks.word plain >>= λ seen. operands_allowed peek looks.operands

@@ -17,6 +17,6 @@ pub use feed::Feed;
 pub use law::{map_law, steps_law, values_law, words_law};
 pub use look::{Look, is_call};
 pub use looking::{checked, decoded, fetch, inputs_at, inputs_of, look_ahead, step_look};
-pub use peeking::{Peeks, peeked};
+pub use peeking::{Looks, OperandLook, Peeks, looks_of, peeked};
 pub use services::{answer_to, arguments_of, write_words};
 pub use stop::Stop;

@@ -1,13 +1,15 @@
 //! What a turn looks at before its rule is asked, and who is asked whether it may.
 
-ghost use Rattle.std.specs.Prelude.{◌≡◌};
+ghost use Rattle.std.specs.Prelude.{◌≡◌, ◌+◌, ◌≤◌};
+ghost use Rattle.tag_memory.specs.Ram.{ram_bytes};
 ghost use Rattle.turn_steps.specs.Looks.{operand_tag};
-ghost use Rattle.turn_steps.specs.Peeks.{operands_peeked, peeked, shape_of};
+ghost use Rattle.turn_steps.specs.Peeks.{looks_of, operands_at, operands_peeked, peeked, shape_of, shape_of_group};
 
+use crate::look::Look;
 use crate::looking::{decoded, fetch};
-use crate::registers::reg_tag_at;
+use crate::registers::{reg_tag, reg_tag_at};
 use policy_trait::{Refused, Shape};
-use rv_decode::{Instr, Register};
+use rv_decode::{Group, Instr, Places, Register};
 use tag_memory::{Hart, Ram};
 
 /// Who is asked whether a turn may look at values with these tags: a policy by its own tags, or by what stands for them.
@@ -21,6 +23,26 @@ pub trait Peeks {
     /// Whether a turn may look so at values with these tags, a look at one value with the plain tag as its second.
     fn answer(&self, shape: Shape, first: &Self::Tag, second: &Self::Tag) -> Result<(), Refused>
         ensures { result ≡ answer self.now shape first.now second.now };
+}
+
+/// What a turn whose checks pass looks at before its rule, by the tags of these values.
+#[derive(Clone, Copy)]
+pub struct Looks<T: Copy> {
+    /// The tag of the word at the pc, which is decoded.
+    pub word: T,
+    /// What its instruction looks at; `None` where it looks at nothing.
+    pub operands: Option<OperandLook<T>>,
+}
+
+/// How an instruction looks at its operands before its rule, and their tags.
+#[derive(Clone, Copy)]
+pub struct OperandLook<T: Copy> {
+    /// How it looks at them.
+    pub shape: Shape,
+    /// The tag of the first.
+    pub first: T,
+    /// The tag of the second, the plain one where it looks at one value.
+    pub second: T,
 }
 
 /// Asks whether the hart's turn may look at what it looks at before its rule: at the word at the pc, which is decoded, and at what that
@@ -89,6 +111,54 @@ fn shape_of(instr: &Instr) -> Option<Shape>
         | Instr::Bltu { .. }
         | Instr::Bgeu { .. } => Some(Shape::Branch),
         Instr::Ecall => Some(Shape::Call),
+        _ => None,
+    }
+}
+
+/// What the turn of a hart looks at before its rule, where its checks pass and this is what it is about to do.
+#[inline]
+pub fn looks_of<T: Copy>(hart: &Hart<T>, ram: &Ram<T>, look: &Look) -> Looks<T>
+    requires { hart.now.pc + 4 ≤ ram_bytes ram.now }
+    ensures { result ≡ looks_of hart.now ram.now look.now }
+{
+    let word = ram.tag(hart.pc());
+    let operands = match shape_of_group(look.group) {
+        None => None,
+        Some(shape) => Some(operands_at(hart, &look.places, shape)),
+    };
+    Looks { word, operands }
+}
+
+/// The operands that an instruction with these places looks at so.
+#[inline]
+fn operands_at<T: Copy>(hart: &Hart<T>, places: &Places, shape: Shape) -> OperandLook<T>
+    ensures { result ≡ operands_at hart.now places.now shape }
+{
+    let (first, second) = match shape {
+        Shape::Branch => (reg_tag(hart, places.first), reg_tag(hart, places.second)),
+        Shape::Call => (reg_tag(hart, places.second), hart.plain()),
+        Shape::Word | Shape::Load | Shape::Store | Shape::Jump => {
+            (reg_tag(hart, places.first), hart.plain())
+        }
+    };
+    OperandLook {
+        shape,
+        first,
+        second,
+    }
+}
+
+/// How an instruction of this group looks at its operands before its rule is asked, if it does.
+#[inline]
+fn shape_of_group(group: Group) -> Option<Shape>
+    ensures { result ≡ shape_of_group group }
+{
+    match group {
+        Group::LoadWord | Group::LoadPart => Some(Shape::Load),
+        Group::StoreWord | Group::StorePart => Some(Shape::Store),
+        Group::Jalr => Some(Shape::Jump),
+        Group::Branch => Some(Shape::Branch),
+        Group::Exit | Group::Put | Group::Get | Group::Call => Some(Shape::Call),
         _ => None,
     }
 }

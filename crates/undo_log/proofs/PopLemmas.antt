@@ -3,8 +3,7 @@ use Rattle.std.proofs.Common.{◌≡◌, ◌-◌, ℕ, List, [], ◌∷◌, ◌+
 use Rattle.std.specs.Map.Iter.{TakesLast}
 use Rattle.circular_buffer.proofs.Items.{pops_last}
 use Rattle.circular_buffer.proofs.Places.{slice_get-last}
-use Rattle.undo_log.specs.Past.{Past, newest, older, past_of, pushed}
-use Rattle.undo_log.specs.declared.record.Record.{Record}
+use Rattle.undo_log.specs.Past.{Past, Record, newest, older, past_of, pushed}
 
 module _ {X : Type 0} where
   -- with the last item at the end of the others again, the list is as it was

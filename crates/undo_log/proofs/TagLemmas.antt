@@ -3,8 +3,7 @@ use Rattle.std.proofs.Common.{◌≡◌, ◌∙◌, ◌-◌, ℕ, List, [], ◌�
 use Rattle.std.proofs.lemmas.Grind.{flat_map-append}
 use Rattle.std.proofs.lemmas.List.{append-nil}
 use Rattle.std.proofs.lemmas.List.Elements.{All-append, All-cons, All-head, All-nil, All-tail}
-use Rattle.undo_log.specs.Past.{Past, newest, older, past_by, past_of, past_tags, pushed, record_tags, record_with, replaced_by, replaced_tags, some_replaced_by}
-use Rattle.undo_log.specs.declared.record.Record.{Record}
+use Rattle.undo_log.specs.Past.{Past, Record, newest, older, past_by, past_of, past_tags, pushed, record_tags, record_with, replaced_by, replaced_tags, some_replaced_by}
 use Rattle.undo_log.specs.declared.record.Replaced.{Replaced}
 use Rattle.undo_log.proofs.PopLemmas.{last_back}
 

@@ -2,8 +2,7 @@
 use Rattle.std.specs.Prelude.{ℕ, List, length}
 use Rattle.std.specs.Borrow.{Array, Fml, Lends, MutBor, RattleType}
 use Rattle.std.specs.List.{refill}
-use Rattle.undo_log.specs.Past.{Past, with_record}
-use Rattle.undo_log.specs.declared.record.Record.{Record}
+use Rattle.undo_log.specs.Past.{Past, Record, with_record}
 use Rattle.undo_log.specs.declared.record.Replaced.{Replaced}
 use Rattle.undo_log.specs.contracts.log.UndoLog as log
 use Rattle.undo_log.specs.contracts.record.OldWords as old_words

@@ -2,8 +2,40 @@
 use Rattle.std.specs.Prelude.{ℕ, ◌-◌, ◌≤◌, List, [], ◌∷◌, ◌++◌, length, map, take, Option, Some, None, slice_get, slice_set}
 use Rattle.std.specs.List.{flat_map}
 use Rattle.circular_buffer.specs.Buffer.{keep_last}
-use Rattle.undo_log.specs.declared.record.Record.{Record}
+use Rattle.policy_trait.specs.declared.services.Plan.{Plan}
 use Rattle.undo_log.specs.declared.record.Replaced.{Replaced}
+use Rattle.undo_log.specs.declared.record.TurnStart.{TurnStart}
+
+-- what a turn replaced, and what it read and committed: enough to take it back
+pub record Record (T U : Type 0) : Type 0 where
+  -- the hart whose turn it was
+  pub hart : ℕ
+  -- its pc before the turn, and the tag of that
+  pub pc : ℕ
+  pub pc_tag : T
+  -- the register that the turn wrote, as it was before
+  pub reg : Option (Replaced T)
+  -- the word that a store wrote, as it was before
+  pub word : Option (Replaced T)
+  -- the words that a service wrote, as they were before
+  pub range : List (Replaced T)
+  -- the plan that the policy committed
+  pub plan : Option (Plan U)
+  -- the byte of the feed that was read
+  pub fed : Option ℕ
+
+-- the record of a turn that replaced nothing but the pc
+abbrev pub bare : {T U : Type 0} → TurnStart T → Record T U
+bare start = record {
+  hart = start.hart;
+  pc = start.pc;
+  pc_tag = start.pc_tag;
+  reg = None;
+  word = None;
+  range = [];
+  plan = None;
+  fed = None;
+}
 
 -- the records that are kept, and how many may be
 pub record Past (T U : Type 0) : Type 0 where

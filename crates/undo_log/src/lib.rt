@@ -10,5 +10,5 @@ mod word_log;
 
 pub use log::UndoLog;
 pub use no_log::NoLog;
-pub use record::{OldPlan, OldWords, Record, Replaced};
+pub use record::{Record, Replaced, TurnStart};
 pub use word_log::WordLog;

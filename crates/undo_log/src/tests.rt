@@ -3,7 +3,8 @@
 
 ghost use Rattle.std.specs.Prelude.{◌≤◌};
 
-use crate::{NoLog, OldPlan, OldWords, Record, Replaced, UndoLog, WordLog};
+use crate::{NoLog, Record, Replaced, TurnStart, UndoLog, WordLog};
+use policy_trait::Plan;
 use std::alloc::{AllocError, Global};
 use std::test::Fail;
 
@@ -11,25 +12,31 @@ type Log = UndoLog<u32, u64>;
 
 /// What a turn at this pc replaced: x5, which had the tag 7, and one word of a service's range, with the tag 8.
 fn record_at(alloc: Global, pc: u32) -> Result<Record<u32, u64>, AllocError> {
+    let start = TurnStart {
+        hart: 0,
+        pc,
+        pc_tag: 6,
+    };
+    let answered = Replaced {
+        place: 5,
+        value: 1,
+        tag: 7,
+    };
     let word = Replaced {
         place: 64,
         value: 2,
         tag: 8,
     };
-    Ok(Record {
-        hart: 0,
-        pc,
-        pc_tag: 6,
-        reg: Some(Replaced {
-            place: 5,
-            value: 1,
-            tag: 7,
-        }),
-        word: None,
-        range: OldWords::of(vec![in alloc; word]?),
-        plan: OldPlan::none(),
-        fed: Some(65),
-    })
+    let plan = Plan {
+        service: 48,
+        pc: 3,
+        note: 0,
+        range: None,
+        zero: false,
+        answer: None,
+    };
+    let words = vec![in alloc; word]?;
+    Record::of_service(alloc, start, Some(answered), words, &plan)
 }
 
 /// A log for at most so many, to which the records of turns at these pcs have come, in order.
@@ -46,7 +53,7 @@ fn log_of(alloc: Global, most: u32, pcs: &[u32]) -> Result<Log, AllocError>
 /// The pc of the record at that place, if there is one.
 fn pc_at(log: &Log, i: u32) -> Option<u32> {
     if i < log.len() {
-        Some(log.at(i).pc)
+        Some(log.at(i).pc())
     } else {
         None
     }
@@ -55,7 +62,7 @@ fn pc_at(log: &Log, i: u32) -> Option<u32> {
 /// The pc of the newest record, which is taken out, if there is one.
 fn popped_pc(log: &mut Log) -> Option<u32> {
     match log.pop() {
-        Some(made) => Some(made.pc),
+        Some(made) => Some(made.pc()),
         None => None,
     }
 }
@@ -96,34 +103,30 @@ fn pushed_after_a_pop_and_after_a_clear(rt: HostRuntime) -> Result<(), Fail> {
     Ok(())
 }
 
-/// Changes the tags of the record at that place, where there is one, to 9.
+/// Changes the tag of the pc in the record at that place, where there is one, to 9.
 fn tag_with_nine(log: &mut Log, i: u32) {
     if i < log.len() {
-        let made = log.at_mut(i);
-        made.pc_tag = 9;
-        for word in made.range.words_mut() {
-            word.tag = 9;
-        }
+        log.at_mut(i).start.pc_tag = 9;
     }
 }
 
-/// The tag of the pc in the record at that place, and those of its range, if there is such a record.
+/// The tag of the pc in the record at that place, and the first of its range, if there is such a record.
 fn tags_at(log: &Log, i: u32) -> Option<(u32, u32)> {
     if i < log.len() {
         let made = log.at(i);
-        let word = made.range.words().first()?;
-        Some((made.pc_tag, word.tag))
+        let word = made.range().first()?;
+        Some((made.pc_tag(), word.tag))
     } else {
         None
     }
 }
 
 #[test]
-fn tags_changed_in_their_places(rt: HostRuntime) -> Result<(), Fail> {
+fn a_tag_changed_in_its_place(rt: HostRuntime) -> Result<(), Fail> {
     let mut log = log_of(rt.alloc(), 3, &[100, 104, 108])?;
     tag_with_nine(&mut log, 1);
     assert_eq!(rt; tags_at(&log, 0), Some((6, 8)));
-    assert_eq!(rt; tags_at(&log, 1), Some((9, 9)));
+    assert_eq!(rt; tags_at(&log, 1), Some((9, 8)));
     assert_eq!(rt; tags_at(&log, 2), Some((6, 8)));
     assert_eq!(rt; pc_at(&log, 1), Some(104));
     Ok(())
@@ -157,5 +160,31 @@ fn a_log_that_never_keeps_a_record(rt: HostRuntime) -> Result<(), Fail> {
     log.renumber(&[10]);
     assert_eq!(rt; words_of(rt.alloc(), &log)?.len(), 0);
     assert!(rt; log.pop().is_none());
+    Ok(())
+}
+
+#[test]
+fn records_of_a_register_of_a_word_and_of_a_service(rt: HostRuntime) -> Result<(), Fail> {
+    let start = TurnStart {
+        hart: 1,
+        pc: 100,
+        pc_tag: 6,
+    };
+    let old = Replaced {
+        place: 8,
+        value: 1,
+        tag: 7,
+    };
+    let read: Record<u32, u64> = Record::of_register(start, Some(old), Some(65));
+    assert_eq!(rt; (read.hart(), read.pc(), read.fed()), (1, 100, Some(65)));
+    assert!(rt; read.reg() == Some(old) && read.word().is_none() && read.plan().is_none());
+    let stored: Record<u32, u64> = Record::of_word(start, old);
+    assert!(rt; stored.word() == Some(old) && stored.reg().is_none() && stored.range().is_empty());
+    let bare: Record<u32, u64> = Record::bare(start);
+    assert!(rt; bare.word().is_none() && bare.reg().is_none() && bare.fed().is_none());
+    let served = record_at(rt.alloc(), 104)?;
+    assert_eq!(rt; served.plan().map(|plan| plan.service), Some(48));
+    assert_eq!(rt; served.range().len(), 1);
+    assert_eq!(rt; served.reg().map(|reg| reg.place), Some(5));
     Ok(())
 }

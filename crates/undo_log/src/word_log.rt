@@ -4,7 +4,7 @@ ghost use Rattle.std.specs.Prelude.{◌≡◌, ◌<◌, ◌↔◌, ◌++◌, [],
 ghost use Rattle.undo_log.specs.Past.{IsPast, newest, older, past_by, past_of, past_tags, pushed, record_tags, record_with, replaced_by, replaced_tags, some_replaced_by};
 
 use crate::log::UndoLog;
-use crate::record::{OldWords, Record, Replaced};
+use crate::record::{Old, OldWords, Record, Replaced};
 use std::alloc::AllocError;
 
 /// The records of the last turns of an engine whose tags are words: those that it keeps, or none at all.
@@ -89,10 +89,10 @@ impl<U: Copy> WordLog for UndoLog<u32, U> {
 fn push_record<U: Copy>(made: &Record<u32, U>, words: &mut Vec<u32>) -> Result<(), AllocError>
     ensures { OnOk result (words.new.items ≡ words.old.items ++ record_tags made.now) }
 {
-    words.push(made.pc_tag)?;
-    push_replaced(made.reg, words)?;
-    push_replaced(made.word, words)?;
-    for old in made.range.words() {
+    words.push(made.pc_tag())?;
+    push_replaced(made.reg(), words)?;
+    push_replaced(made.word(), words)?;
+    for old in made.range() {
         words.push(old.tag)?;
     }
     Ok(())
@@ -112,10 +112,16 @@ fn push_replaced(old: Option<Replaced<u32>>, words: &mut Vec<u32>) -> Result<(),
 fn renumber_record<U: Copy>(made: &mut Record<u32, U>, numbers: &[u32])
     ensures { made.new ≡ record_with (slice_index numbers.now) made.old }
 {
-    made.pc_tag = number_at(numbers, made.pc_tag);
-    made.reg = renumbered(made.reg, numbers);
-    made.word = renumbered(made.word, numbers);
-    renumber_range(&mut made.range, numbers);
+    made.start.pc_tag = number_at(numbers, made.start.pc_tag);
+    match &mut made.replaced {
+        Old::Nothing => {}
+        Old::Register(old) => old.tag = number_at(numbers, old.tag),
+        Old::Word(old) => old.tag = number_at(numbers, old.tag),
+        Old::Service(served) => {
+            served.answered = renumbered(served.answered, numbers);
+            renumber_range(&mut served.range, numbers);
+        }
+    }
 }
 
 /// What stood at a place, if anything did, with the number of its word.

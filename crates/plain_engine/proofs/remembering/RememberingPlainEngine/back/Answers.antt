@@ -1,4 +1,5 @@
-use Rattle.std.proofs.Common.{◌≡◌, [], IfNone, None, rules, subst, sym, ◌∙◌}
+use Rattle.std.proofs.Common.{◌≡◌, ℕ, [], IfNone, Option, None, ap, rules, subst, sym, ◌∙◌}
+use Rattle.turn_steps.specs.Feeds.{unread}
 use Rattle.undo_log.specs.Past.{Past, older}
 use Rattle.engine_trait.specs.Back.{IsPastOf, back}
 use Rattle.engine_trait.specs.Machine.{IsMachine}
@@ -48,6 +49,7 @@ invariant_of-self-2 g c =
 pub returns-clause-back : goal.returns-clause-back
 returns-clause-back g c =
     let m = g.P.Policy.model in
+    let fed_is = c.unread.ensures ∙ ap (λ (fed : Option ℕ). unread fed c.args.feed.now) c.fed.ensures in
     subst (λ (x : Standing g.row.P.Denot g.row.P-Tag.Denot). back m x c.args.feed.now ≡ backed_to (with_past c.undo.new.self c.pop.new.self) c.unread.new.feed) c.self.view_is
     (remembered_back m c.self.inside.plain c.self.inside.past c.args.feed.now c.in-Some.made (sym c.pop.ensures.newest ∙ c.in-Some.is)
-    ∙ λ j. backed_to (with_past (sym c.undo.ensures.standing j) (sym c.pop.ensures.others j)) (sym c.unread.ensures j))
+    ∙ λ j. backed_to (with_past (sym c.undo.ensures.standing j) (sym c.pop.ensures.others j)) (sym fed_is j))

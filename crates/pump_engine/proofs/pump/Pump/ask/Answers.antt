@@ -2,6 +2,7 @@ use Rattle.std.proofs.Common.{◌≡◌, true, IfErr, IfOk, IsOk, length, sym, s
 use Rattle.engine_trait.specs.Accounts.{is_kept}
 use Rattle.engine_trait.specs.Turn.{rule_inputs}
 use Rattle.miss_handler.specs.Asked.{AreInWords}
+use Rattle.open_words.proofs.OpenLemmas.{open_grown}
 use Rattle.pump_engine.proofs.AskLemmas.{AsksOwn, IsAsked, allowed, asked, kept_answered, pump_asked, unanswered}
 use Rattle.pump_engine.proofs.LowLemmas.{low_inputs}
 use Rattle.pump_engine.proofs.pump.Pump.ask.Goals as goal
@@ -35,7 +36,7 @@ invariant_of-self g c =
       told = c.ask.ensures.told;
       rules = c.ask.ensures.rules;
     })) in
-    record { pump = pump_asked g.P.Tag.PartialEq.eq g.P.Policy.model p c.args.h c.args.look.now (g.T.TagTable.state c.ask.new.tags) (g.C.RuleStore.state c.ask.new.store) c.self.invariant.pump c.ask.result asks; masks_are = c.self.invariant.masks_are }
+    record { pump = pump_asked g.P.Tag.PartialEq.eq g.P.Policy.model p c.args.h c.args.look.now (g.T.TagTable.state c.ask.new.tags) (g.C.RuleStore.state c.ask.new.store) c.self.invariant.pump c.ask.result asks; masks_are = c.self.invariant.masks_are; open_are = open_grown g.P.Policy.model c.self.inside.policy (g.T.TagTable.state c.self.inside.tags).tags (g.T.TagTable.state c.ask.new.tags).tags c.self.inside.open_words c.ask.ensures.extends c.self.invariant.open_are }
 
 pub returns-clause-allowed : goal.returns-clause-allowed
 returns-clause-allowed g c =

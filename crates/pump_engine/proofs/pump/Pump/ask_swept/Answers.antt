@@ -3,6 +3,7 @@ use Rattle.tag_memory.specs.Ram.{ram_bytes}
 use Rattle.engine_trait.specs.Machine.{hart_at}
 use Rattle.engine_trait.specs.Turn.{rule_inputs}
 use Rattle.miss_handler.specs.Asked.{AreInWords}
+use Rattle.open_words.proofs.OpenLemmas.{open_grown}
 use Rattle.pump_engine.specs.Pump.{PumpState, pump_of}
 use Rattle.pump_engine.specs.Steps.{IsSwept}
 use Rattle.pump_engine.proofs.LowLemmas.{low_inputs}
@@ -48,7 +49,7 @@ invariant_of-self g c =
       extends = c.settle.ensures.extends;
       rules = c.settle.ensures.rules;
     })) in
-    record { pump = pump_settled g.P.Tag.PartialEq.eq g.P.Policy.model p c.args.h c.args.look.now (g.T.TagTable.state c.settle.new.tags) (g.C.RuleStore.state c.settle.new.store) c.self.invariant.pump c.settle.result settles; masks_are = c.self.invariant.masks_are }
+    record { pump = pump_settled g.P.Tag.PartialEq.eq g.P.Policy.model p c.args.h c.args.look.now (g.T.TagTable.state c.settle.new.tags) (g.C.RuleStore.state c.settle.new.store) c.self.invariant.pump c.settle.result settles; masks_are = c.self.invariant.masks_are; open_are = open_grown g.P.Policy.model c.self.inside.policy (g.T.TagTable.state c.self.inside.tags).tags (g.T.TagTable.state c.settle.new.tags).tags c.self.inside.open_words c.settle.ensures.extends c.self.invariant.open_are }
 
 pub returns-clause-settled : goal.returns-clause-settled
 returns-clause-settled g c =

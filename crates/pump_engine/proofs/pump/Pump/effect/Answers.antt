@@ -24,4 +24,5 @@ invariant_of-self g c =
           c.effect.new.self c.effect.ensures.core (g.H.WordLog.past c.remember_effect.new.log) remembered
           c.count_up.new.count c.self.inside.sweeps c.self.inside.halt;
       masks_are = c.self.invariant.masks_are;
+      open_are = c.self.invariant.open_are;
     }

@@ -12,4 +12,5 @@ invariant_of-self g c =
           c.stop_hart.new.self c.stop_hart.ensures (g.H.WordLog.past c.remember_stop.new.log) c.remember_stop.ensures
           c.count_up.new.count c.self.inside.sweeps c.self.inside.halt;
       masks_are = c.self.invariant.masks_are;
+      open_are = c.self.invariant.open_are;
     }

@@ -1,9 +1,11 @@
-use Rattle.std.proofs.Common.{◌≡◌, ◌++◌, ◌∙◌, ℕ, List, ap, if◌then◌else◌, is_ok, rules, slice_index, subst}
+use Rattle.std.proofs.Common.{◌≡◌, ◌++◌, ◌∙◌, ℕ, List, ap, if◌then◌else◌, is_ok, rules, slice_index, subst, sym}
 use Rattle.std.proofs.lemmas.List.{append_assoc}
 use Rattle.undo_log.specs.Past.{past_by, past_tags}
 use Rattle.engine_trait.specs.Machine.{core_tags}
 use Rattle.engine_trait.specs.Maps.{core_by}
 use Rattle.tag_intern.specs.Sweep.{remade_table}
+use Rattle.open_words.specs.Open.{AreOpen}
+use Rattle.open_words.proofs.OpenLemmas.{none_open}
 use Rattle.pump_engine.specs.Pump.{PumpState, pump_of}
 use Rattle.pump_engine.specs.Steps.{IsSwept}
 use Rattle.pump_engine.proofs.SweepLemmas.{pump_as, swept_as}
@@ -27,6 +29,7 @@ invariant_of-self g c =
           (g.H.WordLog.past c.renumber-2.new.self) (c.renumber-2.ensures ∙ ap (λ (list : List ℕ). past_by (slice_index list) p.past) c.deref-3.ensures.value)
           c.count_up.new.count c.len-words.ensures.sound.within;
       masks_are = c.self.invariant.masks_are;
+      open_are = subst (AreOpen g.P.Policy.model c.self.inside.policy (g.T.TagTable.state c.in-Ok.table).tags) (sym c.forget.ensures) (none_open g.P.Policy.model c.self.inside.policy (g.T.TagTable.state c.in-Ok.table).tags);
     }
 
 pub returns-clause-swept : goal.returns-clause-swept

@@ -1,6 +1,9 @@
 use Rattle.std.proofs.Common.{◌≡◌, ◌∙◌, Some, ap, subst, sym}
 use Rattle.std.specs.Option.{ForSome}
 use Rattle.undo_log.specs.Past.{newest}
+use Rattle.engine_trait.specs.History.{policy_undone}
+use Rattle.open_words.specs.Open.{AreOpen}
+use Rattle.open_words.proofs.OpenLemmas.{open_before}
 use Rattle.pump_engine.specs.Back.{CanTakeBack}
 use Rattle.pump_engine.specs.Pump.{IsPump, PumpState, pump_of}
 use Rattle.pump_engine.proofs.BackLemmas.{pump_back, same}
@@ -32,4 +35,7 @@ invariant_of-self-2 g c =
           c.self.invariant.masks_are group
           ∙ (same m g.P.Policy.holds g.met.P.Policy.lawful p c.in-Some.made last can_be).ignores group
           ∙ ap (λ s. m.ignores s group) (sym c.uncommit_if.ensures);
+      open_are = subst (λ s. AreOpen m s p.table.tags c.self.inside.open_words) (sym c.uncommit_if.ensures)
+          (open_before m (policy_undone m p.policy c.in-Some.made.plan) p.policy p.table.tags c.self.inside.open_words
+          (same m g.P.Policy.holds g.met.P.Policy.lawful p c.in-Some.made last can_be) c.self.invariant.open_are);
     }

@@ -12,6 +12,8 @@ use Rattle.engine_trait.specs.declared.ends.Halt.TheVariants as halt
 use Rattle.miss_handler.specs.Asked.{AreOutWords}
 use Rattle.tag_intern.specs.Table.{TableState}
 use Rattle.tag_intern.proofs.TableLemmas.{longer}
+use Rattle.open_words.specs.Open.{AreOpen}
+use Rattle.open_words.proofs.OpenLemmas.{open_after, open_grown}
 use Rattle.pump_engine.proofs.ServiceLemmas.{IsWritten, cut_back, err_at, left, ok_at, pump_left, serves, tries_refused, written_fits}
 use Rattle.pump_engine.proofs.StayLemmas.{pump_at}
 use Rattle.pump_engine.proofs.pump.Pump.try_out.Goals as goal
@@ -28,6 +30,7 @@ invariant_of-self-in_default g c =
       pump = subst (λ table. IsPump g.P.Policy.model (pump_of c.self.inside.policy c.self.inside.core table (g.C.RuleStore.state c.self.inside.store) c.self.inside.turns c.self.inside.sweeps c.self.inside.halt (g.H.WordLog.past c.self.inside.log))) (sym table_is)
           c.self.invariant.pump;
       masks_are = c.self.invariant.masks_are;
+      open_are = subst (λ (table : TableState g.row.P-Tag.Denot). AreOpen g.P.Policy.model c.self.inside.policy table.tags c.self.inside.open_words) (sym table_is) c.self.invariant.open_are;
     }
 
 pub returns-in_default-clause-tries : goal.returns-in_default-clause-tries
@@ -81,6 +84,8 @@ invariant_of-self-then-is_err g c =
           (subst (λ table. IsPump g.P.Policy.model (pump_of c.self.inside.policy c.self.inside.core table (g.C.RuleStore.state c.self.inside.store) c.self.inside.turns c.self.inside.sweeps c.self.inside.halt (g.H.WordLog.past c.self.inside.log))) (sym table_is)
           c.self.invariant.pump);
       masks_are = subst (λ policy. (group : Group) → c.self.inside.masks group ≡ g.P.Policy.model.ignores policy group) (sym unnoted) c.self.invariant.masks_are;
+      open_are = subst (λ policy. AreOpen g.P.Policy.model policy (g.T.TagTable.state c.cut-then-is_err.new.self).tags c.self.inside.open_words) (sym unnoted)
+          (subst (λ (table : TableState g.row.P-Tag.Denot). AreOpen g.P.Policy.model c.self.inside.policy table.tags c.self.inside.open_words) (sym table_is) c.self.invariant.open_are);
     }
 
 pub returns-then-is_err-clause-tries : goal.returns-then-is_err-clause-tries
@@ -140,6 +145,10 @@ invariant_of-self-2 g c =
           c.serve.new.self core_is (g.H.WordLog.past c.push_if.new.log) past_is c.count_up.new.count c.self.inside.sweeps c.self.inside.halt);
       masks_are = subst (λ policy. (group : Group) → c.self.inside.masks group ≡ g.P.Policy.model.ignores policy group) (sym noted)
           (λ group. c.self.invariant.masks_are group ∙ sym ((g.met.P.Policy.lawful.keeps c.self.inside.policy c.args.job.now.plan given).ignores group));
+      open_are = subst (λ policy. AreOpen g.P.Policy.model policy (g.T.TagTable.state c.intern_job.new.tags).tags c.self.inside.open_words) (sym noted)
+          (open_after g.P.Policy.model c.self.inside.policy (g.P.Policy.model.commit c.self.inside.policy c.args.job.now.plan) (g.T.TagTable.state c.intern_job.new.tags).tags c.self.inside.open_words
+          (g.met.P.Policy.lawful.keeps c.self.inside.policy c.args.job.now.plan given)
+          (open_grown g.P.Policy.model c.self.inside.policy (g.T.TagTable.state c.self.inside.tags).tags (g.T.TagTable.state c.intern_job.new.tags).tags c.self.inside.open_words c.intern_job.ensures.extends c.self.invariant.open_are));
     }
 
 pub returns-clause-tries : goal.returns-clause-tries
@@ -181,7 +190,7 @@ returns-clause-tries g c =
 
 pub invariant_of-self : goal.invariant_of-self
 invariant_of-self g c =
-    subst (λ (table : TableState g.row.P-Tag.Denot). IsMasked g.P.Policy.model c.self.inside.masks (pump_of c.self.inside.policy c.self.inside.core table (g.C.RuleStore.state c.self.inside.store) c.self.inside.turns c.self.inside.sweeps c.self.inside.halt (g.H.WordLog.past c.self.inside.log))) (sym c.in-Err.ensures.refused) c.self.invariant
+    subst (λ (table : TableState g.row.P-Tag.Denot). IsMasked g.P.Policy.model c.self.inside.masks c.self.inside.open_words (pump_of c.self.inside.policy c.self.inside.core table (g.C.RuleStore.state c.self.inside.store) c.self.inside.turns c.self.inside.sweeps c.self.inside.halt (g.H.WordLog.past c.self.inside.log))) (sym c.in-Err.ensures.refused) c.self.invariant
 
 pub returns-in-Err-clause-tries : goal.returns-in-Err-clause-tries
 returns-in-Err-clause-tries g c =

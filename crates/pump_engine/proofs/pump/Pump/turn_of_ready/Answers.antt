@@ -15,23 +15,23 @@ use Rattle.pump_engine.proofs.pump.Pump.turn_of_ready.Goals as goal
 
 pub returns-in-Err-clause-step : goal.returns-in-Err-clause-step
 returns-in-Err-clause-step g c has_memory =
-    unanswered_turn g.P.Tag.PartialEq.eq g.P.Policy.model c.args.self.now c.args.feed.now c.args.h c.requires.ready c.answered.new.self c.in-Some.look (step_by_words g.P.Policy.model c.args.self.now c.args.h c.in-Some.look c.step_look.ensures.seen c.in-Some.ensures.looked c.in-Some.ensures.plain) c.answered.ensures.stays c.end_unanswered.new.self c.in-Err.end c.end_unanswered.result c.in-Err.ensures.unruled c.end_unanswered.ensures.state c.end_unanswered.ensures.end
+    unanswered_turn g.P.Tag.PartialEq.eq g.P.Policy.model c.args.self.now c.args.feed.now c.args.h c.requires.ready c.answered.new.self c.in-Some.look (step_by_words g.P.Policy.model c.args.self.now c.args.h c.in-Some.look c.in-Some.ensures.seen c.in-Some.ensures.looked c.in-Some.ensures.plain) c.answered.ensures.stays c.end_unanswered.new.self c.in-Err.end c.end_unanswered.result c.in-Err.ensures.unruled c.end_unanswered.ensures.state c.end_unanswered.ensures.end
     (λ out. has_memory (c.end_unanswered.ensures.end ∙ ap (unanswered_end _) out))
 
 pub returns-in-Err-clause-memory : goal.returns-in-Err-clause-memory
 returns-in-Err-clause-memory g c out =
-    unanswered_gives_up g.P.Tag.PartialEq.eq g.P.Policy.model c.args.self.now c.args.feed.now c.args.h c.requires.ready c.answered.new.self c.in-Some.look (step_by_words g.P.Policy.model c.args.self.now c.args.h c.in-Some.look c.step_look.ensures.seen c.in-Some.ensures.looked c.in-Some.ensures.plain) c.answered.ensures.stays c.end_unanswered.new.self c.in-Err.end c.in-Err.ensures.unruled c.end_unanswered.ensures.state
+    unanswered_gives_up g.P.Tag.PartialEq.eq g.P.Policy.model c.args.self.now c.args.feed.now c.args.h c.requires.ready c.answered.new.self c.in-Some.look (step_by_words g.P.Policy.model c.args.self.now c.args.h c.in-Some.look c.in-Some.ensures.seen c.in-Some.ensures.looked c.in-Some.ensures.plain) c.answered.ensures.stays c.end_unanswered.new.self c.in-Err.end c.in-Err.ensures.unruled c.end_unanswered.ensures.state
     (memory_unanswered _ c.in-Err.end (sym c.end_unanswered.ensures.end ∙ out))
 
 pub returns-in-Err-clause-failure : goal.returns-in-Err-clause-failure
 returns-in-Err-clause-failure g c why failing stops =
     fails_alone g.P.Tag.PartialEq.eq g.P.Policy.model (standing_by_words g.P.Policy.model c.args.self.now) c.args.feed.now c.args.h (standing_by_words g.P.Policy.model c.end_unanswered.new.self) c.args.feed.now c.end_unanswered.result
-    (unanswered_turn g.P.Tag.PartialEq.eq g.P.Policy.model c.args.self.now c.args.feed.now c.args.h c.requires.ready c.answered.new.self c.in-Some.look (step_by_words g.P.Policy.model c.args.self.now c.args.h c.in-Some.look c.step_look.ensures.seen c.in-Some.ensures.looked c.in-Some.ensures.plain) c.answered.ensures.stays c.end_unanswered.new.self c.in-Err.end c.end_unanswered.result c.in-Err.ensures.unruled c.end_unanswered.ensures.state c.end_unanswered.ensures.end
+    (unanswered_turn g.P.Tag.PartialEq.eq g.P.Policy.model c.args.self.now c.args.feed.now c.args.h c.requires.ready c.answered.new.self c.in-Some.look (step_by_words g.P.Policy.model c.args.self.now c.args.h c.in-Some.look c.in-Some.ensures.seen c.in-Some.ensures.looked c.in-Some.ensures.plain) c.answered.ensures.stays c.end_unanswered.new.self c.in-Err.end c.end_unanswered.result c.in-Err.ensures.unruled c.end_unanswered.ensures.state c.end_unanswered.ensures.end
     (λ out. let is_memory : c.end_unanswered.result ≡ ends.Memory = c.end_unanswered.ensures.end ∙ ap (unanswered_end _) out in absurd (cc (is_memory, stops)))) why failing stops
 
 pub returns-in-Err-clause-kept : goal.returns-in-Err-clause-kept
 returns-in-Err-clause-kept g c out =
-    missed_grows g.P.Tag.PartialEq.eq g.P.Policy.model c.args.self.now c.args.h c.in-Some.look (step_by_words g.P.Policy.model c.args.self.now c.args.h c.in-Some.look c.step_look.ensures.seen c.in-Some.ensures.looked c.in-Some.ensures.plain)
+    missed_grows g.P.Tag.PartialEq.eq g.P.Policy.model c.args.self.now c.args.h c.in-Some.look (step_by_words g.P.Policy.model c.args.self.now c.args.h c.in-Some.look c.in-Some.ensures.seen c.in-Some.ensures.looked c.in-Some.ensures.plain)
     (c.in-Err.ensures.unruled.allowed (memory_unanswered _ c.in-Err.end (sym c.end_unanswered.ensures.end ∙ out)))
     (λ kept. false≢true (subst IsOk c.in-Err.is (c.answered.ensures.kept kept)))
 
@@ -53,7 +53,7 @@ returns-in-Err-clause-ram g c =
 
 pub returns-clause-step : goal.returns-clause-step
 returns-clause-step g c has_memory =
-    effect_turn g.P.Tag.PartialEq.eq g.P.Policy.model c.args.self.now c.args.feed.now c.args.h c.requires.ready c.answered.new.self c.in-Some.look (step_by_words g.P.Policy.model c.args.self.now c.args.h c.in-Some.look c.step_look.ensures.seen c.in-Some.ensures.looked c.in-Some.ensures.plain) c.answered.ensures.stays c.in-Ok.outs c.in-Ok.ensures.allowed c.step.new.self c.args.feed.now c.step.result
+    effect_turn g.P.Tag.PartialEq.eq g.P.Policy.model c.args.self.now c.args.feed.now c.args.h c.requires.ready c.answered.new.self c.in-Some.look (step_by_words g.P.Policy.model c.args.self.now c.args.h c.in-Some.look c.in-Some.ensures.seen c.in-Some.ensures.looked c.in-Some.ensures.plain) c.answered.ensures.stays c.in-Ok.outs c.in-Ok.ensures.allowed c.step.new.self c.args.feed.now c.step.result
     (not_call c.in-Some.look.group c.in-Some.ensures.plain) (c.step.ensures.state c.args.feed.now) (c.step.ensures.feed c.args.feed.now) (c.step.ensures.end c.args.feed.now)
 
 pub returns-clause-memory : goal.returns-clause-memory

@@ -3,8 +3,7 @@ use Rattle.std.proofs.lemmas.Grind.{take_at_read}
 use Rattle.std.proofs.lemmas.List.{flat_map_more}
 use Rattle.std.proofs.lemmas.Option.{get_or_from_slice_get, slice_get_within}
 use Rattle.std.specs.List.{flat_map}
-use Rattle.undo_log.specs.Past.{record_tags}
-use Rattle.undo_log.specs.declared.record.Record.{Record}
+use Rattle.undo_log.specs.Past.{Record, record_tags}
 use Rattle.undo_log.proofs.word_log.UndoLogU32WordLog.push_words.Goals as goal
 
 -- one item more of a list

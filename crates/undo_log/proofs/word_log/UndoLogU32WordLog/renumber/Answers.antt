@@ -1,8 +1,7 @@
 use Rattle.std.proofs.Common.{◌≡◌, ◌∙◌, ◌+◌, ◌<◌, ℕ, List, ◌++◌, Some, ap, arith, drop, length, map, slice_get, slice_index, slice_set, sym, take}
 use Rattle.std.proofs.lemmas.List.Edits.{map_over_more}
 use Rattle.std.proofs.lemmas.Option.{get_or_from_slice_get}
-use Rattle.undo_log.specs.Past.{Past, past_of, record_with}
-use Rattle.undo_log.specs.declared.record.Record.{Record}
+use Rattle.undo_log.specs.Past.{Past, Record, past_of, record_with}
 use Rattle.undo_log.proofs.word_log.UndoLogU32WordLog.renumber.Goals as goal
 
 -- one item more of a list is changed in its place

@@ -3,7 +3,7 @@ use Rattle.undo_log.specs.Past.{newest, past_of}
 use Rattle.engine_trait.specs.Back.{back}
 use Rattle.engine_trait.proofs.PastLemmas.{back_none}
 use Rattle.pump_engine.specs.Pump.{PumpState, account_by_words, pump_of, standing_by_words}
-use Rattle.pump_engine.proofs.pump.PumpNoLogTagEngine.back.Goals as goal
+use Rattle.pump_engine.proofs.pump.engine.PumpNoLogTagEngine.back.Goals as goal
 
 -- no record is kept
 pub returns-clause-back : goal.returns-clause-back

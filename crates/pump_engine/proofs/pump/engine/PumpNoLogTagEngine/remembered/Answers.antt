@@ -1,6 +1,6 @@
 use Rattle.std.proofs.Common.{◌≡◌, length, refl, subst}
 use Rattle.pump_engine.specs.Pump.{PumpState, account_by_words}
-use Rattle.pump_engine.proofs.pump.PumpNoLogTagEngine.remembered.Goals as goal
+use Rattle.pump_engine.proofs.pump.engine.PumpNoLogTagEngine.remembered.Goals as goal
 
 -- no record is kept
 pub returns : goal.returns

@@ -1,7 +1,7 @@
 use Rattle.std.proofs.Common.{◌∙◌, refl, sym}
 use Rattle.engine_trait.specs.declared.ends.TurnEnd.TheVariants as ends
 use Rattle.pump_engine.proofs.TurnLemmas.{idle_turn}
-use Rattle.pump_engine.proofs.pump.PumpNoLogTagEngine.turn.Goals as goal
+use Rattle.pump_engine.proofs.pump.engine.PumpNoLogTagEngine.turn.Goals as goal
 
 pub returns-then-not-is_ready-clause-step : goal.returns-then-not-is_ready-clause-step
 returns-then-not-is_ready-clause-step g c has_memory =

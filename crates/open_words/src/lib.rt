@@ -1,0 +1,6 @@
+//! The words of tags at which every look is allowed.
+#![tactic(auto)]
+
+mod open;
+
+pub use open::OpenWords;
